@@ -1,0 +1,4 @@
+pub mod Sets
+pub mod SetFacts
+pub mod Words
+pub mod WordFacts

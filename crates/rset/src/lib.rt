@@ -1,8 +1,17 @@
-//! Sets of resources, and tables of names.
+//! Sets of resources and tables of names, for the layers above.
+//!
+//! A set is a finite set of numbers and a table is a list of different names: no contract tells how either is kept.
+//! Every operation on sets is a few machine instructions and takes no memory.
 #![tactic(auto)]
 
-/// The number of resources that a set can hold: they are numbered from 0.
-pub const RESOURCES: u8 = 64;
+mod members;
+mod resources;
 
-/// The number of seats, which is the number of requests that can be incomplete at once.
+pub use members::Members;
+pub use resources::ResourceSet;
+
+/// The number of resources that there may be: they are numbered from 0.
+pub const RESOURCES: u16 = 64;
+
+/// The number of seats that there may be: they are numbered from 0.
 pub const SEATS: u8 = 64;
