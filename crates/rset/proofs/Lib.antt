@@ -5,3 +5,5 @@ pub mod SetsBelow
 pub mod SetsRising
 pub mod SetLemmas
 mod WordLemmas
+pub mod NameLemmas
+mod KeptLemmas

@@ -5,9 +5,13 @@
 #![tactic(auto)]
 
 mod members;
+mod names;
 mod resources;
+#[cfg(test)]
+mod tests;
 
 pub use members::Members;
+pub use names::{NameErr, NameTable};
 pub use resources::ResourceSet;
 
 /// The number of resources that there may be: they are numbered from 0.
@@ -15,3 +19,6 @@ pub const RESOURCES: u16 = 64;
 
 /// The number of seats that there may be: they are numbered from 0.
 pub const SEATS: u8 = 64;
+
+/// The most bytes that a name may have.
+pub const LONGEST_NAME: usize = 16;
