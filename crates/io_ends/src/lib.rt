@@ -10,6 +10,7 @@ mod ends;
 mod memory_sink;
 mod memory_source;
 mod reading;
+mod retry;
 mod standard;
 mod writing;
 

@@ -1,10 +1,10 @@
 // The standard streams as a source and a sink. They are the trusted edge: no contract says which bytes go through them.
-ghost use Rattle.std.specs.Prelude.{◌≡◌, ◌≤◌, ◌<◌, length, None, IfOk, OnErr, is_err, if◌then◌else◌};
+ghost use Rattle.std.specs.Prelude.{◌≡◌, ◌≤◌, None, IfOk, OnErr, is_err, if◌then◌else◌};
 ghost use Rattle.io_ends.specs.Faults.{Rose, one_more};
 ghost use Rattle.io_ends.specs.Ends.{Gives, Takes};
 
+use crate::retry::{read_uninterrupted, write_uninterrupted};
 use crate::{Failed, Sink, Source};
-use std::io::{ErrorKind, Read, Write};
 use std::marker::Model;
 use std::rt::{Stdin, Stdout};
 
@@ -93,35 +93,4 @@ impl Sink for StdoutSink {
         }
         taken
     }
-}
-
-// One read, made again where a signal interrupts it.
-fn read_uninterrupted<R: Read>(reader: &mut R, buf: &mut [u8]) -> Result<usize, Failed>
-    ensures { IfOk result (λ n. n ≤ length buf.old) }
-{
-    for _ in 0..u64::MAX {
-        match reader.read(buf) {
-            Ok(n) => return Ok(n),
-            Err(e) if e.kind() == ErrorKind::Interrupted => {}
-            Err(_) => return Err(Failed),
-        }
-    }
-    Err(Failed)
-}
-
-// One write, made again where a signal interrupts it. To take nothing of a piece that is not
-// empty is a failure.
-fn write_uninterrupted<W: Write>(writer: &mut W, piece: &[u8]) -> Result<usize, Failed>
-    ensures bound { IfOk result (λ n. n ≤ length piece.now) }
-    ensures some { IfOk result (λ n. 0 < length piece.now → 1 ≤ n) }
-{
-    for _ in 0..u64::MAX {
-        match writer.write(piece) {
-            Ok(0) if !piece.is_empty() => return Err(Failed),
-            Ok(n) => return Ok(n),
-            Err(e) if e.kind() == ErrorKind::Interrupted => {}
-            Err(_) => return Err(Failed),
-        }
-    }
-    Err(Failed)
 }

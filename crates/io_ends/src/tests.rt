@@ -1,4 +1,5 @@
 use super::*;
+use crate::retry::{read_uninterrupted, write_uninterrupted};
 use std::alloc::{AllocError, Global};
 use std::test::Fail;
 
@@ -57,5 +58,19 @@ fn a_full_sink_has_a_front_part(rt: HostRuntime) -> Result<(), Fail> {
     assert_eq!(rt; sink.written(), b"".as_slice());
     assert_eq!(rt; write_all(&mut sink, b"hello"), Err(WriteFault));
     assert_eq!(rt; sink.written(), b"hell".as_slice());
+    Ok(())
+}
+
+#[test]
+fn a_reader_and_a_writer_pass_bytes_on(rt: HostRuntime) -> Result<(), Fail> {
+    let mut buf = [0u8; 3];
+    assert_eq!(rt;
+        read_uninterrupted(&mut b"hello".as_slice(), &mut buf),
+        Ok(3)
+    );
+    assert_eq!(rt; buf.as_slice(), b"hel".as_slice());
+    let mut written = Vec::new(rt.alloc());
+    assert_eq!(rt; write_uninterrupted(&mut written, b"hello"), Ok(5));
+    assert_eq!(rt; written.as_slice(), b"hello".as_slice());
     Ok(())
 }
