@@ -1,0 +1,54 @@
+// The calls of a device in memory: how many were made, which of them fail, and how many failed.
+ghost use Rattle.std.specs.Prelude.{◌≡◌, ◌↔◌, IsTrue, [], ◌∷◌};
+ghost use Rattle.io_ends.specs.Faults.{one_more};
+ghost use Rattle.io_ends.specs.Memory.{NextFails};
+
+use crate::Failed;
+
+#[derive(Drop)]
+pub(crate) struct Calls {
+    pub(crate) made: u64,
+    pub(crate) fails: Vec<u64>,
+    pub(crate) faults: u64,
+}
+
+impl Calls {
+    pub(crate) fn new(fails: Vec<u64>) -> Calls
+        ensures { result ≡ record { made = 0; fails = fails; faults = 0 } }
+    {
+        Calls {
+            made: 0,
+            fails,
+            faults: 0,
+        }
+    }
+
+    // Counts one more call, and answers whether it is one of those that fail.
+    pub(crate) fn begin(&mut self) -> bool
+        ensures fails { IsTrue result ↔ NextFails self.old.made self.old.fails.items }
+        ensures counted { self.new ≡ record self.old { made = one_more self.old.made } }
+    {
+        let fails = is_next(&self.fails, self.made);
+        self.made = self.made.saturating_add(1);
+        fails
+    }
+
+    // Counts one more fault.
+    pub(crate) fn fail(&mut self) -> Failed
+        ensures { self.new ≡ record self.old { faults = one_more self.old.faults } }
+    {
+        self.faults = self.faults.saturating_add(1);
+        Failed
+    }
+}
+
+// Whether the call after those that were made has one of these numbers. A number that is too
+// large for the list is not in it, so the count may stay at its last value.
+fn is_next(numbers: &[u64], made: u64) -> bool
+    ensures { IsTrue result ↔ NextFails made numbers.now }
+{
+    match made.checked_add(1) {
+        Some(number) => numbers.contains(&number),
+        None => false,
+    }
+}

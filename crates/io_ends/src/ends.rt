@@ -1,0 +1,46 @@
+// The traits of a source and of a sink.
+ghost use Rattle.std.specs.Prelude.{◌≡◌, ◌≤◌, ℕ, List, Option, IfOk, OnErr};
+ghost use Rattle.io_ends.specs.Faults.{Rose};
+ghost use Rattle.io_ends.specs.Ends.{Gives, Takes};
+
+use thiserror::Error;
+
+/// A read or a write did not happen, because the device failed.
+#[derive(Clone, Copy, Debug, PartialEq, Eq, Error)]
+#[error("the device failed")]
+pub struct Failed;
+
+/// Gives bytes, in order, until none is left.
+pub trait Source {
+    /// The bytes that are left, where the source tells them.
+    ghost left: { Self → Option (List ℕ) };
+
+    /// How often the source has failed; it stays at 2^64 - 1 once it is there.
+    ghost faults: { Self → ℕ };
+
+    /// Puts the next bytes into the front of `buf`, and answers how many. For a `buf` that
+    /// is not empty, 0 is the end of the input. After `Failed` nothing was taken, and the
+    /// content of `buf` is left open.
+    fn read(&mut self, buf: &mut [u8]) -> Result<usize, Failed>
+        ensures given { IfOk result (Gives (left self.old) (left self.new) buf.old buf.new) }
+        ensures failed { OnErr result (Rose (faults self.old) (faults self.new)) }
+        ensures kept { OnErr result (left self.new ≡ left self.old) }
+        ensures counted { faults self.old ≤ faults self.new };
+}
+
+/// Takes bytes, in order.
+pub trait Sink {
+    /// The bytes that were written, where the sink tells them.
+    ghost written: { Self → Option (List ℕ) };
+
+    /// How often the sink has failed; it stays at 2^64 - 1 once it is there.
+    ghost faults: { Self → ℕ };
+
+    /// Appends the first bytes of `piece`, and answers how many: at least one, where `piece`
+    /// is not empty. After `Failed` nothing was appended.
+    fn write(&mut self, piece: &[u8]) -> Result<usize, Failed>
+        ensures taken { IfOk result (Takes (written self.old) (written self.new) piece.now) }
+        ensures failed { OnErr result (Rose (faults self.old) (faults self.new)) }
+        ensures kept { OnErr result (written self.new ≡ written self.old) }
+        ensures counted { faults self.old ≤ faults self.new };
+}

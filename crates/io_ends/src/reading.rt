@@ -1,0 +1,106 @@
+// Reading a source to its end.
+ghost use Rattle.std.specs.Prelude.{◌≡◌, ◌<◌, ◌≤◌, ◌+◌, [], Some, length, take, drop, IfOk, IfSome, OnOk, OnErr, IsErrOf, IsOkUnless, vec_len};
+ghost use Rattle.io_ends.specs.Faults.{Rose};
+ghost use Rattle.io_ends.specs.Ends.{Gives, Took, TookAtMost};
+ghost use Rattle.io_ends.specs.declared.reading.ReadErr.TheVariants.{Memory, ReadFault};
+
+use crate::{Failed, Source};
+use std::alloc::{AllocError, Global};
+use thiserror::Error;
+
+/// The length of the first buffer; each later one is twice as long.
+const FIRST_LENGTH: usize = 65_536;
+
+/// Why a source was not read to its end.
+#[derive(Clone, Copy, Debug, PartialEq, Eq, Error)]
+pub enum ReadErr {
+    /// The source failed.
+    #[error("reading failed")]
+    ReadFault,
+    /// The source had more bytes than the limit allows.
+    #[error("the input is too long")]
+    TooLong,
+    /// There was no memory for the bytes.
+    #[error("out of memory")]
+    Memory,
+}
+
+impl From<Failed> for ReadErr {
+    ghost from_gives = { λ _ e. e ≡ ReadFault };
+
+    fn from(_: Failed) -> ReadErr {
+        ReadErr::ReadFault
+    }
+}
+
+impl From<AllocError> for ReadErr {
+    ghost from_gives = { λ _ e. e ≡ Memory };
+
+    fn from(_: AllocError) -> ReadErr {
+        ReadErr::Memory
+    }
+}
+
+/// Reads `source` to its end, and answers all its bytes, of which there may be `limit`. It
+/// takes one byte more than that at most. After an error the bytes taken are lost.
+pub fn read_all<S: Source>(alloc: Global, source: &mut S, limit: usize) -> Result<Vec<u8>, ReadErr>
+    ensures whole { IfOk result (λ all. IfSome (S.left source.old) (λ bytes. all.items ≡ bytes)) }
+    ensures ended { OnOk result (IfSome (S.left source.old) (λ _. S.left source.new ≡ Some [])) }
+    ensures within { IfOk result (λ all. vec_len all ≤ limit) }
+
+    // A fault has its cause, and `TooLong` is answered exactly where one byte above the limit was taken.
+    ensures fault { IsErrOf result ReadErr.ReadFault → Rose (S.faults source.old) (S.faults source.new) }
+    ensures too_long { IsErrOf result ReadErr.TooLong → Took (S.left source.old) (S.left source.new) (limit + 1) }
+    ensures fault_within { IsErrOf result ReadErr.ReadFault → TookAtMost (S.left source.old) (S.left source.new) limit }
+    ensures memory_within { IsErrOf result ReadErr.Memory → TookAtMost (S.left source.old) (S.left source.new) limit }
+
+    ensures counted { S.faults source.old ≤ S.faults source.new }
+
+    // An input within the limit is read, but for want of memory, where the source does not fail.
+    ensures complete { ¬ Rose (S.faults source.old) (S.faults source.new)
+        → IfSome (S.left source.old) (λ bytes. length bytes ≤ limit → IsOkUnless result ReadErr.Memory) }
+{
+    let mut bytes = Vec::new(alloc);
+    let mut filled = 0;
+    while filled <= limit {
+        make_room(&mut bytes, filled, limit)?;
+        let given = read_behind(source, &mut bytes, filled)?;
+        if given == 0 {
+            bytes.truncate(filled);
+            return Ok(bytes);
+        }
+        filled += given;
+    }
+    Err(ReadErr::TooLong)
+}
+
+// Makes the buffer longer than what is filled, if it is not, and at most one longer than the limit.
+fn make_room(bytes: &mut Vec<u8>, filled: usize, limit: usize) -> Result<(), AllocError>
+    requires filled { filled ≤ vec_len bytes.old }
+    requires within { filled ≤ limit }
+    requires short { vec_len bytes.old ≤ limit + 1 }
+    ensures front { take filled bytes.new.items ≡ take filled bytes.old.items }
+    ensures room { OnOk result (filled < vec_len bytes.new) }
+    ensures short { vec_len bytes.new ≤ limit + 1 }
+    ensures longer { vec_len bytes.old ≤ vec_len bytes.new }
+{
+    if filled < bytes.len() {
+        return Ok(());
+    }
+    let doubled = filled
+        .checked_add(filled.max(FIRST_LENGTH))
+        .ok_or(AllocError)?;
+    bytes.resize(limit.min(doubled - 1) + 1, 0)
+}
+
+// One read into the buffer, behind what is filled.
+fn read_behind<S: Source>(source: &mut S, buffer: &mut [u8], filled: usize) -> Result<usize, Failed>
+    requires { filled < length buffer.old }
+    ensures front { take filled buffer.new ≡ take filled buffer.old }
+    ensures given { IfOk result (Gives (S.left source.old) (S.left source.new) (drop filled buffer.old) (drop filled buffer.new)) }
+    ensures failed { OnErr result (Rose (S.faults source.old) (S.faults source.new)) }
+    ensures kept { OnErr result (S.left source.new ≡ S.left source.old) }
+    ensures counted { S.faults source.old ≤ S.faults source.new }
+{
+    source.read(&mut buffer[filled..])
+}
