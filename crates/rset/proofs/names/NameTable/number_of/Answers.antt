@@ -1,4 +1,4 @@
-use Rattle.std.proofs.Common.{◌≡◌, ◌≤◌, ◌<◌, Some, ap, sym, ◌∙◌, arith}
+use Rattle.std.proofs.Common.{ap, ◌∙◌, arith}
 use Rattle.rset.specs.Names.{number_in}
 use Rattle.rset.specs.Kept.{names_of}
 use Rattle.rset.proofs.NameLemmas.{table_length}
