@@ -216,6 +216,7 @@ impl ResourceSet {
         ensures within { IsTrue (all_below RESOURCES self) }
         ensures few { length (rising self) ≤ RESOURCES }
     {
+        // A look at the word tells the proof that each member is below the number of resources.
         let _ = &self.word;
         Members::of(self)
     }
