@@ -1,0 +1,9 @@
+pub mod ListFacts
+pub mod Alike
+pub mod OneSettlement
+pub mod Settlement
+pub mod SettlingSteps
+pub mod ChangeSteps
+pub mod Soundness
+pub mod ChangesTold
+pub mod PlainSteps
