@@ -1,13 +1,13 @@
 -- What the tests of the rules read of a list: each claim, and whether it is satisfied, of writes of smaller stamp alone.
-use Rattle.std.proofs.Common.{◌≡◌, ℕ, ◌<◌, ◌≤◌, Bool, true, false, not, ◌&&◌, ◌||◌, nat_lt, List, refl, sym, ap, subst, ◌∙◌, inl, inr, arith}
+use Rattle.std.proofs.Common.{◌≡◌, ℕ, ◌<◌, ◌≤◌, Bool, true, false, not, ◌&&◌, ◌||◌, nat_lt, List, refl, sym, ap, ◌∙◌, inl, inr, arith}
 use Rattle.std.proofs.lemmas.Bool.{ltb-true, lt-ltb, or_left, or_right, or_cases}
-use Rattle.std.specs.List.{list_any, list_all, AllZip}
-use Rattle.rset.specs.Sets.{Set, meets}
+use Rattle.std.specs.List.{AllZip}
+use Rattle.rset.specs.Sets.{meets}
 use Rattle.rclaim.specs.declared.claim.Claim.{Claim}
 use Rattle.rmodel.specs.declared.claimed.Claimed.{Claimed}
 use Rattle.rmodel.specs.Claims.{conflicts, touches, share_place, is_satisfied}
-use Rattle.rmodel.specs.Rules.{is_earlier_write, has_read_between, makes_way, may_enter, is_held_up, is_kept}
-use Rattle.rmodel.proofs.ListFacts.{any_zip, all_zip, zip_weaker, contrary}
+use Rattle.rmodel.specs.Rules.{is_earlier_write, has_read_between, may_enter, is_held_up, is_kept}
+use Rattle.rmodel.proofs.ListFacts.{any_zip, all_zip, zip_weaker}
 
 -- a read, or a write of a stamp below n
 abbrev pub counts : ℕ → Claim → Bool

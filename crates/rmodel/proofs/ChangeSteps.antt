@@ -1,5 +1,5 @@
 -- The changes from a list of claims to the same claims later, one claim after another.
-use Rattle.std.proofs.Common.{◌≡◌, ℕ, suc, ◌+◌, ◌<◌, ◌≤◌, List, [], ◌∷◌, ◌++◌, length, get_or, drop, refl, sym, ap, ◌∙◌, append_assoc, append-nil, length-append, add-one, arith, Option, Some, None}
+use Rattle.std.proofs.Common.{◌≡◌, ℕ, ◌+◌, ◌<◌, ◌≤◌, List, ◌∷◌, ◌++◌, length, get_or, drop, sym, ap, ◌∙◌, append_assoc, append-nil, length-append, add-one, arith, Option, Some, None}
 use Rattle.std.proofs.Math.Seq.{drop-cons}
 use Rattle.std.proofs.lemmas.List.{drop_all}
 use Rattle.std.specs.Option.{option_to_list}
@@ -13,7 +13,7 @@ first_of_rest xs i d h = drop-cons xs i d h ∙ ap (λ n. get_or xs i d ∷ drop
 
 module _ (xs ys : List Claimed) (i : ℕ) (d e : Claimed) (in_xs : i < length xs) (in_ys : i < length ys) where
   pub status_step : (told : List StatusChange)
-    → (told ++ option_to_list (status_change (get_or xs i d) (get_or ys i e))) ++ status_changes (drop (i + 1) xs) (drop (i + 1) ys)
+      → (told ++ option_to_list (status_change (get_or xs i d) (get_or ys i e))) ++ status_changes (drop (i + 1) xs) (drop (i + 1) ys)
       ≡ told ++ status_changes (drop i xs) (drop i ys)
   unfolding status_changes
   status_step told =
@@ -21,7 +21,7 @@ module _ (xs ys : List Claimed) (i : ℕ) (d e : Claimed) (in_xs : i < length xs
       ∙ sym (λ j. told ++ status_changes (first_of_rest xs i d in_xs j) (first_of_rest ys i e in_ys j))
 
   pub grant_step : (told : List GrantChange)
-    → (told ++ option_to_list (grant_change (get_or xs i d) (get_or ys i e))) ++ grant_changes (drop (i + 1) xs) (drop (i + 1) ys)
+      → (told ++ option_to_list (grant_change (get_or xs i d) (get_or ys i e))) ++ grant_changes (drop (i + 1) xs) (drop (i + 1) ys)
       ≡ told ++ grant_changes (drop i xs) (drop i ys)
   unfolding grant_changes
   grant_step told =

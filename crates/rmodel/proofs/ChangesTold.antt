@@ -1,23 +1,21 @@
 -- The changes of a step are those from the claims that the event leaves to what they settle to.
 use Rattle.std.proofs.Common.{◌≡◌, ◌≢◌, ℕ, ◌==◌, ◌&&◌, ◌||◌, Bool, true, false, not, cond, List, [], ◌∷◌, ◌++◌, map, filter, Option, Some, None, refl, sym, ap, subst, ◌∙◌, ◌⊎◌, inl, inr}
-use Rattle.std.proofs.lemmas.Bool.{true≢false, eq-eqb, eqb-true, and_parts}
-use Rattle.std.specs.Prelude.{find, unwrap_or}
-use Rattle.std.specs.List.{list_any, filter_map, cons_option, AllZip, AllByRecursion}
+use Rattle.std.proofs.lemmas.Bool.{true≢false, eq-eqb, eqb-true}
+use Rattle.std.specs.Prelude.{unwrap_or}
+use Rattle.std.specs.List.{filter_map, cons_option, AllZip, AllByRecursion}
 use Rattle.std.specs.Option.{option_to_list}
 use Rattle.rclaim.specs.Events.{IsNormalEvent}
 use Rattle.rclaim.specs.declared.claim.Claim.{Claim}
 use Rattle.rclaim.specs.declared.event.Event.{Event}
 use Rattle.rclaim.specs.declared.event.Event.TheVariants.{Issue, Finish}
-use Rattle.rclaim.specs.declared.changes.StatusChange.{StatusChange}
-use Rattle.rclaim.specs.declared.changes.GrantChange.{GrantChange}
 use Rattle.rmodel.specs.declared.claimed.Claimed.{Claimed}
-use Rattle.rmodel.specs.Claims.{claims_of, waiting}
+use Rattle.rmodel.specs.Claims.{waiting}
 use Rattle.rmodel.specs.Holds.{has_request}
 use Rattle.rmodel.specs.Changes.{is_same, is_claim_of, claim_at, was_in, status_change, grant_change, changes_between, status_changes, grant_changes}
 use Rattle.rmodel.specs.State.{LockState}
 use Rattle.rmodel.specs.Steps.{Accepts, changed}
 use Rattle.rmodel.specs.WellFormed.{EachPair, SeatsDiffer, IsSound}
-use Rattle.rmodel.proofs.ListFacts.{Among, none_among, among_filter, among_append, all_from, all_at, false_from}
+use Rattle.rmodel.proofs.ListFacts.{Among, among_filter, among_append, all_from, all_at, false_from}
 use Rattle.rmodel.proofs.Soundness.{SameClaim, one_claim, seat_is_idle}
 
 same_as_itself : (b : Bool) → is_same b b ≡ true
@@ -46,7 +44,7 @@ absent [] seat half idle = refl
 absent (y ∷ ys) seat half idle = at (y.claim.seat == seat) refl idle (absent ys seat half)
   where
     at : (b : Bool) → (y.claim.seat == seat) ≡ b → (b || has_request ys seat) ≡ false → (has_request ys seat ≡ false → claim_at ys seat half ≡ None)
-      → cond ((y.claim.seat == seat) && is_same y.claim.write_half half) (Some y) (claim_at ys seat half) ≡ None
+        → cond ((y.claim.seat == seat) && is_same y.claim.write_half half) (Some y) (claim_at ys seat half) ≡ None
     at true is idle rest = absurd (true≢false idle)
     at false is idle rest = ap (λ b. cond (b && is_same y.claim.write_half half) (Some y) (claim_at ys seat half)) is ∙ rest idle
 
@@ -55,7 +53,7 @@ pub was_left : (s : LockState) (e : Event) → IsSound s → IsNormalEvent e →
 was_left s (Issue seat r) sound normal accepted =
     let one = one_claim s.issued seat r normal in
     subst (λ (cs : List Claim). AllByRecursion (λ x. was_in s.claims x.claim ≡ x) (s.claims ++ map waiting cs)) (sym one.alone)
-      (all_from (λ x. was_in s.claims x.claim ≡ x) (s.claims ++ waiting one.claim ∷ []) (λ x there. at one.claim one.seated x (among_append s.claims (waiting one.claim ∷ []) x there)))
+    (all_from (λ x. was_in s.claims x.claim ≡ x) (s.claims ++ waiting one.claim ∷ []) (λ x there. at one.claim one.seated x (among_append s.claims (waiting one.claim ∷ []) x there)))
   where
     at : (c : Claim) → c.seat ≡ seat → (x : Claimed) → (Among x s.claims ⊎ Among x (waiting c ∷ [])) → was_in s.claims x.claim ≡ x
     at c seated x (inl there) = ap (λ o. unwrap_or o (waiting x.claim)) (found s.claims x sound.one_each there)
@@ -66,14 +64,14 @@ was_left s (Issue seat r) sound normal accepted =
     at c seated x (inr (inr none)) = absurd none
 was_left s (Finish seat) sound normal accepted =
     all_from (λ x. was_in s.claims x.claim ≡ x) (filter (λ x. not (x.claim.seat == seat)) s.claims)
-      (λ x there. ap (λ o. unwrap_or o (waiting x.claim)) (found s.claims x sound.one_each (among_filter (λ x. not (x.claim.seat == seat)) s.claims x there).0))
+    (λ x there. ap (λ o. unwrap_or o (waiting x.claim)) (found s.claims x sound.one_each (among_filter (λ x. not (x.claim.seat == seat)) s.claims x there).0))
 
 cons_is : {X : Type 0} (o : Option X) (rest : List X) → cons_option o rest ≡ option_to_list o ++ rest
 cons_is None rest = refl
 cons_is (Some x) rest = refl
 
 statuses_told : (before xs ys : List Claimed) → AllByRecursion (λ x. was_in before x.claim ≡ x) xs → AllZip SameClaim xs ys
-  → filter_map (λ y. status_change (was_in before y.claim) y) ys ≡ status_changes xs ys
+    → filter_map (λ y. status_change (was_in before y.claim) y) ys ≡ status_changes xs ys
 unfolding status_changes
 statuses_told before [] [] was same = refl
 statuses_told before [] (y ∷ ys) was same = absurd same
@@ -83,7 +81,7 @@ statuses_told before (x ∷ xs) (y ∷ ys) was same =
     ∙ (λ i. option_to_list (status_change ((ap (was_in before) same.0 ∙ was.0) i) y) ++ statuses_told before xs ys was.1 same.1 i)
 
 grants_told : (before xs ys : List Claimed) → AllByRecursion (λ x. was_in before x.claim ≡ x) xs → AllZip SameClaim xs ys
-  → filter_map (λ y. grant_change (was_in before y.claim) y) ys ≡ grant_changes xs ys
+    → filter_map (λ y. grant_change (was_in before y.claim) y) ys ≡ grant_changes xs ys
 unfolding grant_changes
 grants_told before [] [] was same = refl
 grants_told before [] (y ∷ ys) was same = absurd same
@@ -94,7 +92,7 @@ grants_told before (x ∷ xs) (y ∷ ys) was same =
 
 -- the changes between two states, from the claims that the event left
 pub changes_told : (s t : LockState) (e : Event) → IsSound s → IsNormalEvent e → Accepts s e → AllZip SameClaim (changed s e).claims t.claims
-  → changes_between s t ≡ record { statuses = status_changes (changed s e).claims t.claims; grants = grant_changes (changed s e).claims t.claims }
+    → changes_between s t ≡ record { statuses = status_changes (changed s e).claims t.claims; grants = grant_changes (changed s e).claims t.claims }
 unfolding changes_between
 changes_told s t e sound normal accepted same =
     let was = was_left s e sound normal accepted in

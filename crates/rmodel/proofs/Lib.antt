@@ -7,3 +7,7 @@ pub mod ChangeSteps
 pub mod Soundness
 pub mod ChangesTold
 pub mod PlainSteps
+pub mod Reached
+pub mod Exclusive
+pub mod LawProofs
+mod WorkedCase

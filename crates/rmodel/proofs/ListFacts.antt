@@ -1,6 +1,6 @@
 -- Lists: tests and folds over lists that agree place by place, elements of a list, and pairs of its elements.
-use Rattle.std.proofs.Common.{◌≡◌, Bool, true, false, ◌&&◌, ◌||◌, List, [], ◌∷◌, ◌++◌, map, filter, fold, cond, refl, sym, ap, subst, ◌∙◌, ◌⊎◌, inl, inr}
-use Rattle.std.proofs.lemmas.Bool.{true≢false, or_cases, or_left, or_right, and_parts, and_from}
+use Rattle.std.proofs.Common.{◌≡◌, Bool, true, false, ◌&&◌, ◌||◌, List, [], ◌∷◌, ◌++◌, map, filter, cond, refl, sym, ap, subst, ◌∙◌, ◌⊎◌, inl, inr}
+use Rattle.std.proofs.lemmas.Bool.{true≢false, or_cases, or_left, or_right, and_parts}
 use Rattle.std.specs.List.{list_any, list_all, AllZip, AllByRecursion}
 use Rattle.rmodel.specs.WellFormed.{EachPair}
 
@@ -191,6 +191,15 @@ module _ {X : Type 0} (R : X → X → Type 0) where
   pair_among (z ∷ zs) x y pairs (inl a) (inr b) = inr (inl (subst (λ (w : X). R w y) (sym a) (all_at (R z) zs y pairs.0 b)))
   pair_among (z ∷ zs) x y pairs (inr a) (inl b) = inr (inr (subst (λ (w : X). R w x) (sym b) (all_at (R z) zs x pairs.0 a)))
   pair_among (z ∷ zs) x y pairs (inr a) (inr b) = pair_among zs x y pairs.1 a b
+
+-- two facts of each pair at once
+pub pairs_both : {X : Type 0} (P Q R : X → X → Type 0) → ((x y : X) → P x y → Q x y → R x y) → (xs : List X) → EachPair P xs → EachPair Q xs → EachPair R xs
+pairs_both P Q R gives [] a b = tt
+pairs_both P Q R gives (x ∷ xs) a b = (both (P x) (Q x) (R x) (gives x) xs a.0 b.0, pairs_both P Q R gives xs a.1 b.1)
+  where
+    both : {X : Type 0} (P Q R : X → Type 0) → ((y : X) → P y → Q y → R y) → (ys : List X) → AllByRecursion P ys → AllByRecursion Q ys → AllByRecursion R ys
+    both P Q R gives [] a b = tt
+    both P Q R gives (y ∷ ys) a b = (gives y a.0 b.0, both P Q R gives ys a.1 b.1)
 
 pub all_filter : {X : Type 0} (P : X → Type 0) (p : X → Bool) (xs : List X) → AllByRecursion P xs → AllByRecursion P (filter p xs)
 all_filter P p xs all = all_from P (filter p xs) (λ x there. all_at P xs x all (among_filter p xs x there).0)

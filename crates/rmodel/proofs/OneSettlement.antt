@@ -1,6 +1,6 @@
 -- A list of claims settles in one way at most.
-use Rattle.std.proofs.Common.{◌≡◌, ℕ, zero, suc, ◌<◌, ◌≤◌, Bool, true, false, not, ◌&&◌, ◌||◌, nat_lt, List, refl, sym, ap, subst, ◌∙◌, inl, inr, arith}
-use Rattle.std.proofs.lemmas.Bool.{ltb-true, lt-ltb, or_left, or_right, or_cases, true≢false}
+use Rattle.std.proofs.Common.{◌≡◌, ℕ, zero, suc, ◌<◌, ◌≤◌, Bool, true, false, not, ◌&&◌, ◌||◌, nat_lt, List, refl, sym, ap, ◌∙◌, inl, inr, arith}
+use Rattle.std.proofs.lemmas.Bool.{ltb-true, lt-ltb, or_right, or_cases, true≢false}
 use Rattle.std.specs.List.{AllZip}
 use Rattle.rclaim.specs.declared.claim.Claim.{Claim}
 use Rattle.rclaim.specs.declared.claim.Status.{Status}
@@ -26,7 +26,7 @@ status_told Satisfied Satisfied s t = refl
 told : (y z : Claimed) → y.claim ≡ z.claim → y.status ≡ z.status → y ≡ z
 told y z c e = (λ i. record { claim = c i; status = e i })
 
-both_cases : {P : Type 0} (b : Bool) → (b ≡ true → P) → (b ≡ false → P) → P
+pub both_cases : {P : Type 0} (b : Bool) → (b ≡ true → P) → (b ≡ false → P) → P
 both_cases true yes' no' = yes' refl
 both_cases false yes' no' = no' refl
 
@@ -85,13 +85,13 @@ module _ (s t u : List Claimed) (to_t : Settles s t) (to_u : Settles s u) where
       none_below m h = omega arith
   alike_below (suc n) =
       zip_join (SettlesAt s t) (SettlesAt s u) (Alike (suc n))
-        (λ x y z a b. record {
-          claim = one_claim x y z a b;
-          satisfied = λ h. both_cases z.claim.write_half
+      (λ x y z a b. record {
+        claim = one_claim x y z a b;
+        satisfied = λ h. both_cases z.claim.write_half
             (λ w. write_alike x y z a b (lower z.claim n (alike_below n) (at_most z.claim n w h)) w)
             (λ r. read_alike x y z a b r);
-        })
-        s t u to_t to_u
+      })
+      s t u to_t to_u
 
   same_satisfied : AllZip SameSatisfied t u
   same_satisfied =
@@ -104,8 +104,8 @@ module _ (s t u : List Claimed) (to_t : Settles s t) (to_u : Settles s u) where
 
   one_outcome : (x y z : Claimed) → SettlesAt s t x y → SettlesAt s u x z → SameSatisfied y z → y ≡ z
   one_outcome x y z a b same = told y z same.claim (status_told y.status z.status same.satisfied (both_cases z.claim.write_half
-    (λ w. active_alike x y z a b (same_satisfied_alike z.claim.stamp t u same_satisfied) w)
-    (λ r.
+      (λ w. active_alike x y z a b (same_satisfied_alike z.claim.stamp t u same_satisfied) w)
+      (λ r.
       a.kept_reads (ap (λ c. c.write_half) same.claim ∙ r)
       ∙ ap (λ e. e || is_kept t y.claim) same.satisfied
       ∙ ap (λ c. is_satisfied z || is_kept t c) same.claim
@@ -115,4 +115,4 @@ module _ (s t u : List Claimed) (to_t : Settles s t) (to_u : Settles s u) where
   pub only_one : t ≡ u
   only_one =
       zip_equal t u (zip_apply SameSatisfied (λ y z. y ≡ z) t u
-        (zip_join (SettlesAt s t) (SettlesAt s u) (λ y z. SameSatisfied y z → y ≡ z) one_outcome s t u to_t to_u) same_satisfied)
+      (zip_join (SettlesAt s t) (SettlesAt s u) (λ y z. SameSatisfied y z → y ≡ z) one_outcome s t u to_t to_u) same_satisfied)

@@ -1,5 +1,5 @@
 -- What a step of the plain machine does is what the definitions say.
-use Rattle.std.proofs.Common.{◌≡◌, ℕ, List, refl, sym, ap, subst, ◌∙◌}
+use Rattle.std.proofs.Common.{◌≡◌, List, refl, sym, ap, subst, ◌∙◌}
 use Rattle.std.specs.List.{AllZip}
 use Rattle.rclaim.specs.Changes.{ChangeLists}
 use Rattle.rclaim.specs.Events.{IsNormalEvent}
@@ -24,7 +24,7 @@ kept_event a m e view kept accepted normal =
     sound_changed (state_of a) e kept.sound normal (subst (λ (n : Standing). Accepts n.state e) (sym view) accepted)
 
 module _ (s mid t : LockState) (e : Event) (sound : IsSound s) (normal : IsNormalEvent e) (accepted : Accepts s e)
-  (to_mid : mid ≡ changed s e) (to_t : t ≡ record mid { claims = settled mid.claims }) where
+    (to_mid : mid ≡ changed s e) (to_t : t ≡ record mid { claims = settled mid.claims }) where
   pub to_next : t ≡ next s e
   to_next = to_t ∙ ap (λ (m : LockState). let after : LockState = record m { claims = settled m.claims } in after) to_mid
 
@@ -39,5 +39,5 @@ module _ (s mid t : LockState) (e : Event) (sound : IsSound s) (normal : IsNorma
       let told : List Claimed → ChangeLists = λ xs. record { statuses = status_changes xs t.claims; grants = grant_changes xs t.claims } in
       let lists : last ≡ told mid.claims = (λ i. record { statuses = statuses i; grants = grants i }) in
       let same : AllZip SameClaim (changed s e).claims t.claims
-        = subst (λ (u : LockState). AllZip SameClaim (changed s e).claims u.claims) (sym to_next) (same_claims (changed s e).claims (next s e).claims settles) in
+      = subst (λ (u : LockState). AllZip SameClaim (changed s e).claims u.claims) (sym to_next) (same_claims (changed s e).claims (next s e).claims settles) in
       lists ∙ ap (λ (m : LockState). told m.claims) to_mid ∙ sym (changes_told s t e sound normal accepted same)

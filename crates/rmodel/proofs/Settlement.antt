@@ -1,9 +1,8 @@
 -- The settled list is one to which the list settles: each pass gives what its rule says.
-use Rattle.std.proofs.Common.{◌≡◌, ℕ, ◌+◌, ◌<◌, ◌≤◌, Bool, true, false, not, ◌&&◌, ◌||◌, nat_lt, List, [], ◌∷◌, ◌++◌, map, fold, cond, refl, sym, ap, subst, ◌∙◌, append_assoc, inl, inr, arith}
-use Rattle.std.proofs.lemmas.Bool.{ltb-true, lt-ltb, or_cases, true≢false}
+use Rattle.std.proofs.Common.{◌≡◌, ℕ, ◌<◌, ◌≤◌, Bool, true, false, not, ◌&&◌, ◌||◌, nat_lt, List, [], ◌∷◌, ◌++◌, map, fold, cond, refl, sym, ap, subst, ◌∙◌, append_assoc, inl, inr, arith}
+use Rattle.std.proofs.lemmas.Bool.{ltb-true, or_cases, true≢false}
 use Rattle.std.proofs.lemmas.Bool.Decides.{nat_tests}
 use Rattle.std.specs.List.{list_any, list_all, AllZip, AllByRecursion}
-use Rattle.std.specs.Ordering.{nat_cmp}
 use Rattle.std.specs.FinSet.{empty, union}
 use Rattle.rset.specs.Sets.{Set, meets}
 use Rattle.rset.proofs.SetLemmas.{meets_symmetric, meets_empty_left, meets_empty_right, meets_union_left}
@@ -15,7 +14,7 @@ use Rattle.rmodel.specs.Claims.{conflicts, touches, share_place, is_satisfied, i
 use Rattle.rmodel.specs.Rules.{is_earlier_write, is_kept_out, has_read_between, makes_way, may_enter, is_held_up, is_kept, SettlesAt, Settles}
 use Rattle.rmodel.specs.WellFormed.{EachPair, Rises, IsClaim, AreWellFormed}
 use Rattle.rmodel.specs.Settling.{with_status, written_by_active, written_by_satisfied, read_near, read_status, is_clear, has_way, entered_status, write_status, kept_status, settle_reads, settle_rest, settle_kept, settled}
-use Rattle.rmodel.proofs.ListFacts.{any_zip, zip_weaker, zip_same, zip_append, zip_all, zip_map_left, zip_map_right, all_append, all_of_zip, pairs_of_zip, contrary}
+use Rattle.rmodel.proofs.ListFacts.{zip_same, zip_append, zip_all, zip_map_left, zip_map_right, all_append, all_of_zip, pairs_of_zip, contrary}
 use Rattle.rmodel.proofs.Alike.{counts, Alike, SameSatisfied, may_enter_alike, is_held_up_alike, same_satisfied_alike, is_kept_same}
 
 -- each read of the list writes nothing
@@ -25,7 +24,7 @@ ReadsOnly x = x.claim.write_half ≡ false → x.claim.writes ≡ empty
 -- ---- the sets that a pass gathers
 
 meets_gathered : (p : Claimed → Bool) (of : Claimed → Set) (s : Set) (all : Set) (xs : List Claimed)
-  → meets (fold (λ a x. cond (p x) (union a (of x)) a) all xs) s ≡ (meets all s || list_any (λ x. p x && meets (of x) s) xs)
+    → meets (fold (λ a x. cond (p x) (union a (of x)) a) all xs) s ≡ (meets all s || list_any (λ x. p x && meets (of x) s) xs)
 meets_gathered p of s all [] = or_none (meets all s)
   where
     or_none : (b : Bool) → b ≡ (b || false)
@@ -37,15 +36,17 @@ meets_gathered p of s all (x ∷ xs) =
     or_none : (b : Bool) → b ≡ (b || false)
     or_none true = refl
     or_none false = refl
+
     at : (b : Bool) → meets (cond b (union all (of x)) all) s ≡ (meets all s || (b && meets (of x) s))
     at true = meets_union_left all (of x) s
     at false = or_none (meets all s)
+
     regroup : (a b c : Bool) → ((a || b) || c) ≡ (a || (b || c))
     regroup true b c = refl
     regroup false b c = refl
 
 gathered : (p : Claimed → Bool) (of : Claimed → Set) (s : Set) (xs : List Claimed)
-  → meets (fold (λ a x. cond (p x) (union a (of x)) a) empty xs) s ≡ list_any (λ x. p x && meets (of x) s) xs
+    → meets (fold (λ a x. cond (p x) (union a (of x)) a) empty xs) s ≡ list_any (λ x. p x && meets (of x) s) xs
 gathered p of s xs = meets_gathered p of s empty xs ∙ ap (λ b. b || list_any (λ x. p x && meets (of x) s) xs) (meets_empty_left s)
 
 -- two tests that agree on each element of a list find the same
@@ -81,7 +82,7 @@ touches_by_read c s none = ap (λ w. meets c.reads s || meets w s) none ∙ ap (
     or_none true = refl
     or_none false = refl
 
-conflict_of_read : (r v : Claim) → r.writes ≡ empty → conflicts r v ≡ meets r.reads v.writes
+pub conflict_of_read : (r v : Claim) → r.writes ≡ empty → conflicts r v ≡ meets r.reads v.writes
 conflict_of_read r v none =
     ap (λ w. (meets v.reads w || meets v.writes w) || (meets r.reads v.writes || meets w v.writes)) none
     ∙ (λ i. (meets_empty_right v.reads i || meets_empty_right v.writes i) || (meets r.reads v.writes || meets_empty_left v.writes i))
@@ -131,8 +132,9 @@ read_near_is xs v c only =
     swap true false true = refl
     swap true false false = refl
     swap false p q = refl
+
     at : (x : Claimed) (w : Bool) → x.claim.write_half ≡ w → ReadsOnly x
-      → (not x.claim.write_half && not (is_satisfied x) && meets x.claim.reads c.places && meets x.claim.reads v.writes)
+        → (not x.claim.write_half && not (is_satisfied x) && meets x.claim.reads c.places && meets x.claim.reads v.writes)
         ≡ (not x.claim.write_half && not (is_satisfied x) && conflicts x.claim v && touches x.claim c.places)
     at x true is read_only =
         ap (λ w. not w && not (is_satisfied x) && meets x.claim.reads c.places && meets x.claim.reads v.writes) is
@@ -146,10 +148,10 @@ pub has_way_is : (xs : List Claimed) (c : Claim) → AllByRecursion ReadsOnly xs
 unfolding has_way is_clear
 has_way_is xs c only =
     all_and _ _ (λ v. not (is_earlier_write c v.claim && share_place v.claim c) || makes_way xs c v)
-      (λ v.
-        join (is_earlier_write c v.claim && share_place v.claim c) (is_satisfied v) (meets v.claim.writes c.places) (meets v.claim.writes (read_near xs c.places))
-        ∙ ap (λ r. not (is_earlier_write c v.claim && share_place v.claim c) || (is_satisfied v && not (meets v.claim.writes c.places) && not r)) (read_near_is xs v.claim c only))
-      xs
+    (λ v.
+    join (is_earlier_write c v.claim && share_place v.claim c) (is_satisfied v) (meets v.claim.writes c.places) (meets v.claim.writes (read_near xs c.places))
+    ∙ ap (λ r. not (is_earlier_write c v.claim && share_place v.claim c) || (is_satisfied v && not (meets v.claim.writes c.places) && not r)) (read_near_is xs v.claim c only))
+    xs
   where
     join : (e s m r : Bool) → ((not e || (s && not m)) && (not e || (s && not r))) ≡ (not e || (s && not m && not r))
     join false s m r = refl
@@ -240,40 +242,41 @@ NotBelow n x = n ≤ x.claim.stamp
 rest_alike : (w : List Claimed) (n : ℕ) (rest tail : List Claimed) → AllByRecursion (NotBelow n) rest → AllZip (Enters w) rest tail → AllZip (Alike n) rest tail
 rest_alike w n rest tail late zip =
     zip_all (NotBelow n) (Enters w) (Alike n)
-      (λ x y from e. record {
-        claim = sym e.same;
-        satisfied = λ h. elim (or_cases (not y.claim.write_half) (nat_lt y.claim.stamp n) h) [
-          | inl read ↦ sym (ap satisfied_by (e.reads (ap (λ c. c.write_half) (sym e.same) ∙ read_of y.claim.write_half read)))
-          | inr low ↦ absurd (none_below y.claim.stamp n (subst (λ (c : Claim). n ≤ c.stamp) (sym e.same) from) (ltb-true y.claim.stamp n low))
-        ];
-      })
-      rest tail late zip
+    (λ x y from e. record {
+      claim = sym e.same;
+      satisfied = λ h. elim (or_cases (not y.claim.write_half) (nat_lt y.claim.stamp n) h) [
+        | inl read ↦ sym (ap satisfied_by (e.reads (ap (λ c. c.write_half) (sym e.same) ∙ read_of y.claim.write_half read)))
+        | inr low ↦ absurd (none_below y.claim.stamp n (subst (λ (c : Claim). n ≤ c.stamp) (sym e.same) from) (ltb-true y.claim.stamp n low))
+      ];
+    })
+    rest tail late zip
   where
     read_of : (w : Bool) → not w ≡ true → w ≡ false
     read_of true h = sym h
     read_of false h = refl
+
     none_below : (m n : ℕ) → n ≤ m → m < n → ⊥
     none_below m n a b = omega arith
 
 -- a write that is settled among those before it and the rest as it was is settled as in the whole outcome
 enters_from : (xs w : List Claimed) (x : Claimed) → AllByRecursion ReadsOnly xs → (x.claim.write_half ≡ true → AllZip (Alike x.claim.stamp) xs w)
-  → Enters w x (with_status x (write_status xs x))
+    → Enters w x (with_status x (write_status xs x))
 unfolding write_status
 enters_from xs w x only alike = record {
   same = refl;
   reads = second_read x.claim.write_half (has_way xs x.claim) (is_held_up xs x.claim) x.status;
   active = λ is.
-    second_active x.claim.write_half (has_way xs x.claim) (is_held_up xs x.claim) x.status is
-    ∙ ap (λ e. is_active x || e) (has_way_is xs x.claim only ∙ may_enter_alike x.claim.stamp xs w (alike is) x.claim refl);
+      second_active x.claim.write_half (has_way xs x.claim) (is_held_up xs x.claim) x.status is
+      ∙ ap (λ e. is_active x || e) (has_way_is xs x.claim only ∙ may_enter_alike x.claim.stamp xs w (alike is) x.claim refl);
   satisfied = λ is.
-    second_satisfied x.claim.write_half (has_way xs x.claim) (is_held_up xs x.claim) x.status is
-    ∙ ap (λ h. is_satisfied x || ((is_active x || has_way xs x.claim) && not h)) (is_held_up_alike x.claim.stamp xs w (alike is) x.claim refl)
-    ∙ ap (λ a. is_satisfied x || (a && not (is_held_up w x.claim))) (sym (second_active x.claim.write_half (has_way xs x.claim) (is_held_up xs x.claim) x.status is));
+      second_satisfied x.claim.write_half (has_way xs x.claim) (is_held_up xs x.claim) x.status is
+      ∙ ap (λ h. is_satisfied x || ((is_active x || has_way xs x.claim) && not h)) (is_held_up_alike x.claim.stamp xs w (alike is) x.claim refl)
+      ∙ ap (λ a. is_satisfied x || (a && not (is_held_up w x.claim))) (sym (second_active x.claim.write_half (has_way xs x.claim) (is_held_up xs x.claim) x.status is));
 }
 
 -- each claim of the rest is settled as in the whole outcome
 rest_enters : (done rest : List Claimed) → AllByRecursion ReadsOnly done → AllByRecursion ReadsOnly rest → EachPair Rises rest
-  → AllZip (Enters (done ++ settle_rest done rest)) rest (settle_rest done rest)
+    → AllZip (Enters (done ++ settle_rest done rest)) rest (settle_rest done rest)
 unfolding settle_rest
 rest_enters done [] a b rising = tt
 rest_enters done (x ∷ rest) a b rising =
@@ -282,19 +285,22 @@ rest_enters done (x ∷ rest) a b rising =
     let tail = settle_rest (done ++ y ∷ []) rest in
     let w = done ++ (y ∷ tail) in
     let others : AllZip (Enters w) rest tail =
-      subst (λ (v : List Claimed). AllZip (Enters v) rest tail) (append_assoc done (y ∷ []) tail)
-        (rest_enters (done ++ y ∷ []) rest (all_append ReadsOnly done (y ∷ []) a (b.0, tt)) b.1 rising.1) in
+    subst (λ (v : List Claimed). AllZip (Enters v) rest tail) (append_assoc done (y ∷ []) tail)
+    (rest_enters (done ++ y ∷ []) rest (all_append ReadsOnly done (y ∷ []) a (b.0, tt)) b.1 rising.1) in
     let alike : x.claim.write_half ≡ true → AllZip (Alike x.claim.stamp) xs w =
-      λ is. zip_append (Alike x.claim.stamp) done done (x ∷ rest) (y ∷ tail) (zip_same (Alike x.claim.stamp) (λ z. record { claim = refl; satisfied = λ _. refl }) done)
-        (record { claim = refl; satisfied = λ h. contrary (counts x.claim.stamp x.claim) h (not_counted x.claim is) },
-         rest_alike w x.claim.stamp rest tail (late x rest rising.0) others) in
+    λ is. zip_append (Alike x.claim.stamp) done done (x ∷ rest) (y ∷ tail) (zip_same (Alike x.claim.stamp) (λ z. record { claim = refl; satisfied = λ _. refl }) done) (
+      record { claim = refl; satisfied = λ h. contrary (counts x.claim.stamp x.claim) h (not_counted x.claim is) },
+      rest_alike w x.claim.stamp rest tail (late x rest rising.0) others,
+    ) in
     (enters_from xs w x (all_append ReadsOnly done (x ∷ rest) a b) alike, others)
   where
     late : (x : Claimed) (rest : List Claimed) → AllByRecursion (Rises x) rest → AllByRecursion (NotBelow x.claim.stamp) rest
     late x [] h = tt
     late x (z ∷ zs) h = (h.0.not_above, late x zs h.1)
+
     not_below_self : (m : ℕ) → nat_lt m m ≡ false
     not_below_self m = grind (arith, nat_tests)
+
     not_counted : (c : Claim) → c.write_half ≡ true → counts c.stamp c ≡ false
     not_counted c is = ap (λ b. not b || nat_lt c.stamp c.stamp) is ∙ not_below_self c.stamp
 
@@ -328,15 +334,15 @@ module _ (s : List Claimed) (well : AreWellFormed s) where
   same_at_end : AllZip SameSatisfied after_writes outcome
   same_at_end =
       zip_map_right (third_pass (written_by_satisfied after_writes)) (λ x y. x ≡ y) SameSatisfied
-        (λ x y e. record {
-          claim = ap (λ z. z.claim) e;
-          satisfied = ap is_satisfied e ∙ sym (third_satisfied y.claim.write_half (meets (written_by_satisfied after_writes) y.claim.reads) y.status);
-        })
-        after_writes after_writes (zip_same (λ x y. x ≡ y) (λ x. refl) after_writes)
+      (λ x y e. record {
+        claim = ap (λ z. z.claim) e;
+        satisfied = ap is_satisfied e ∙ sym (third_satisfied y.claim.write_half (meets (written_by_satisfied after_writes) y.claim.reads) y.status);
+      })
+      after_writes after_writes (zip_same (λ x y. x ≡ y) (λ x. refl) after_writes)
 
   -- a claim through the three passes
   at_claim : (x y : Claimed) → IsClaim x.claim → Enters after_writes (first_pass (written_by_active s) x) y
-    → SettlesAt s outcome x (third_pass (written_by_satisfied after_writes) y)
+      → SettlesAt s outcome x (third_pass (written_by_satisfied after_writes) y)
   at_claim x y c e =
       let busy = written_by_active s in
       let kept = written_by_satisfied after_writes in
@@ -347,36 +353,36 @@ module _ (s : List Claimed) (well : AreWellFormed s) where
       record {
         same = one;
         reads = λ r.
-          final
-          ∙ ap satisfied_by (e.reads (to_x false r))
-          ∙ first_satisfied x.claim.write_half (meets busy x.claim.reads) x.status (to_x false r)
-          ∙ ap (λ m. is_satisfied x || not m) (kept_out_is s x.claim (c.read_only (to_x false r)))
-          ∙ ap (λ k. is_satisfied x || not (is_kept_out s k)) (sym one);
+            final
+            ∙ ap satisfied_by (e.reads (to_x false r))
+            ∙ first_satisfied x.claim.write_half (meets busy x.claim.reads) x.status (to_x false r)
+            ∙ ap (λ m. is_satisfied x || not m) (kept_out_is s x.claim (c.read_only (to_x false r)))
+            ∙ ap (λ k. is_satisfied x || not (is_kept_out s k)) (sym one);
         entitlement = λ w.
-          ap active_by (third_write y.claim.write_half (meets kept y.claim.reads) y.status w)
-          ∙ e.active (to_x true w)
-          ∙ ap (λ a. active_by a || may_enter after_writes x.claim) (first_write x.claim.write_half (meets busy x.claim.reads) x.status (to_x true w))
-          ∙ ap (λ m. is_active x || m) (may_enter_alike x.claim.stamp after_writes outcome (same_satisfied_alike x.claim.stamp after_writes outcome same_at_end) x.claim refl)
-          ∙ ap (λ k. is_active x || may_enter outcome k) (sym one);
+            ap active_by (third_write y.claim.write_half (meets kept y.claim.reads) y.status w)
+            ∙ e.active (to_x true w)
+            ∙ ap (λ a. active_by a || may_enter after_writes x.claim) (first_write x.claim.write_half (meets busy x.claim.reads) x.status (to_x true w))
+            ∙ ap (λ m. is_active x || m) (may_enter_alike x.claim.stamp after_writes outcome (same_satisfied_alike x.claim.stamp after_writes outcome same_at_end) x.claim refl)
+            ∙ ap (λ k. is_active x || may_enter outcome k) (sym one);
         satisfaction = λ w.
-          final
-          ∙ e.satisfied (to_x true w)
-          ∙ ap (λ a. satisfied_by a || (is_active y && not (is_held_up after_writes x.claim))) (first_write x.claim.write_half (meets busy x.claim.reads) x.status (to_x true w))
-          ∙ ap (λ a. is_satisfied x || (active_by a && not (is_held_up after_writes x.claim))) (sym (third_write y.claim.write_half (meets kept y.claim.reads) y.status w))
-          ∙ ap (λ h. is_satisfied x || (is_active z && not h)) (is_held_up_alike x.claim.stamp after_writes outcome (same_satisfied_alike x.claim.stamp after_writes outcome same_at_end) x.claim refl)
-          ∙ ap (λ k. is_satisfied x || (is_active z && not (is_held_up outcome k))) (sym one);
+            final
+            ∙ e.satisfied (to_x true w)
+            ∙ ap (λ a. satisfied_by a || (is_active y && not (is_held_up after_writes x.claim))) (first_write x.claim.write_half (meets busy x.claim.reads) x.status (to_x true w))
+            ∙ ap (λ a. is_satisfied x || (active_by a && not (is_held_up after_writes x.claim))) (sym (third_write y.claim.write_half (meets kept y.claim.reads) y.status w))
+            ∙ ap (λ h. is_satisfied x || (is_active z && not h)) (is_held_up_alike x.claim.stamp after_writes outcome (same_satisfied_alike x.claim.stamp after_writes outcome same_at_end) x.claim refl)
+            ∙ ap (λ k. is_satisfied x || (is_active z && not (is_held_up outcome k))) (sym one);
         kept_reads = λ r.
-          third_active y.claim.write_half (meets kept y.claim.reads) y.status r
-          ∙ ap (λ m. is_satisfied y || m) (kept_is after_writes y.claim (ap (λ k. k.writes) one ∙ c.read_only (to_x false r)) ∙ is_kept_same after_writes outcome same_at_end y.claim)
-          ∙ ap (λ a. a || is_kept outcome y.claim) (sym final);
+            third_active y.claim.write_half (meets kept y.claim.reads) y.status r
+            ∙ ap (λ m. is_satisfied y || m) (kept_is after_writes y.claim (ap (λ k. k.writes) one ∙ c.read_only (to_x false r)) ∙ is_kept_same after_writes outcome same_at_end y.claim)
+            ∙ ap (λ a. a || is_kept outcome y.claim) (sym final);
       }
 
   settles_to_outcome : Settles s outcome
   settles_to_outcome =
       zip_map_right (third_pass (written_by_satisfied after_writes)) (λ x y. IsClaim x.claim × Enters after_writes (first_pass (written_by_active s) x) y) (SettlesAt s outcome)
-        (λ x y h. at_claim x y h.0 h.1) s after_writes
-        (zip_all (λ x. IsClaim x.claim) (λ x y. Enters after_writes (first_pass (written_by_active s) x) y) (λ x y. IsClaim x.claim × Enters after_writes (first_pass (written_by_active s) x) y)
-          (λ x y c e. (c, e)) s after_writes well.claims (zip_map_left (first_pass (written_by_active s)) (Enters after_writes) s after_writes entered))
+      (λ x y h. at_claim x y h.0 h.1) s after_writes
+      (zip_all (λ x. IsClaim x.claim) (λ x y. Enters after_writes (first_pass (written_by_active s) x) y) (λ x y. IsClaim x.claim × Enters after_writes (first_pass (written_by_active s) x) y)
+      (λ x y c e. (c, e)) s after_writes well.claims (zip_map_left (first_pass (written_by_active s)) (Enters after_writes) s after_writes entered))
 
 -- a well-formed list settles to the settled list
 pub settles_settled : (s : List Claimed) → AreWellFormed s → Settles s (settled s)

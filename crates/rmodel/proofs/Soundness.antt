@@ -1,10 +1,8 @@
 -- Sound states: an accepted event leaves one, and settling leaves one.
-use Rattle.std.proofs.Common.{◌≡◌, ◌≢◌, ℕ, ◌+◌, ◌<◌, ◌≤◌, ◌==◌, Bool, true, false, not, cond, List, [], ◌∷◌, ◌++◌, map, filter, length, length-append, Option, Some, None, refl, sym, ap, subst, ◌∙◌, ◌⊎◌, inl, inr, arith}
-use Rattle.std.proofs.lemmas.Bool.{true≢false, eq-eqb, eqb-true}
+use Rattle.std.proofs.Common.{◌≡◌, ◌≢◌, ℕ, ◌+◌, ◌<◌, ◌≤◌, ◌==◌, Bool, true, false, not, cond, List, [], ◌∷◌, ◌++◌, map, filter, length, length-append, Option, Some, None, refl, sym, ap, subst, ◌∙◌, arith}
+use Rattle.std.proofs.lemmas.Bool.{true≢false, eq-eqb}
 use Rattle.std.proofs.lemmas.List.Elements.{length_all_zip}
-use Rattle.std.specs.List.{list_any, AllZip, AllByRecursion}
-use Rattle.std.specs.FinSet.{empty, union}
-use Rattle.rset.specs.Sets.{Set}
+use Rattle.std.specs.List.{AllZip}
 use Rattle.rset.proofs.SetLemmas.{within_union_left, within_union_right}
 use Rattle.rclaim.specs.Requests.{RequestFields, FitsKind, IsNormal}
 use Rattle.rclaim.specs.Events.{IsNormalEvent}
@@ -21,8 +19,8 @@ use Rattle.rmodel.specs.Rules.{SettlesAt, Settles}
 use Rattle.rmodel.specs.Settling.{settled}
 use Rattle.rmodel.specs.State.{LockState, opening}
 use Rattle.rmodel.specs.Steps.{Accepts, changed, next, incomplete_of}
-use Rattle.rmodel.specs.WellFormed.{EachPair, Rises, IsClaim, AreWellFormed, SeatsDiffer, IsSound}
-use Rattle.rmodel.proofs.ListFacts.{Among, none_among, among_filter, all_from, all_at, all_append, all_filter, pairs_append, pairs_filter, pairs_of_zip, all_of_zip, zip_weaker, contrary}
+use Rattle.rmodel.specs.WellFormed.{Rises, IsClaim, AreWellFormed, SeatsDiffer, IsSound}
+use Rattle.rmodel.proofs.ListFacts.{none_among, all_from, all_at, all_append, all_filter, pairs_append, pairs_filter, pairs_of_zip, all_of_zip, zip_weaker}
 use Rattle.rmodel.proofs.Settlement.{settles_settled}
 
 -- ---- the claim of a request
@@ -80,27 +78,30 @@ unequal m n h e = true≢false (sym (eq-eqb m n e) ∙ h)
 -- ---- an event
 
 append_sound : (s : LockState) (seat : ℕ) (c : Claim) → IsSound s → c.stamp ≡ s.issued → c.seat ≡ seat → IsClaim c → has_request s.claims seat ≡ false → (length s.claims == s.cap) ≡ false
-  → IsSound (record s { issued = s.issued + 1; claims = s.claims ++ waiting c ∷ [] })
+    → IsSound (record s { issued = s.issued + 1; claims = s.claims ++ waiting c ∷ [] })
 append_sound s seat c sound stamped seated is idle room = record {
   well_formed = record {
     rising = pairs_append Rises s.claims (waiting c) sound.well_formed.rising
-      (all_from (λ x. Rises x (waiting c)) s.claims (λ x there. below x (all_at (λ x. x.claim.stamp < s.issued) s.claims x sound.given_out there)));
+        (all_from (λ x. Rises x (waiting c)) s.claims (λ x there. below x (all_at (λ x. x.claim.stamp < s.issued) s.claims x sound.given_out there)));
     claims = all_append (λ x. IsClaim x.claim) s.claims (waiting c ∷ []) sound.well_formed.claims (is, tt);
   };
   given_out = all_append (λ x. x.claim.stamp < s.issued + 1) s.claims (waiting c ∷ [])
-    (all_from (λ x. x.claim.stamp < s.issued + 1) s.claims (λ x there. more x.claim.stamp (all_at (λ x. x.claim.stamp < s.issued) s.claims x sound.given_out there)))
-    (last, tt);
+      (all_from (λ x. x.claim.stamp < s.issued + 1) s.claims (λ x there. more x.claim.stamp (all_at (λ x. x.claim.stamp < s.issued) s.claims x sound.given_out there)))
+      (last, tt);
   one_each = pairs_append SeatsDiffer s.claims (waiting c) sound.one_each
-    (all_from (λ x. SeatsDiffer x (waiting c)) s.claims (λ x there e. unequal x.claim.seat seat (none_among (λ x. x.claim.seat == seat) s.claims x idle there) (e ∙ seated)));
+      (all_from (λ x. SeatsDiffer x (waiting c)) s.claims (λ x there e. unequal x.claim.seat seat (none_among (λ x. x.claim.seat == seat) s.claims x idle there) (e ∙ seated)));
   within_cap = fits (unequal (length s.claims) s.cap room) sound.within_cap;
 }
   where
     below : (x : Claimed) → x.claim.stamp < s.issued → Rises x (waiting c)
     below x h = record { not_above = omega (arith, h, stamped); after_write = λ _. omega (arith, h, stamped) }
+
     more : (m : ℕ) → m < s.issued → m < s.issued + 1
     more m h = omega arith
+
     last : c.stamp < s.issued + 1
     last = omega (arith, stamped)
+
     fits : length s.claims ≢ s.cap → length s.claims ≤ s.cap → length (s.claims ++ waiting c ∷ []) ≤ s.cap
     fits a b = omega (arith, length-append s.claims (waiting c ∷ []), a, b)
 
@@ -116,7 +117,7 @@ pub sound_changed : (s : LockState) (e : Event) → IsSound s → IsNormalEvent 
 sound_changed s (Issue seat r) sound normal accepted =
     let one = one_claim s.issued seat r normal in
     subst (λ (cs : List Claim). IsSound (record s { issued = s.issued + 1; claims = s.claims ++ map waiting cs })) (sym one.alone)
-      (append_sound s seat one.claim sound one.stamped one.seated one.is_claim (seat_is_idle s seat r accepted) (is_not_full s seat r accepted))
+    (append_sound s seat one.claim sound one.stamped one.seated one.is_claim (seat_is_idle s seat r accepted) (is_not_full s seat r accepted))
 sound_changed s (Finish seat) sound normal accepted = record {
   well_formed = record {
     rising = pairs_filter Rises (λ x. not (x.claim.seat == seat)) s.claims sound.well_formed.rising;
@@ -136,17 +137,20 @@ SameClaim x y = y.claim ≡ x.claim
 pub same_claims : (s t : List Claimed) → Settles s t → AllZip SameClaim s t
 same_claims s t settles = zip_weaker (SettlesAt s t) SameClaim (λ x y h. h.same) s t settles
 
-pub same_claims_sound : (s : LockState) (ys : List Claimed) → IsSound s → AllZip SameClaim s.claims ys → IsSound (record s { claims = ys })
-same_claims_sound s ys sound same = record {
-  well_formed = record {
-    rising = pairs_of_zip Rises SameClaim Rises
+pub same_claims_well_formed : (xs ys : List Claimed) → AreWellFormed xs → AllZip SameClaim xs ys → AreWellFormed ys
+same_claims_well_formed xs ys well same = record {
+  rising = pairs_of_zip Rises SameClaim Rises
       (λ x x' y y' r e e'. record {
         not_above = subst (λ (c : Claim). c.stamp ≤ y'.claim.stamp) (sym e) (subst (λ (c : Claim). x.claim.stamp ≤ c.stamp) (sym e') r.not_above);
         after_write = λ w. subst (λ (c : Claim). c.stamp < y'.claim.stamp) (sym e) (subst (λ (c : Claim). x.claim.stamp < c.stamp) (sym e') (r.after_write (ap (λ c. c.write_half) (sym e) ∙ w)));
       })
-      s.claims ys sound.well_formed.rising same;
-    claims = all_of_zip (λ x. IsClaim x.claim) SameClaim (λ x. IsClaim x.claim) (λ x y c e. subst (λ (k : Claim). IsClaim k) (sym e) c) s.claims ys sound.well_formed.claims same;
-  };
+      xs ys well.rising same;
+  claims = all_of_zip (λ x. IsClaim x.claim) SameClaim (λ x. IsClaim x.claim) (λ x y c e. subst (λ (k : Claim). IsClaim k) (sym e) c) xs ys well.claims same;
+}
+
+pub same_claims_sound : (s : LockState) (ys : List Claimed) → IsSound s → AllZip SameClaim s.claims ys → IsSound (record s { claims = ys })
+same_claims_sound s ys sound same = record {
+  well_formed = same_claims_well_formed s.claims ys sound.well_formed same;
   given_out = all_of_zip (λ x. x.claim.stamp < s.issued) SameClaim (λ x. x.claim.stamp < s.issued) (λ x y h e. subst (λ (k : Claim). k.stamp < s.issued) (sym e) h) s.claims ys sound.given_out same;
   one_each = pairs_of_zip SeatsDiffer SameClaim SeatsDiffer (λ x x' y y' d e e' k. d (ap (λ c. c.seat) (sym e) ∙ k ∙ ap (λ c. c.seat) e')) s.claims ys sound.one_each same;
   within_cap = subst (λ (n : ℕ). n ≤ s.cap) (length_all_zip SameClaim s.claims ys same) sound.within_cap;

@@ -1,5 +1,5 @@
 -- What requests hold.
-use Rattle.std.specs.Prelude.{ℕ, Bool, true, false, ◌&&◌, ◌==◌, List, fold, if◌then◌else◌}
+use Rattle.std.specs.Prelude.{ℕ, Bool, ◌&&◌, ◌==◌, List, fold, if◌then◌else◌}
 use Rattle.std.specs.List.{list_any}
 use Rattle.std.specs.FinSet.{empty, union, len, is_subset}
 use Rattle.rmodel.specs.declared.claimed.Claimed.{Claimed}

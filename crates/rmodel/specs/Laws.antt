@@ -8,7 +8,7 @@ use Rattle.rmodel.specs.Rules.{Settles}
 use Rattle.rmodel.specs.Settling.{settled}
 use Rattle.rmodel.specs.State.{LockState, opening}
 use Rattle.rmodel.specs.Steps.{changed, after, Comes, AreAccepted}
-use Rattle.rmodel.specs.WellFormed.{AreWellFormed}
+use Rattle.rmodel.specs.WellFormed.{AreWellFormed, AreExclusive}
 
 -- a list of claims settles to another, and to no third one
 pub record SettlesOnlyTo (s t : List Claimed) : Type 0 where
@@ -24,6 +24,10 @@ abbrev pub OneSettlementAStep : Type 0
 OneSettlementAStep =
     (resources seats cap : ℕ) (events : List Event) (event : Event) → AreAccepted (opening resources seats cap) events → Comes (after (opening resources seats cap) events) event
     → SettlesOnlyTo (changed (after (opening resources seats cap) events) event).claims (settled (changed (after (opening resources seats cap) events) event).claims)
+
+-- writes are exclusive: of exclusive claims, what they settle to are exclusive claims
+abbrev pub SettlingIsExclusive : Type 0
+SettlingIsExclusive = (s t : List Claimed) → AreExclusive s → Settles s t → AreExclusive t
 
 -- what the request of one seat holds for writing, that of another does not hold
 pub record IsExclusive (s : LockState) (seat other : ℕ) : Type 0 where

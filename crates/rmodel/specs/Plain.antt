@@ -1,5 +1,5 @@
 -- How the plain machine keeps its lock state, and what it keeps true.
-use Rattle.std.specs.Prelude.{◌≤◌, ◌^◌, vec_capacity}
+use Rattle.std.specs.Prelude.{◌≤◌, vec_capacity}
 use Rattle.rset.specs.declared.TheConstants.{SEATS}
 use Rattle.rmodel.specs.declared.plain.Plain.TheInside.{Inside}
 use Rattle.rmodel.specs.State.{LockState}

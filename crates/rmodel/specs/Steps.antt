@@ -5,7 +5,6 @@ use Rattle.rclaim.specs.Requests.{RequestFields}
 use Rattle.rclaim.specs.Events.{IsNormalEvent}
 use Rattle.rclaim.specs.declared.event.Event.{Event}
 use Rattle.rclaim.specs.declared.event.Event.TheVariants.{Issue, Finish}
-use Rattle.rmodel.specs.declared.claimed.Claimed.{Claimed}
 use Rattle.rmodel.specs.declared.refused.Refused.{Refused}
 use Rattle.rmodel.specs.declared.refused.Refused.TheVariants.{SeatBusy, Full, NotHolding}
 use Rattle.rmodel.specs.Claims.{claims_of, is_admitted, waiting}

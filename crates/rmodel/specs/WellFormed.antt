@@ -4,6 +4,8 @@ use Rattle.std.specs.List.{AllByRecursion}
 use Rattle.std.specs.FinSet.{empty, is_subset}
 use Rattle.rclaim.specs.declared.claim.Claim.{Claim}
 use Rattle.rmodel.specs.declared.claimed.Claimed.{Claimed}
+use Rattle.rset.specs.Sets.{meets}
+use Rattle.rmodel.specs.Claims.{share_place, conflicts, is_active, is_satisfied}
 use Rattle.rmodel.specs.State.{LockState}
 
 -- each element stands in this relation to each that comes after it
@@ -30,6 +32,22 @@ pub record IsClaim (c : Claim) : Type 0 where
 pub record AreWellFormed (xs : List Claimed) : Type 0 where
   pub rising : EachPair Rises xs
   pub claims : AllByRecursion (λ x. IsClaim x.claim) xs
+
+-- where a write is entitled or satisfied and an earlier one shares a place with it, the earlier is satisfied and writes no place of the later
+abbrev pub Entered : Claimed → Claimed → Type 0
+Entered x y =
+    x.claim.write_half ≡ true → y.claim.write_half ≡ true → share_place x.claim y.claim ≡ true → is_active y ≡ true
+    → (is_satisfied x ≡ true) × (meets x.claim.writes y.claim.places ≡ false)
+
+-- two satisfied claims do not conflict
+abbrev pub Apart : Claimed → Claimed → Type 0
+Apart x y = is_satisfied x ≡ true → is_satisfied y ≡ true → conflicts x.claim y.claim ≡ false
+
+-- the claims of a list are exclusive: no two satisfied ones conflict, and writes have entered by the rules
+pub record AreExclusive (xs : List Claimed) : Type 0 where
+  pub well_formed : AreWellFormed xs
+  pub entered : EachPair Entered xs
+  pub apart : EachPair Apart xs
 
 -- the request of one claim is at another seat than that of the other
 abbrev pub SeatsDiffer : Claimed → Claimed → Type 0

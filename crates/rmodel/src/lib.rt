@@ -8,17 +8,16 @@
 mod claimed;
 mod claims;
 mod granted;
-
+pub mod laws;
 mod list;
 mod plain;
-
 mod refused;
 mod settle;
-
 mod tell;
+#[cfg(test)]
+mod tests;
 
 pub use claims::admit;
 pub use granted::Granted;
-
 pub use plain::Plain;
 pub use refused::Refused;

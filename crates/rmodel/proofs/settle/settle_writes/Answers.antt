@@ -1,5 +1,4 @@
-use Rattle.std.proofs.Common.{◌≡◌, ◌≤◌, ◌++◌, take, drop, length, sym, ◌∙◌, arith}
-use Rattle.rmodel.specs.Settling.{settle_rest}
+use Rattle.std.proofs.Common.{◌≤◌, length, sym, ◌∙◌, arith}
 use Rattle.rmodel.proofs.SettlingSteps.{write_step, write_end}
 use Rattle.rmodel.proofs.settle.settle_writes.Goals as goal
 

@@ -20,16 +20,16 @@ loop-i-preserved c =
     let x' = get_or xs i c.index-before-i-in-loop-i.result in
     let y' = get_or ys i c.index-claims-i-in-loop-i.result in
     let statuses : c.tell_grant.new.changes.statuses ≡ old.statuses ++ option_to_list (status_change x y)
-      = ap (λ (ch : ChangeLists). ch.statuses) c.tell_grant.ensures ∙ ap (λ (ch : ChangeLists). ch.statuses) c.tell_status.ensures
-        ∙ (λ j. old.statuses ++ option_to_list (status_change (c.index-before-i.is j) (c.index-claims-i.is j))) in
+    = ap (λ (ch : ChangeLists). ch.statuses) c.tell_grant.ensures ∙ ap (λ (ch : ChangeLists). ch.statuses) c.tell_status.ensures
+    ∙ (λ j. old.statuses ++ option_to_list (status_change (c.index-before-i.is j) (c.index-claims-i.is j))) in
     let grants : c.tell_grant.new.changes.grants ≡ old.grants ++ option_to_list (grant_change x' y')
-      = ap (λ (ch : ChangeLists). ch.grants) c.tell_grant.ensures ∙ ap (λ (ch : ChangeLists). ch.grants ++ option_to_list (grant_change c.index-before-i-in-loop-i.result c.index-claims-i-in-loop-i.result)) c.tell_status.ensures
-        ∙ (λ j. old.grants ++ option_to_list (grant_change (c.index-before-i-in-loop-i.is j) (c.index-claims-i-in-loop-i.is j))) in
+    = ap (λ (ch : ChangeLists). ch.grants) c.tell_grant.ensures ∙ ap (λ (ch : ChangeLists). ch.grants ++ option_to_list (grant_change c.index-before-i-in-loop-i.result c.index-claims-i-in-loop-i.result)) c.tell_status.ensures
+    ∙ (λ j. old.grants ++ option_to_list (grant_change (c.index-before-i-in-loop-i.is j) (c.index-claims-i-in-loop-i.is j))) in
     record {
       statuses = ap (λ (told : List StatusChange). told ++ status_changes (drop (i + 1) xs) (drop (i + 1) ys)) statuses
-        ∙ status_step xs ys i c.index-before-i.result c.index-claims-i.result in_xs in_ys old.statuses ∙ c.loop-i.invariant.statuses;
+          ∙ status_step xs ys i c.index-before-i.result c.index-claims-i.result in_xs in_ys old.statuses ∙ c.loop-i.invariant.statuses;
       grants = ap (λ (told : List GrantChange). told ++ grant_changes (drop (i + 1) xs) (drop (i + 1) ys)) grants
-        ∙ grant_step xs ys i c.index-before-i-in-loop-i.result c.index-claims-i-in-loop-i.result in_xs in_ys old.grants ∙ c.loop-i.invariant.grants;
+          ∙ grant_step xs ys i c.index-before-i-in-loop-i.result c.index-claims-i-in-loop-i.result in_xs in_ys old.grants ∙ c.loop-i.invariant.grants;
       few_statuses = subst (λ (told : List StatusChange). length told ≤ i + 1) (sym statuses) (one_more old.statuses (status_change x y) i c.loop-i.invariant.few_statuses);
       few_grants = subst (λ (told : List GrantChange). length told ≤ i + 1) (sym grants) (one_more old.grants (grant_change x' y') i c.loop-i.invariant.few_grants);
     }
