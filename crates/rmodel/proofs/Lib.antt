@@ -10,4 +10,5 @@ pub mod PlainSteps
 pub mod Reached
 pub mod Exclusive
 pub mod LawProofs
+pub mod Histories
 mod WorkedCase

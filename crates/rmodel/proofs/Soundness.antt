@@ -13,7 +13,7 @@ use Rattle.rclaim.specs.declared.event.Event.{Event}
 use Rattle.rclaim.specs.declared.event.Event.TheVariants.{Issue, Finish}
 use Rattle.rmodel.specs.declared.claimed.Claimed.{Claimed}
 use Rattle.rmodel.specs.declared.refused.Refused.{Refused}
-use Rattle.rmodel.specs.Claims.{claims_by, claims_of, read_claim, write_claim, waiting}
+use Rattle.rmodel.specs.Claims.{claims_by, claims_of, claim_of, waiting}
 use Rattle.rmodel.specs.Holds.{has_request}
 use Rattle.rmodel.specs.Rules.{SettlesAt, Settles}
 use Rattle.rmodel.specs.Settling.{settled}
@@ -33,7 +33,7 @@ pub record OneClaim (cs : List Claim) (stamp seat : ℕ) : Type 0 where
   pub seated : claim.seat ≡ seat
   pub is_claim : IsClaim claim
 
-read_is_claim : (stamp seat : ℕ) (r : RequestFields) → FitsKind Read r.reads r.writes → IsClaim (read_claim stamp seat r)
+read_is_claim : (stamp seat : ℕ) (r : RequestFields) → FitsKind Read r.reads r.writes → IsClaim (claim_of false stamp seat r)
 read_is_claim stamp seat r fits = record {
   reads_some = λ _. fits.0;
   read_only = λ _. fits.1;
@@ -43,7 +43,7 @@ read_is_claim stamp seat r fits = record {
   writes_placed = λ w. absurd (true≢false (sym w));
 }
 
-write_is_claim : (stamp seat : ℕ) (r : RequestFields) → FitsKind Write r.reads r.writes → IsClaim (write_claim stamp seat r)
+write_is_claim : (stamp seat : ℕ) (r : RequestFields) → FitsKind Write r.reads r.writes → IsClaim (claim_of true stamp seat r)
 write_is_claim stamp seat r fits = record {
   reads_some = λ w. absurd (true≢false w);
   read_only = λ w. absurd (true≢false w);
@@ -54,8 +54,8 @@ write_is_claim stamp seat r fits = record {
 }
 
 one_by : (k : Kind) (stamp seat : ℕ) (r : RequestFields) → FitsKind k r.reads r.writes → OneClaim (claims_by k stamp seat r) stamp seat
-one_by Read stamp seat r fits = record { claim = read_claim stamp seat r; alone = refl; stamped = refl; seated = refl; is_claim = read_is_claim stamp seat r fits }
-one_by Write stamp seat r fits = record { claim = write_claim stamp seat r; alone = refl; stamped = refl; seated = refl; is_claim = write_is_claim stamp seat r fits }
+one_by Read stamp seat r fits = record { claim = claim_of false stamp seat r; alone = refl; stamped = refl; seated = refl; is_claim = read_is_claim stamp seat r fits }
+one_by Write stamp seat r fits = record { claim = claim_of true stamp seat r; alone = refl; stamped = refl; seated = refl; is_claim = write_is_claim stamp seat r fits }
 
 pub one_claim : (stamp seat : ℕ) (r : RequestFields) → IsNormal r → OneClaim (claims_of stamp seat r) stamp seat
 one_claim stamp seat r normal = one_by r.kind stamp seat r normal.sets

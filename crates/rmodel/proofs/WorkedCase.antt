@@ -15,7 +15,7 @@ use Rattle.rclaim.specs.declared.event.Event.{Event}
 use Rattle.rclaim.specs.declared.event.Event.TheVariants.{Issue, Finish}
 use Rattle.rmodel.specs.declared.claimed.Claimed.{Claimed}
 use Rattle.rmodel.specs.declared.refused.Refused.TheVariants.{SeatBusy, Full, NotHolding}
-use Rattle.rmodel.specs.Claims.{read_claim, write_claim, is_satisfied, is_active}
+use Rattle.rmodel.specs.Claims.{claim_of, is_satisfied, is_active}
 use Rattle.rmodel.specs.Rules.{is_kept_out, may_enter, is_held_up, is_kept, SettlesAt, Settles}
 use Rattle.rmodel.specs.Settling.{settled}
 use Rattle.rmodel.specs.State.{LockState, opening}
@@ -67,13 +67,13 @@ abbrev t3 : RequestFields
 t3 = normalised Write empty b 1
 
 abbrev of_t1 : Status → Claimed
-of_t1 status = record { claim = write_claim 0 0 t1; status = status }
+of_t1 status = record { claim = claim_of true 0 0 t1; status = status }
 
 abbrev of_t2 : Status → Claimed
-of_t2 status = record { claim = read_claim 1 1 t2; status = status }
+of_t2 status = record { claim = claim_of false 1 1 t2; status = status }
 
 abbrev of_t3 : Status → Claimed
-of_t3 status = record { claim = write_claim 2 2 t3; status = status }
+of_t3 status = record { claim = claim_of true 2 2 t3; status = status }
 
 -- the rules at a write, and at a read
 write_at : (s t : List Claimed) (x y : Claimed) → y.claim ≡ x.claim → y.claim.write_half ≡ true → is_active y ≡ (is_active x || may_enter t y.claim)

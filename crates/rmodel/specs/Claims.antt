@@ -27,20 +27,20 @@ is_admitted r = admitted_by r.kind r.reads
 abbrev pub IsReadOfMany : RequestFields → Type 0
 IsReadOfMany r = (r.kind ≡ Read) × (1 < len r.reads)
 
--- a read claim: its places are what it reads
-abbrev pub read_claim : ℕ → ℕ → RequestFields → Claim
-read_claim stamp seat r =
-    record { stamp = stamp; seat = seat; kind = r.kind; write_half = false; reads = r.reads; writes = r.writes; places = r.reads }
+-- the places of a claim: those of a read claim are what it reads, those of a write claim what it reads and what it writes
+abbrev pub places_of : Bool → Set → Set → Set
+places_of false reads writes = reads
+places_of true reads writes = union reads writes
 
--- a write claim: its places are what it reads and what it writes
-abbrev pub write_claim : ℕ → ℕ → RequestFields → Claim
-write_claim stamp seat r =
-    record { stamp = stamp; seat = seat; kind = r.kind; write_half = true; reads = r.reads; writes = r.writes; places = union r.reads r.writes }
+-- the read claim, or the write claim, of a request, at a stamp and a seat
+abbrev pub claim_of : Bool → ℕ → ℕ → RequestFields → Claim
+claim_of write_half stamp seat r =
+    record { stamp = stamp; seat = seat; kind = r.kind; write_half = write_half; reads = r.reads; writes = r.writes; places = places_of write_half r.reads r.writes }
 
--- the claims of a kind of request, at a stamp and a seat
+-- the claims of a request of this kind: a read makes a read claim, a write makes a write claim
 abbrev pub claims_by : Kind → ℕ → ℕ → RequestFields → List Claim
-claims_by Read stamp seat r = read_claim stamp seat r ∷ []
-claims_by Write stamp seat r = write_claim stamp seat r ∷ []
+claims_by Read stamp seat r = claim_of false stamp seat r ∷ []
+claims_by Write stamp seat r = claim_of true stamp seat r ∷ []
 
 -- the claims of a request
 abbrev pub claims_of : ℕ → ℕ → RequestFields → List Claim
