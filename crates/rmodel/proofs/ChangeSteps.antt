@@ -1,0 +1,45 @@
+-- The changes from a list of claims to the same claims later, one claim after another.
+use Rattle.std.proofs.Common.{◌≡◌, ℕ, ◌+◌, ◌<◌, ◌≤◌, List, ◌∷◌, ◌++◌, length, get_or, drop, sym, ap, ◌∙◌, append_assoc, append-nil, length-append, add-one, arith, Option, Some, None}
+use Rattle.std.proofs.Math.Seq.{drop-cons}
+use Rattle.std.proofs.lemmas.List.{drop_all}
+use Rattle.std.specs.Option.{option_to_list}
+use Rattle.rclaim.specs.declared.changes.StatusChange.{StatusChange}
+use Rattle.rclaim.specs.declared.changes.GrantChange.{GrantChange}
+use Rattle.rmodel.specs.declared.claimed.Claimed.{Claimed}
+use Rattle.rmodel.specs.Changes.{status_change, grant_change, status_changes, grant_changes}
+
+first_of_rest : (xs : List Claimed) (i : ℕ) (d : Claimed) → i < length xs → drop i xs ≡ get_or xs i d ∷ drop (i + 1) xs
+first_of_rest xs i d h = drop-cons xs i d h ∙ ap (λ n. get_or xs i d ∷ drop n xs) (sym (add-one i))
+
+module _ (xs ys : List Claimed) (i : ℕ) (d e : Claimed) (in_xs : i < length xs) (in_ys : i < length ys) where
+  pub status_step : (told : List StatusChange)
+      → (told ++ option_to_list (status_change (get_or xs i d) (get_or ys i e))) ++ status_changes (drop (i + 1) xs) (drop (i + 1) ys)
+      ≡ told ++ status_changes (drop i xs) (drop i ys)
+  unfolding status_changes
+  status_step told =
+      append_assoc told (option_to_list (status_change (get_or xs i d) (get_or ys i e))) (status_changes (drop (i + 1) xs) (drop (i + 1) ys))
+      ∙ sym (λ j. told ++ status_changes (first_of_rest xs i d in_xs j) (first_of_rest ys i e in_ys j))
+
+  pub grant_step : (told : List GrantChange)
+      → (told ++ option_to_list (grant_change (get_or xs i d) (get_or ys i e))) ++ grant_changes (drop (i + 1) xs) (drop (i + 1) ys)
+      ≡ told ++ grant_changes (drop i xs) (drop i ys)
+  unfolding grant_changes
+  grant_step told =
+      append_assoc told (option_to_list (grant_change (get_or xs i d) (get_or ys i e))) (grant_changes (drop (i + 1) xs) (drop (i + 1) ys))
+      ∙ sym (λ j. told ++ grant_changes (first_of_rest xs i d in_xs j) (first_of_rest ys i e in_ys j))
+
+pub status_end : (xs ys : List Claimed) (i : ℕ) (told : List StatusChange) → length xs ≤ i → told ++ status_changes (drop i xs) (drop i ys) ≡ told
+unfolding status_changes
+status_end xs ys i told h = ap (λ r. told ++ status_changes r (drop i ys)) (drop_all i xs h) ∙ append-nil told
+
+pub grant_end : (xs ys : List Claimed) (i : ℕ) (told : List GrantChange) → length xs ≤ i → told ++ grant_changes (drop i xs) (drop i ys) ≡ told
+unfolding grant_changes
+grant_end xs ys i told h = ap (λ r. told ++ grant_changes r (drop i ys)) (drop_all i xs h) ∙ append-nil told
+
+at_most_one : {X : Type 0} (o : Option X) → length (option_to_list o) ≤ 1
+at_most_one None = omega arith
+at_most_one (Some x) = omega arith
+
+-- one claim adds at most one change
+pub one_more : {X : Type 0} (told : List X) (o : Option X) (i : ℕ) → length told ≤ i → length (told ++ option_to_list o) ≤ i + 1
+one_more told o i h = let most = at_most_one o in omega (arith, length-append told (option_to_list o))

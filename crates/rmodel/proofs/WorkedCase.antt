@@ -1,0 +1,200 @@
+-- A worked case of the rules. t1 writes a and b, t2 reads a, t3 writes b, and t1 finishes:
+-- t1 is satisfied, t2 entitled and t3 waiting, and after the finish t2 and t3 are satisfied.
+use Rattle.std.proofs.Common.{◌≡◌, ◌≢◌, ℕ, true, false, not, ◌&&◌, ◌||◌, cond, List, [], ◌∷◌, Some, None, refl, sym, ap, ◌∙◌, arith}
+use Rattle.std.proofs.lemmas.Bool.{true≢false}
+use Rattle.std.specs.Ordering.{nat_cmp}
+use Rattle.std.specs.FinSet.{empty, insert, is_subset, contains, len-insert, len-empty}
+use Rattle.std.specs.Cmp.{nat_cmp_total}
+use Rattle.rset.specs.Sets.{Set, meets}
+use Rattle.rset.proofs.SetLemmas.{meets_insert_right, meets_empty_left, meets_empty_right, contains_insert, contains_empty, union_empty_left, empty_within, within_reflexive}
+use Rattle.rclaim.specs.Requests.{RequestFields, normalised}
+use Rattle.rclaim.specs.declared.request.Kind.TheVariants.{Read, Write}
+use Rattle.rclaim.specs.declared.claim.Status.{Status}
+use Rattle.rclaim.specs.declared.claim.Status.TheVariants.{Waiting, Entitled, Satisfied}
+use Rattle.rclaim.specs.declared.event.Event.{Event}
+use Rattle.rclaim.specs.declared.event.Event.TheVariants.{Issue, Finish}
+use Rattle.rmodel.specs.declared.claimed.Claimed.{Claimed}
+use Rattle.rmodel.specs.declared.refused.Refused.TheVariants.{SeatBusy, Full, NotHolding}
+use Rattle.rmodel.specs.Claims.{claim_of, is_satisfied, is_active}
+use Rattle.rmodel.specs.Rules.{is_kept_out, may_enter, is_held_up, is_kept, SettlesAt, Settles}
+use Rattle.rmodel.specs.Settling.{settled}
+use Rattle.rmodel.specs.State.{LockState, opening}
+use Rattle.rmodel.specs.Changes.{changes_between}
+use Rattle.rmodel.specs.Holds.{holds_of, is_nothing}
+use Rattle.rmodel.proofs.ListFacts.{false_from}
+use Rattle.rmodel.specs.Steps.{next, after, refusal, changed, Accepts}
+use Rattle.rmodel.specs.WellFormed.{IsSound}
+use Rattle.rmodel.proofs.OneSettlement.{only_one}
+use Rattle.rmodel.proofs.Settlement.{settles_settled}
+use Rattle.rmodel.proofs.Soundness.{sound_opening, sound_changed, same_claims, same_claims_sound}
+use Rattle.rclaim.specs.Requests.{IsNormal}
+use Rattle.rclaim.specs.Events.{IsNormalEvent}
+
+abbrev a : Set
+a = insert (empty {R = nat_cmp}) 0
+
+abbrev b : Set
+b = insert (empty {R = nat_cmp}) 1
+
+abbrev ab : Set
+ab = insert (insert (empty {R = nat_cmp}) 0) 1
+
+ab_a : meets ab a ≡ true
+ab_a = simp (meets_insert_right, meets_empty_right, contains_insert, contains_empty)
+
+a_ab : meets a ab ≡ true
+a_ab = simp (meets_insert_right, meets_empty_right, contains_insert, contains_empty)
+
+ab_b : meets ab b ≡ true
+ab_b = simp (meets_insert_right, meets_empty_right, contains_insert, contains_empty)
+
+b_ab : meets b ab ≡ true
+b_ab = simp (meets_insert_right, meets_empty_right, contains_insert, contains_empty)
+
+a_b : meets a b ≡ false
+a_b = simp (meets_insert_right, meets_empty_right, contains_insert, contains_empty)
+
+b_a : meets b a ≡ false
+b_a = simp (meets_insert_right, meets_empty_right, contains_insert, contains_empty)
+
+abbrev t1 : RequestFields
+t1 = normalised Write empty ab 2
+
+abbrev t2 : RequestFields
+t2 = normalised Read a empty 1
+
+abbrev t3 : RequestFields
+t3 = normalised Write empty b 1
+
+abbrev of_t1 : Status → Claimed
+of_t1 status = record { claim = claim_of true 0 0 t1; status = status }
+
+abbrev of_t2 : Status → Claimed
+of_t2 status = record { claim = claim_of false 1 1 t2; status = status }
+
+abbrev of_t3 : Status → Claimed
+of_t3 status = record { claim = claim_of true 2 2 t3; status = status }
+
+-- the rules at a write, and at a read
+write_at : (s t : List Claimed) (x y : Claimed) → y.claim ≡ x.claim → y.claim.write_half ≡ true → is_active y ≡ (is_active x || may_enter t y.claim)
+    → is_satisfied y ≡ (is_satisfied x || (is_active y && not (is_held_up t y.claim))) → SettlesAt s t x y
+write_at s t x y same w active sat =
+    record { same = same; reads = λ r. absurd (true≢false (sym w ∙ r)); entitlement = λ _. active; satisfaction = λ _. sat; kept_reads = λ r. absurd (true≢false (sym w ∙ r)) }
+
+read_at : (s t : List Claimed) (x y : Claimed) → y.claim ≡ x.claim → y.claim.write_half ≡ false → is_satisfied y ≡ (is_satisfied x || not (is_kept_out s y.claim))
+    → is_active y ≡ (is_satisfied y || is_kept t y.claim) → SettlesAt s t x y
+read_at s t x y same r sat active =
+    record { same = same; reads = λ _. sat; entitlement = λ w. absurd (true≢false (sym w ∙ r)); satisfaction = λ w. absurd (true≢false (sym w ∙ r)); kept_reads = λ _. active }
+
+ruleset sets = (ab_a, a_ab, ab_b, b_ab, a_b, b_a, meets_empty_left, meets_empty_right, union_empty_left)
+
+first : Settles (of_t1 Waiting ∷ []) (of_t1 Satisfied ∷ [])
+first = (write_at _ _ (of_t1 Waiting) (of_t1 Satisfied) refl refl refl refl, tt)
+
+second : Settles (of_t1 Satisfied ∷ of_t2 Waiting ∷ []) (of_t1 Satisfied ∷ of_t2 Entitled ∷ [])
+second = (
+  write_at _ _ (of_t1 Satisfied) (of_t1 Satisfied) refl refl refl refl,
+  (read_at _ _ (of_t2 Waiting) (of_t2 Entitled) refl refl (simp sets) (simp sets), tt),
+)
+
+third : Settles (of_t1 Satisfied ∷ of_t2 Entitled ∷ of_t3 Waiting ∷ []) (of_t1 Satisfied ∷ of_t2 Entitled ∷ of_t3 Waiting ∷ [])
+third = (
+  write_at _ _ (of_t1 Satisfied) (of_t1 Satisfied) refl refl refl refl,
+  (
+    read_at _ _ (of_t2 Entitled) (of_t2 Entitled) refl refl (simp sets) (simp sets),
+    (write_at _ _ (of_t3 Waiting) (of_t3 Waiting) refl refl (simp sets) refl, tt),
+  ),
+)
+
+fourth : Settles (of_t2 Entitled ∷ of_t3 Waiting ∷ []) (of_t2 Satisfied ∷ of_t3 Satisfied ∷ [])
+fourth = (
+  read_at _ _ (of_t2 Entitled) (of_t2 Satisfied) refl refl refl refl,
+  (write_at _ _ (of_t3 Waiting) (of_t3 Satisfied) refl refl refl (simp sets), tt),
+)
+
+-- the state after an accepted event whose claims settle to these
+record Outcome (s : LockState) (e : Event) (t : List Claimed) : Type 0 where
+  is : next s e ≡ record (changed s e) { claims = t }
+  sound : IsSound (record (changed s e) { claims = t })
+
+outcome : (s : LockState) (e : Event) (t : List Claimed) → IsSound s → IsNormalEvent e → Accepts s e → Settles (changed s e).claims t → Outcome s e t
+outcome s e t sound normal accepted settles =
+    let mid = sound_changed s e sound normal accepted in
+    let one : t ≡ settled (changed s e).claims = only_one (changed s e).claims t (settled (changed s e).claims) settles (settles_settled (changed s e).claims mid.well_formed) in
+    record {
+      is = ap (λ (xs : List Claimed). let u : LockState = record (changed s e) { claims = xs } in u) (sym one);
+      sound = same_claims_sound (changed s e) t mid (same_claims (changed s e).claims t settles);
+    }
+
+-- a set with a member is not empty
+has_member : (s : Set) (l : ℕ) → contains s l ≡ true → s ≢ empty
+has_member s l h none = true≢false (sym h ∙ ap (λ t. contains t l) none ∙ contains_empty l)
+
+t1_normal : IsNormal t1
+t1_normal = record { sets = (refl, has_member ab 0 (simp (contains_insert, contains_empty))); first = refl; len = omega arith; later = refl }
+
+t2_normal : IsNormal t2
+t2_normal = record { sets = (has_member a 0 (simp (contains_insert, contains_empty)), refl); first = refl; len = omega arith; later = refl }
+
+t3_normal : IsNormal t3
+t3_normal = record { sets = (refl, has_member b 1 (simp (contains_insert, contains_empty))); first = refl; len = omega arith; later = refl }
+
+abbrev s1 : LockState
+s1 = record { resources = 2; seats = 3; cap = 3; issued = 1; claims = of_t1 Satisfied ∷ [] }
+
+abbrev s2 : LockState
+s2 = record { resources = 2; seats = 3; cap = 3; issued = 2; claims = of_t1 Satisfied ∷ of_t2 Entitled ∷ [] }
+
+abbrev s3 : LockState
+s3 = record { resources = 2; seats = 3; cap = 3; issued = 3; claims = of_t1 Satisfied ∷ of_t2 Entitled ∷ of_t3 Waiting ∷ [] }
+
+after_first : Outcome (opening 2 3 3) (Issue 0 t1) (of_t1 Satisfied ∷ [])
+after_first = outcome (opening 2 3 3) (Issue 0 t1) _ (sound_opening 2 3 3) t1_normal refl first
+
+after_second : Outcome s1 (Issue 1 t2) (of_t1 Satisfied ∷ of_t2 Entitled ∷ [])
+after_second = outcome s1 (Issue 1 t2) _ after_first.sound t2_normal refl second
+
+after_third : Outcome s2 (Issue 2 t3) (of_t1 Satisfied ∷ of_t2 Entitled ∷ of_t3 Waiting ∷ [])
+after_third = outcome s2 (Issue 2 t3) _ after_second.sound t3_normal refl third
+
+-- t1 holds a and b, so that it may finish
+t1_holds : is_nothing (holds_of s3.claims 0) ≡ false
+unfolding holds_of
+t1_holds = simp (union_empty_left, len-insert nat_cmp_total, contains_insert, contains_empty, len-empty)
+
+t1_may_finish : Accepts s3 (Finish 0)
+t1_may_finish = ap (λ n. cond n (Some NotHolding) None) t1_holds
+
+after_fourth : Outcome s3 (Finish 0) (of_t2 Satisfied ∷ of_t3 Satisfied ∷ [])
+after_fourth = outcome s3 (Finish 0) _ after_third.sound tt t1_may_finish fourth
+
+-- a seat issues one request at a time, and a full state takes none
+busy : refusal s1 (Issue 0 t3) ≡ Some SeatBusy
+busy = refl
+
+full : refusal (record s3 { seats = 4 }) (Issue 3 t3) ≡ Some Full
+full = refl
+
+worked : (after (opening 2 3 3) (Issue 0 t1 ∷ Issue 1 t2 ∷ Issue 2 t3 ∷ Finish 0 ∷ [])).claims ≡ of_t2 Satisfied ∷ of_t3 Satisfied ∷ []
+worked =
+    ap (λ (s : LockState). (after s (Issue 1 t2 ∷ Issue 2 t3 ∷ Finish 0 ∷ [])).claims) after_first.is
+    ∙ ap (λ (s : LockState). (after s (Issue 2 t3 ∷ Finish 0 ∷ [])).claims) after_second.is
+    ∙ ap (λ (s : LockState). (after s (Finish 0 ∷ [])).claims) after_third.is
+    ∙ ap (λ (s : LockState). s.claims) after_fourth.is
+
+abbrev s4 : LockState
+s4 = record { resources = 2; seats = 3; cap = 3; issued = 3; claims = of_t2 Satisfied ∷ of_t3 Satisfied ∷ [] }
+
+some_a : is_subset a (empty {R = nat_cmp}) ≡ false
+some_a = false_from (is_subset a empty) (λ h. has_member a 0 (simp (contains_insert, contains_empty)) (empty_within a h))
+
+some_b : is_subset b (empty {R = nat_cmp}) ≡ false
+some_b = false_from (is_subset b empty) (λ h. has_member b 1 (simp (contains_insert, contains_empty)) (empty_within b h))
+
+-- the changes of the finish: t2 and t3 are satisfied, t2 holds a for reading and t3 holds b for writing
+worked_changes : changes_between s3 s4 ≡ record {
+  statuses = record { seat = 1; write_half = false; status = Satisfied } ∷ record { seat = 2; write_half = true; status = Satisfied } ∷ [];
+  grants = record { seat = 1; reads = a; writes = empty } ∷ record { seat = 2; reads = empty; writes = b } ∷ [];
+}
+unfolding changes_between
+worked_changes = simp (some_a, some_b, within_reflexive)

@@ -1,0 +1,13 @@
+use Rattle.std.proofs.Common.{◌∙◌, sym}
+use Rattle.rmodel.proofs.PlainSteps.{step_holds, changes_hold}
+use Rattle.rmodel.proofs.plain.Plain.step.Goals as goal
+
+pub returns-clause-step : goal.returns-clause-step
+returns-clause-step c =
+    step_holds c.args.self.now.state c.change.new.self.state c.settle.new.self.state c.args.event c.change.ensures.sound c.change.ensures.normal
+    (sym c.refusal.ensures ∙ c.in_default.is) c.change.ensures.state c.settle.ensures.state
+
+pub returns-clause-changes : goal.returns-clause-changes
+returns-clause-changes c =
+    changes_hold c.args.self.now.state c.change.new.self.state c.settle.new.self.state c.args.event c.change.ensures.sound c.change.ensures.normal
+    (sym c.refusal.ensures ∙ c.in_default.is) c.change.ensures.state c.settle.ensures.state c.settle.new.self.last c.settle.ensures.statuses c.settle.ensures.grants

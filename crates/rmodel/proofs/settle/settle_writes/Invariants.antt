@@ -1,0 +1,6 @@
+use Rattle.std.proofs.Common.{◌≡◌, ◌++◌, take, drop, []}
+use Rattle.rmodel.specs.Settling.{settle_rest}
+use Rattle.rmodel.proofs.settle.settle_writes.Given as goal
+
+abbrev pub invariant-loop-i : goal.invariant-loop-i
+invariant-loop-i l = take l.i l.claims ++ settle_rest (take l.i l.claims) (drop l.i l.claims) ≡ settle_rest [] l.initial.claims

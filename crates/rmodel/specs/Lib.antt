@@ -1,0 +1,12 @@
+pub mod Claims
+pub mod Rules
+pub mod State
+pub mod Holds
+pub mod Settling
+pub mod Steps
+pub mod Changes
+pub mod WellFormed
+pub mod Codes
+pub mod Machine
+pub mod Laws
+pub mod Plain

@@ -1,0 +1,22 @@
+-- How the plain machine keeps its lock state, and what it keeps true.
+use Rattle.std.specs.Prelude.{◌≤◌, vec_capacity}
+use Rattle.rset.specs.declared.TheConstants.{SEATS}
+use Rattle.rmodel.specs.declared.plain.Plain.TheInside.{Inside}
+use Rattle.rmodel.specs.State.{LockState}
+use Rattle.rmodel.specs.Machine.{Standing}
+use Rattle.rmodel.specs.WellFormed.{IsSound}
+
+-- the lock state of a plain machine
+abbrev pub state_of : Inside → LockState
+state_of a = record { resources = a.resources; seats = a.seats; cap = a.cap; issued = a.issued; claims = a.claims.items }
+
+-- what contracts see of it
+abbrev pub standing_of : Inside → Standing
+standing_of a = record { state = state_of a; last = a.changes }
+
+-- its state is sound, and there is room for the claims of all seats
+pub record IsKept (a : Inside) : Type 0 where
+  pub sound : IsSound (state_of a)
+  pub cap : a.cap ≤ SEATS
+  pub claims_room : SEATS ≤ vec_capacity a.claims
+  pub before_room : SEATS ≤ vec_capacity a.before

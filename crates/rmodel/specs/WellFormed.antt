@@ -1,0 +1,61 @@
+-- Well-formed lists of claims: stamps rise, and each claim is one of a request.
+use Rattle.std.specs.Prelude.{◌≡◌, ◌≢◌, ◌<◌, ◌≤◌, true, false, length, List, [], ◌∷◌}
+use Rattle.std.specs.List.{AllByRecursion}
+use Rattle.std.specs.FinSet.{empty, is_subset}
+use Rattle.rclaim.specs.declared.claim.Claim.{Claim}
+use Rattle.rmodel.specs.declared.claimed.Claimed.{Claimed}
+use Rattle.rset.specs.Sets.{meets}
+use Rattle.rmodel.specs.Claims.{share_place, conflicts, is_active, is_satisfied}
+use Rattle.rmodel.specs.State.{LockState}
+
+-- each element stands in this relation to each that comes after it
+abbrev pub EachPair : {X : Type 0} → (X → X → Type 0) → List X → Type 0
+EachPair R [] = Unit {0}
+EachPair R (x ∷ xs) = AllByRecursion (R x) xs × EachPair R xs
+
+-- a claim's stamp is not above that of a later one, and that of a write is below it
+pub record Rises (x y : Claimed) : Type 0 where
+  pub not_above : x.claim.stamp ≤ y.claim.stamp
+  pub after_write : x.claim.write_half ≡ true → x.claim.stamp < y.claim.stamp
+
+-- a read claim reads something, writes nothing and has its places where it reads;
+-- a write claim writes something and has places where it reads and where it writes
+pub record IsClaim (c : Claim) : Type 0 where
+  pub reads_some : c.write_half ≡ false → c.reads ≢ empty
+  pub read_only : c.write_half ≡ false → c.writes ≡ empty
+  pub read_places : c.write_half ≡ false → c.places ≡ c.reads
+  pub writes_some : c.write_half ≡ true → c.writes ≢ empty
+  pub reads_placed : c.write_half ≡ true → is_subset c.reads c.places ≡ true
+  pub writes_placed : c.write_half ≡ true → is_subset c.writes c.places ≡ true
+
+-- a list of claims is well formed
+pub record AreWellFormed (xs : List Claimed) : Type 0 where
+  pub rising : EachPair Rises xs
+  pub claims : AllByRecursion (λ x. IsClaim x.claim) xs
+
+-- where a write is entitled or satisfied and an earlier one shares a place with it, the earlier is satisfied and writes no place of the later
+abbrev pub Entered : Claimed → Claimed → Type 0
+Entered x y =
+    x.claim.write_half ≡ true → y.claim.write_half ≡ true → share_place x.claim y.claim ≡ true → is_active y ≡ true
+    → (is_satisfied x ≡ true) × (meets x.claim.writes y.claim.places ≡ false)
+
+-- two satisfied claims do not conflict
+abbrev pub Apart : Claimed → Claimed → Type 0
+Apart x y = is_satisfied x ≡ true → is_satisfied y ≡ true → conflicts x.claim y.claim ≡ false
+
+-- the claims of a list are exclusive: no two satisfied ones conflict, and writes have entered by the rules
+pub record AreExclusive (xs : List Claimed) : Type 0 where
+  pub well_formed : AreWellFormed xs
+  pub entered : EachPair Entered xs
+  pub apart : EachPair Apart xs
+
+-- the request of one claim is at another seat than that of the other
+abbrev pub SeatsDiffer : Claimed → Claimed → Type 0
+SeatsDiffer x y = x.claim.seat ≢ y.claim.seat
+
+-- a lock state is sound: its claims are well formed, with stamps that were given out, at most one for each seat, and no more than the cap
+pub record IsSound (s : LockState) : Type 0 where
+  pub well_formed : AreWellFormed s.claims
+  pub given_out : AllByRecursion (λ x. x.claim.stamp < s.issued) s.claims
+  pub one_each : EachPair SeatsDiffer s.claims
+  pub within_cap : length s.claims ≤ s.cap

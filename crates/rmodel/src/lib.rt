@@ -1,0 +1,23 @@
+//! The settling rules, and a machine over a plain list of claims whose step is exactly one of them.
+//!
+//! The lock state is one list of claims. An event changes the list, and then it is settled once.
+//! [`Plain`] does so by the rules as they are written, in time that is at most quadratic in the claims.
+//! The module [`laws`] says what holds after every list of accepted events.
+#![tactic(auto)]
+
+mod claimed;
+mod claims;
+mod granted;
+pub mod laws;
+mod list;
+mod plain;
+mod refused;
+mod settle;
+mod tell;
+#[cfg(test)]
+mod tests;
+
+pub use claims::admit;
+pub use granted::Granted;
+pub use plain::Plain;
+pub use refused::Refused;
