@@ -1,9 +1,9 @@
 -- What the layers above need to know of tables of names: numbers, names and a name that is added.
-use Rattle.std.proofs.Common.{◌≡◌, ℕ, zero, suc, ◌+◌, ◌<◌, ◌≤◌, ◌&&◌, ◌||◌, not, Bool, true, false, cond, List, [], ◌∷◌, ◌++◌, length, take, get_or, Option, Some, None, refl, sym, ap, subst, ◌∙◌, arith, length-append}
+use Rattle.std.proofs.Common.{◌≡◌, ℕ, zero, suc, ◌+◌, ◌<◌, ◌≤◌, ◌&&◌, ◌||◌, not, Bool, true, false, cond, List, [], ◌∷◌, ◌++◌, length, take, get_or, Some, None, refl, sym, ap, ◌∙◌, arith, length-append}
 use Rattle.std.specs.Prelude.{slice_get, is_some, nat_le}
 use Rattle.std.specs.List.{list_any, list_all, position_from}
 use Rattle.std.specs.Cmp.Lexicographic.{bytes_decides}
-use Rattle.std.proofs.lemmas.Bool.{true≢false, and_parts, and_from, or_left, or_right, or_from, leb-true, le-leb, not-true, false_from_ne_true, cases_Bool}
+use Rattle.std.proofs.lemmas.Bool.{true≢false, and_parts, and_from, or_left, or_right, or_from, leb-true, le-leb, not-true, false_from_ne_true}
 use Rattle.std.proofs.lemmas.List.Folds.{list_any-append, list_all-append}
 use Rattle.rset.specs.declared.TheConstants.{RESOURCES}
 use Rattle.rset.specs.Names.{is_name, same_name, number_in, knows, all_differ, is_table}

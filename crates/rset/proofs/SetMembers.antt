@@ -78,3 +78,23 @@ contains_intersection = contains-intersection nat_cmp_total
 
 pub contains_difference : (s t : Set) (l : ℕ) → contains (difference s t) l ≡ (contains s l && not (contains t l))
 contains_difference = contains-difference nat_cmp_total
+
+-- ---- the empty set
+
+pub empty_from_none : (s : Set) → ((l : ℕ) → contains s l ≡ false) → s ≡ empty
+empty_from_none s none = same_members s empty (λ l. none l ∙ sym (contains_empty l))
+
+-- a set that is not empty has a member
+pub some_member : (s : Set) → (s ≡ empty → ⊥) → (l : ℕ) × (contains s l ≡ true)
+some_member s filled = pick (items s) refl
+  where
+    none : items s ≡ [] → s ≡ empty
+    none e = empty_from_none s (λ l. contains_in_items s l ∙ ap (list_any (λ y. y == l)) e)
+
+    pick : (xs : List ℕ) → items s ≡ xs → (l : ℕ) × (contains s l ≡ true)
+    pick [] e = absurd (filled (none e))
+    pick (x ∷ xs) e = (x, contains_in_items s x ∙ ap (list_any (λ y. y == x)) e ∙ or_left (x == x) _ (eq-eqb x x refl))
+
+-- a set with a member is not empty
+pub filled_by : (s : Set) (l : ℕ) → contains s l ≡ true → s ≡ empty → ⊥
+filled_by s l there none = contrary _ there (ap (λ x. contains x l) none ∙ contains_empty l)

@@ -4,7 +4,7 @@ use Rattle.std.specs.Ordering.{nat_cmp}
 use Rattle.std.specs.FinSet.{empty, contains, insert, union, intersection, difference, is_subset, items}
 use Rattle.std.proofs.lemmas.Bool.{eqb-true, eq-eqb, or_cases, or_left, or_right, and_parts, and_from, not-true, false_from_ne_true}
 use Rattle.rset.specs.Sets.{Set, meets}
-use Rattle.rset.proofs.SetMembers.{same_test, contrary, passing, passes_at, contains_in_items, contains_empty, contains_insert, contains_union, contains_intersection, contains_difference}
+use Rattle.rset.proofs.SetMembers.{same_test, contrary, passing, passes_at, contains_in_items, empty_from_none, contains_empty, contains_insert, contains_union, contains_intersection, contains_difference}
 use Rattle.rset.proofs.SetsWithin.{within_at, within_from, within_both, empty_within, within_union_left, within_union_right, difference_within, within_insert}
 
 -- a common member makes two sets meet
@@ -102,3 +102,7 @@ pub apart_by_intersection : (s t : Set) → intersection s t ≡ empty → meets
 apart_by_intersection s t h = false_from_ne_true (meets s t) (λ m.
     let both = meets_common s t m in
     contrary _ (contains_intersection s t both.0 ∙ and_from _ _ both.1 both.2) (ap (λ x. contains x both.0) h ∙ contains_empty both.0))
+
+-- a set that does not meet itself is empty
+pub meets_itself : (s : Set) → meets s s ≡ false → s ≡ empty
+meets_itself s h = empty_from_none s (λ l. false_from_ne_true (contains s l) (λ there. contrary _ there (apart_at s s h l there)))

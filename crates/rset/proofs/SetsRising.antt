@@ -77,6 +77,13 @@ stands_at [] k h = absurd (omega arith)
 stands_at (x ∷ xs) zero h = or_left (x == x) _ (eq-eqb x x refl)
 stands_at (x ∷ xs) (suc k) h = or_right (x == get_or xs k 0) _ (stands_at xs k (omega arith))
 
+-- what an iterator gives first is a member, and below the number of resources
+pub rising_head_member : (s : Set) (l : ℕ) (rest : List ℕ) → rising s ≡ l ∷ rest → contains s l ≡ true
+rising_head_member s l rest e = rising_member s l (ap (list_any (λ y. y == l)) e ∙ or_left (l == l) _ (eq-eqb l l refl))
+
+pub rising_head_below : (s : Set) (l : ℕ) (rest : List ℕ) → rising s ≡ l ∷ rest → l < RESOURCES
+rising_head_below s l rest e = rising_below s l (ap (list_any (λ y. y == l)) e ∙ or_left (l == l) _ (eq-eqb l l refl))
+
 pub rising_at : (s : Set) (k : ℕ) → k < length (rising s) → contains s (get_or (rising s) k 0) ≡ true
 rising_at s k h = rising_member s _ (stands_at (rising s) k h)
 
@@ -160,6 +167,20 @@ len_from (suc n) low s = elim (contains s low) as (λ c. len (from_list {R = nat
 pub length_rising : (s : Set) → all_below RESOURCES s ≡ true → length (rising s) ≡ len s
 unfolding rising
 length_rising s h = sym (len_from RESOURCES 0 s) ∙ ap len (from_list_rising s h)
+
+few_from : (n low : ℕ) (s : Set) → length (members_from low n s) ≤ n
+unfolding members_from
+few_from zero low s = omega arith
+few_from (suc n) low s = more (contains s low) (few_from n (suc low) s)
+  where
+    more : (b : Bool) → length (members_from (suc low) n s) ≤ n → length (cond b (low ∷ members_from (suc low) n s) (members_from (suc low) n s)) ≤ suc n
+    more true few = omega arith
+    more false few = omega arith
+
+-- and no more than there are resources
+pub rising_few : (s : Set) → length (rising s) ≤ RESOURCES
+unfolding rising
+rising_few s = few_from RESOURCES 0 s
 
 -- ---- its first element and the rest
 

@@ -7,14 +7,16 @@ use Rattle.std.proofs.lemmas.Bool.{and_parts, and_from}
 use Rattle.std.proofs.lemmas.Bool.Decides.{same_from_decides}
 use Rattle.rset.specs.Sets.{Set, equals}
 
-equals-true : (s t : Set) → equals s t ≡ true → s ≡ t
+-- sets that pass it are equal
+pub equals-true : (s t : Set) → equals s t ≡ true → s ≡ t
 unfolding equals
 equals-true s t h =
     let parts = and_parts (is_subset s t) (is_subset t s) h in
     same_set nat_cmp_total nat_cmp-IsAntisymmetric s t
     (λ l. same_from_decides {P = contains t l ≡ true} (contains s l) (contains t l) (is_subset-contains nat_cmp_total s t parts.0 l, is_subset-contains nat_cmp_total t s parts.1 l) (λ x. x, λ x. x))
 
-equals_itself : (s : Set) → equals s s ≡ true
+-- and each set passes it with itself
+pub equals_itself : (s : Set) → equals s s ≡ true
 unfolding equals
 equals_itself s = let within = contains-is_subset nat_cmp_total s s (λ l x. x) in and_from _ _ within within
 

@@ -1,5 +1,5 @@
 // A table of names, seen as the list of them.
-ghost use Rattle.std.specs.Prelude.{◌≡◌, ◌<◌, ◌≤◌, ◌++◌, ◌∷◌, [], ◌↔◌, IfOk, OnOk, OnErr, IsTrue, true, false, length, slice_get};
+ghost use Rattle.std.specs.Prelude.{◌≡◌, ◌<◌, ◌≤◌, ◌++◌, ◌∷◌, [], ◌↔◌, IfOk, IfSome, OnOk, OnErr, IsTrue, true, false, length, slice_get};
 ghost use Rattle.std.specs.List.{list_all};
 ghost use Rattle.rset.specs.declared.names.NameErr.TheVariants.{Memory};
 ghost use Rattle.rset.specs.Names.{is_letter, is_name_byte, is_name, knows, number_in, is_table};
@@ -68,9 +68,12 @@ impl NameTable {
     pub fn add(&mut self, name: &[u8]) -> Result<u8, NameErr>
         ensures ok { IfOk result (λ n. self.new ≡ self.old ++ name.now ∷ []) }
         ensures number { IfOk result (λ n. n ≡ length self.old) }
+        ensures bound { IfOk result (λ n. n < RESOURCES) }
         ensures bad_name { (result ≡ Err NameErr.BadName) ↔ (is_name name.now ≡ false) }
-        ensures repeated { (result ≡ Err NameErr.Repeated) ↔ ((is_name name.now ≡ true) × (knows self.old name.now ≡ true)) }
-        ensures too_many { (result ≡ Err NameErr.TooMany) ↔ ((is_name name.now ≡ true) × (knows self.old name.now ≡ false) × (length self.old ≡ RESOURCES)) }
+        ensures repeated { (result ≡ Err NameErr.Repeated)
+            ↔ ((is_name name.now ≡ true) × (knows self.old name.now ≡ true)) }
+        ensures too_many { (result ≡ Err NameErr.TooMany)
+            ↔ ((is_name name.now ≡ true) × (knows self.old name.now ≡ false) × (length self.old ≡ RESOURCES)) }
         ensures err { OnErr result (self.new ≡ self.old) }
     {
         if !is_name(name) {
@@ -91,6 +94,8 @@ impl NameTable {
     /// The number of `name`, or None where it is not in the table.
     pub fn number_of(&self, name: &[u8]) -> Option<u8>
         ensures value { result ≡ number_in self.now name.now }
+        ensures below { IfSome result (λ n. n < length self.now) }
+        ensures bound { IfSome result (λ n. n < RESOURCES) }
         ensures table { IsTrue (is_table self.now) }
     {
         let number = self.names.get_index_of(name)?;

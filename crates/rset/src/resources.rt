@@ -1,5 +1,5 @@
 // A set of resources, seen as a finite set of numbers.
-ghost use Rattle.std.specs.Prelude.{◌≡◌, ◌<◌, ◌≤◌, ◌↔◌, ℕ, IfSome, IsNone, IsTrue, slice_get};
+ghost use Rattle.std.specs.Prelude.{◌≡◌, ◌<◌, ◌≤◌, ◌↔◌, ℕ, IfSome, IsNone, IsTrue, length, slice_get};
 ghost use Rattle.std.specs.FinSet as set;
 ghost use Rattle.rset.specs.Sets.{meets, rising, all_below};
 
@@ -36,6 +36,12 @@ impl Model for ResourceSet {
 }
 
 impl Clone for ResourceSet {
+    ghost use Rattle.std.specs.Prelude.{◌≡◌, ⊤};
+
+    ghost is_clone = { λ x y. y ≡ x };
+
+    ghost is_infallible = { λ _. ⊤ };
+
     fn clone(&self) -> Result<Self, AllocError> {
         Ok(*self)
     }
@@ -208,7 +214,9 @@ impl ResourceSet {
     pub fn iter(self) -> Members
         ensures value { result ≡ self }
         ensures within { IsTrue (all_below RESOURCES self) }
+        ensures few { length (rising self) ≤ RESOURCES }
     {
+        // A look at the word tells the proof that each member is below the number of resources.
         let _ = &self.word;
         Members::of(self)
     }

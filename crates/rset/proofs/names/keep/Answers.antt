@@ -1,5 +1,4 @@
-use Rattle.std.proofs.Common.{◌≡◌, false, cond, [], ◌∷◌, ◌++◌, ap, ◌∙◌}
-use Rattle.std.specs.List.{list_any}
+use Rattle.std.proofs.Common.{cond, [], ◌∷◌, ◌++◌, ap, ◌∙◌}
 use Rattle.rset.specs.Names.{knows}
 use Rattle.rset.specs.Kept.{names_of}
 use Rattle.rset.proofs.KeptLemmas.{kept_knows, kept_push}

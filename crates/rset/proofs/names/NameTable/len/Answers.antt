@@ -1,4 +1,4 @@
-use Rattle.std.proofs.Common.{◌≤◌, arith}
+use Rattle.std.proofs.Common.{arith}
 use Rattle.rset.specs.Kept.{names_of}
 use Rattle.rset.proofs.NameLemmas.{table_length}
 use Rattle.rset.proofs.KeptLemmas.{kept_length}

@@ -1,0 +1,136 @@
+-- Where the reader of a list is in its text, and what one read more says.
+use Rattle.std.proofs.Common.{◌≡◌, ℕ, ◌+◌, Bor, true, false, cond, List, [], ◌∷◌, ◌++◌, length, Option, Some, None, refl, sym, ap, subst, ◌∙◌, arith, append_assoc, length-append}
+use Rattle.std.proofs.lemmas.Bool.{true≢false}
+use Rattle.std.proofs.lemmas.List.{append-nil}
+use Rattle.std.specs.Prelude.{Result, Ok, Err, IfOk}
+use Rattle.csv.specs.Machine.{Read, next_record}
+use Rattle.csv.specs.Reading.{Reached, Ready, ReadRecord, ReadsNext, ReadsOn, NextIs, default_config, source_of, pending_of, strip_bom, reader_trim, reader_config, is_flexible, reader_state}
+use Rattle.csv.specs.declared.parser.Config.{Config}
+use Rattle.csv.specs.declared.parser.State.{State}
+use Rattle.csv.specs.declared.reader.Reader.{Reader}
+use Rattle.csv.specs.declared.parser.State.TheVariants as st
+use Rattle.csv.specs.declared.reader.Trim.TheVariants as trim
+use Rattle.csv.proofs.ReadFacts.{rows-more, rows-end}
+use Rattle.rnlp_cli.specs.Records.{Row, AreRowsOf}
+use Rattle.rnlp_cli.specs.Faults.{first_fault, fault_from, code_of, told_first, has_end, resources_in, tasks_in}
+use Rattle.rnlp_cli.specs.Lists.{IsEventList}
+use Rattle.rnlp_cli.specs.Reading.{HasRead, error_at}
+use Rattle.rnlp_cli.specs.declared.list.EventList.{EventList}
+use Rattle.rnlp_cli.specs.declared.reading.RowErr.{RowErr}
+use Rattle.rnlp_cli.specs.declared.reading.RowErr.TheVariants as row
+use Rattle.rnlp_cli.specs.declared.reading.ListErr.{ListErr}
+use Rattle.rnlp_cli.specs.declared.reading.ListErr.TheVariants as list
+use Rattle.rnlp_cli.specs.declared.list.Code.{Code}
+use Rattle.rnlp_cli.specs.declared.list.Code.TheVariants.{NoEnd}
+use Rattle.rnlp_cli.specs.declared.list.Fault.{Fault}
+use Rattle.rnlp_cli.specs.declared.reading.Reading.{Reading}
+use Rattle.rnlp_cli.proofs.Grammar.{passed, spells, spelled_names}
+use Rattle.rnlp_cli.proofs.Rows.{rows_around}
+
+-- the bytes of a slice that a reader has left
+abbrev known : Bor (List ℕ) → Option (List ℕ)
+known s = Some s.now
+
+-- the reader has read the records `before` of these bytes, none of which has a fault, and has the bytes `left` to go on with
+pub record IsAt (bytes : List ℕ) (reader : Reader (Bor (List ℕ))) (reading : Reading) (line : ℕ) (before : List Row) (left : List ℕ) : Type 0 where
+  pub counted : length before + 1 ≡ line
+  pub reads : HasRead before reading
+  pub trim : reader_trim reader ≡ trim.None
+  pub ready : Ready reader
+  pub config : reader_config reader ≡ default_config
+  pub flexible : is_flexible reader ≡ true
+  pub source : source_of (λ s. Some s.now) reader ≡ Some left
+  pub reached : Reached default_config st.StartRecord (strip_bom bytes) before (reader_state reader) left
+  pub free : (rest : List Row) → first_fault (before ++ rest) ≡ fault_from before rest
+
+-- a record that was found is the next of the bytes that were left
+found_next : (cfg : Config) (s s2 : State) (left : List ℕ) (k : Option (List ℕ)) (fields : Row) → ReadsNext cfg s (Some left) k true fields s2
+    → (p : Read) × (next_record cfg s [] [] left ≡ Some p) × (fields ≡ p.0)
+found_next cfg s s2 left None fields h = absurd h
+found_next cfg s s2 left (Some ys) fields h =
+    elim (next_record cfg s [] [] left) as (λ o. next_record cfg s [] [] left ≡ o → NextIs o true fields s2 ys → (p : Read) × (next_record cfg s [] [] left ≡ Some p) × (fields ≡ p.0)) [
+      | None ↦ λ e n. absurd (true≢false n)
+      | Some p ↦ λ e n. (p, e, n.1)
+    ] refl h
+
+-- the reader after one record more that has no fault
+pub at_more : (bytes : List ℕ) (old new : Reader (Bor (List ℕ))) (was now : Reading) (line : ℕ) (before : List Row) (left : List ℕ) (fields : Row)
+    → IsAt bytes old was line before left → ReadRecord (λ s. Some s.now) old new true fields → ReadsOn old new → code_of before fields ≡ None → HasRead (before ++ fields ∷ []) now
+    → (all : List Row) × (rest : List ℕ) × IsAt bytes new now (line + 1) all rest
+at_more bytes old new was now line before left fields h read on none reads =
+    let more = rows-more (λ (s : Bor (List ℕ)). Some s.now) old new fields default_config st.StartRecord (strip_bom bytes) left before h.config h.source h.reached read in
+    let size = length-append before (fields ∷ []) in
+    let counted = h.counted in (
+      before ++ fields ∷ [],
+      more.0,
+      record {
+        counted = omega arith;
+        reads = reads;
+        trim = on.1 ∙ h.trim;
+        ready = (on.4 h.ready).0;
+        config = on.0 ∙ h.config;
+        flexible = on.2 ∙ h.flexible;
+        source = more.1;
+        reached = more.2;
+        free = λ rest. ap first_fault (append_assoc before (fields ∷ []) rest) ∙ h.free (fields ∷ rest) ∙ passed before fields rest none;
+      },
+    )
+
+-- the end of the text
+pub at_end : (bytes : List ℕ) (old new : Reader (Bor (List ℕ))) (was : Reading) (line : ℕ) (before : List Row) (left : List ℕ) (fields : Row)
+    → IsAt bytes old was line before left → ReadRecord (λ s. Some s.now) old new false fields → AreRowsOf bytes before
+at_end bytes old new was line before left fields h read =
+    (old.state, left, h.reached, rows-end (λ (s : Bor (List ℕ)). Some s.now) old new fields default_config left h.config h.source read ∙ refl)
+
+-- a record that has a fault is the first that has one
+pub at_fault : (bytes : List ℕ) (old new : Reader (Bor (List ℕ))) (was : Reading) (line : ℕ) (before : List Row) (left : List ℕ) (fields : Row) (code : Code)
+    → IsAt bytes old was line before left → ReadRecord (λ s. Some s.now) old new true fields → code_of before fields ≡ Some code
+    → (rows : List Row) × AreRowsOf bytes rows × (first_fault rows ≡ Some (record { line = line; code = code }))
+unfolding fault_from
+at_fault bytes old new was line before left fields code h read bad =
+    let next = found_next default_config old.state new.state left (pending_of (Some new.rdr.now) new) fields (rw (h.config, h.source) at read.0) in
+    let around = rows_around default_config st.StartRecord old.state (strip_bom bytes) left before next.0 h.reached next.1 in (
+      before ++ next.0.0 ∷ around.0,
+      around.1,
+      h.free (next.0.0 ∷ around.0)
+          ∙ ap (λ c. told_first before c (fault_from (before ++ next.0.0 ∷ []) around.0)) (ap (code_of before) (sym next.2) ∙ bad)
+          ∙ ap (λ n. Some (record { line = n; code = code })) h.counted,
+    )
+
+-- records that end without `end`
+pub no_end : (bytes : List ℕ) (reader : Reader (Bor (List ℕ))) (was : Reading) (line : ℕ) (before : List Row) (left : List ℕ)
+    → IsAt bytes reader was line before left → has_end before ≡ false → first_fault before ≡ Some (record { line = line; code = NoEnd })
+unfolding fault_from
+no_end bytes reader was line before left h none =
+    ap first_fault (sym (append-nil before)) ∙ h.free []
+    ∙ ap (λ b. cond b None (Some (record { line = length before + 1; code = NoEnd }))) none
+    ∙ ap (λ n. Some (record { line = n; code = NoEnd })) h.counted
+
+-- records that end with `end` are those of a list
+pub whole : (bytes : List ℕ) (reader : Reader (Bor (List ℕ))) (was : Reading) (line : ℕ) (before : List Row) (left : List ℕ)
+    → IsAt bytes reader was line before left → has_end before ≡ true → IsEventList before (resources_in before) (tasks_in before)
+unfolding fault_from
+whole bytes reader was line before left h ended =
+    let none : first_fault before ≡ None =
+    ap first_fault (sym (append-nil before)) ∙ h.free [] ∙ ap (λ b. cond b None (Some (record { line = length before + 1; code = NoEnd }))) ended in
+    let list = spells before none in
+    let names = spelled_names before list.0 list.1 list.2 in
+    subst (λ tasks. IsEventList before (resources_in before) tasks) (sym names.1) (subst (λ resources. IsEventList before resources list.1) (sym names.0) list.2)
+
+-- what `read_list` says at `Ok`, from what the reader's end says there
+pub list_ok : (r : Result EventList ListErr) (bytes : List ℕ) (reading : Reading) (before : List Row) → AreRowsOf bytes before → HasRead before reading
+    → (has_end before ≡ true → IsEventList before (resources_in before) (tasks_in before))
+    → IfOk r (λ list. (b : List Row) → HasRead b reading → (has_end b ≡ true) × (list.resources ≡ resources_in b) × (list.tasks ≡ tasks_in b))
+    → IfOk r (λ list. (rows : List Row) × AreRowsOf bytes rows × IsEventList rows list.resources list.tasks)
+list_ok (Ok list) bytes reading before rows read spelled h =
+    let is = h before read in
+    (before, rows, subst (λ tasks. IsEventList before list.resources tasks) (sym is.2) (subst (λ resources. IsEventList before resources (tasks_in before)) (sym is.1) (spelled is.0)))
+list_ok (Err e) bytes reading before rows read spelled h = tt
+
+pub err_is : {T E : Type 0} {x y : E} → ◌≡◌ {A = Result T E} (Err x) (Err y) → x ≡ y
+err_is {T} {E} {x} {y} e = cc
+
+-- the fault that a record's error makes is at its line and has its code
+pub bad_at : (line : ℕ) (e : RowErr) (fault : Fault) → error_at line e ≡ list.Bad fault → (code : Code) × (e ≡ row.Bad code) × (fault ≡ record { line = line; code = code })
+bad_at line (row.Bad code) fault h = (code, refl, cc)
+bad_at line row.Memory fault h = cc

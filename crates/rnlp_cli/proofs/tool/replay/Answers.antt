@@ -1,0 +1,6 @@
+use Rattle.std.proofs.Common.{Err, ap}
+use Rattle.rnlp_cli.proofs.Outcomes.{refused}
+use Rattle.rnlp_cli.proofs.tool.replay.Goals as goal
+
+pub returns-in-Err-Bad : goal.returns-in-Err-Bad
+returns-in-Err-Bad g c = refused c.args.bytes.now c.in-Err-Bad.fault _ _ _ _ c.refuse.result c.refuse.ensures (c.in-Err-Bad.ensures.fault c.in-Err-Bad.fault (ap Err c.in-Err-Bad.field-0-is))

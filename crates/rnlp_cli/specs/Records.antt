@@ -1,0 +1,40 @@
+-- The records of a text, and what each of them is.
+use Rattle.std.specs.Prelude.{ℕ, List, [], ◌∷◌, ◌&&◌, codes, if◌then◌else◌}
+use Rattle.std.specs.Str.{bytes_eq}
+use Rattle.csv.specs.Reading.{AreRecords, default_config, strip_bom}
+use Rattle.csv.specs.declared.parser.State.TheVariants as st
+use Rattle.rnlp_cli.specs.declared.record.Word.{Word}
+use Rattle.rnlp_cli.specs.declared.record.Word.TheVariants.{Version, Resource, Task, End, Unknown}
+
+-- the fields of a record
+abbrev pub Row : Type 0
+Row = List (List ℕ)
+
+-- these are the records of a text, as CSV is read
+abbrev pub AreRowsOf : List ℕ → List Row → Type 0
+AreRowsOf bytes rows = AreRecords default_config st.StartRecord (strip_bom bytes) rows
+
+-- the second field, or nothing
+abbrev pub second_of : Row → List ℕ
+second_of [] = []
+second_of (first ∷ []) = []
+second_of (first ∷ second ∷ fields) = second
+
+-- what a record of one field is
+abbrev pub word_alone : List ℕ → Word
+word_alone first = if bytes_eq first (codes "end") then End else Unknown
+
+-- what a record of two fields is
+abbrev pub word_with : List ℕ → List ℕ → Word
+word_with first second =
+    if bytes_eq first (codes "resource") then Resource
+    else if bytes_eq first (codes "task") then Task
+    else if bytes_eq first (codes "rnlp") && bytes_eq second (codes "1") then Version
+    else Unknown
+
+-- what a record is
+unfoldable pub word_of : Row → Word
+word_of [] = Unknown
+word_of (first ∷ []) = word_alone first
+word_of (first ∷ second ∷ []) = word_with first second
+word_of (first ∷ second ∷ third ∷ fields) = Unknown

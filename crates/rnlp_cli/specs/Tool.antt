@@ -1,0 +1,88 @@
+-- What the tools answer.
+use Rattle.std.specs.Prelude.{◌≡◌, ℕ, List, Option, Some, None, ⊤}
+use Rattle.rnlp_cli.specs.Records.{Row, AreRowsOf}
+use Rattle.rnlp_cli.specs.Lists.{IsEventList}
+use Rattle.rnlp_cli.specs.Faults.{first_fault}
+use Rattle.rnlp_cli.specs.Report.{report_text}
+use Rattle.rnlp_cli.specs.Text.{error_line}
+use Rattle.io_ends.specs.Ends.{Appends, AppendsPrefix}
+use Rattle.rnlp_cli.specs.declared.list.EventList.{EventList}
+use Rattle.rnlp_cli.specs.declared.list.Fault.{Fault}
+use Rattle.rnlp_cli.specs.declared.words.Command.{Command}
+use Rattle.rnlp_cli.specs.declared.words.Command.TheVariants.{Replay}
+use Rattle.rnlp_cli.specs.declared.status.ToolStatus.{ToolStatus}
+use Rattle.rnlp_cli.specs.declared.status.ToolStatus.TheVariants as status
+
+-- these bytes spell this event list
+abbrev pub Spells : List ℕ → EventList → Type 0
+Spells bytes list = (rows : List Row) × AreRowsOf bytes rows × IsEventList rows list.resources list.tasks
+
+-- the output of a command for this input: `replay` writes the report of the list that the bytes spell
+abbrev pub IsOutput : Option Command → List ℕ → List ℕ → Type 0
+IsOutput None bytes text = ⊥
+IsOutput (Some Replay) bytes text = (list : EventList) × Spells bytes list × (text ≡ report_text list)
+
+-- the first fault of an input
+abbrev pub IsFault : Option Command → List ℕ → Fault → Type 0
+IsFault None bytes fault = ⊥
+IsFault (Some Replay) bytes fault = (rows : List Row) × AreRowsOf bytes rows × (first_fault rows ≡ Some fault)
+
+-- the answers after which the source was read to its end
+abbrev pub IsRead : ToolStatus → Type 0
+IsRead status.Done = ⊤
+IsRead status.WriteFault = ⊤
+IsRead status.Trace = ⊤
+IsRead status.Words = ⊥
+IsRead status.ReadFault = ⊥
+IsRead status.Script = ⊥
+IsRead status.TooLong = ⊥
+IsRead status.NoMemory = ⊥
+
+-- the answers after which nothing was written
+abbrev pub IsSilent : ToolStatus → Type 0
+IsSilent status.Words = ⊤
+IsSilent status.ReadFault = ⊤
+IsSilent status.TooLong = ⊤
+IsSilent status.NoMemory = ⊤
+IsSilent status.Done = ⊥
+IsSilent status.WriteFault = ⊥
+IsSilent status.Script = ⊥
+IsSilent status.Trace = ⊥
+
+-- the line of a fault was written: whole, where the sink did not fail, and else a front part of it
+abbrev pub LineWritten : Fault → Option (List ℕ) → Option (List ℕ) → Type 0 → Type 0
+LineWritten fault before after failed = AppendsPrefix before after (error_line fault) × (¬ failed → Appends before after (error_line fault))
+
+-- how the writing of an output ended: `failed` says that the sink failed in the call, and `same` that it is as it was
+abbrev pub IsWritten : List ℕ → Option (List ℕ) → Option (List ℕ) → Type 0 → Type 0 → ToolStatus → Type 0
+IsWritten text before after failed same status.Done = Appends before after text
+IsWritten text before after failed same status.WriteFault = failed × AppendsPrefix before after text
+IsWritten text before after failed same status.NoMemory = same
+IsWritten text before after failed same status.Words = ⊥
+IsWritten text before after failed same status.ReadFault = ⊥
+IsWritten text before after failed same status.Script = ⊥
+IsWritten text before after failed same status.TooLong = ⊥
+IsWritten text before after failed same status.Trace = ⊥
+
+-- how the telling of a fault ended
+abbrev pub IsRefused : Fault → Option (List ℕ) → Option (List ℕ) → Type 0 → Type 0 → ToolStatus → Type 0
+IsRefused fault before after failed same status.Trace = LineWritten fault before after failed
+IsRefused fault before after failed same status.NoMemory = same
+IsRefused fault before after failed same status.Done = ⊥
+IsRefused fault before after failed same status.WriteFault = ⊥
+IsRefused fault before after failed same status.Words = ⊥
+IsRefused fault before after failed same status.ReadFault = ⊥
+IsRefused fault before after failed same status.Script = ⊥
+IsRefused fault before after failed same status.TooLong = ⊥
+
+-- how a command ended whose input was these bytes
+abbrev pub IsAnswer : Option Command → List ℕ → Option (List ℕ) → Option (List ℕ) → Type 0 → Type 0 → ToolStatus → Type 0
+IsAnswer command bytes before after failed same status.Done = (text : List ℕ) × IsOutput command bytes text × Appends before after text
+IsAnswer command bytes before after failed same status.WriteFault = failed × (text : List ℕ) × IsOutput command bytes text × AppendsPrefix before after text
+IsAnswer command bytes before after failed same status.Trace =
+    ((text : List ℕ) → ¬ IsOutput command bytes text) × (fault : Fault) × IsFault command bytes fault × LineWritten fault before after failed
+IsAnswer command bytes before after failed same status.NoMemory = same
+IsAnswer command bytes before after failed same status.Words = ⊥
+IsAnswer command bytes before after failed same status.ReadFault = ⊥
+IsAnswer command bytes before after failed same status.Script = ⊥
+IsAnswer command bytes before after failed same status.TooLong = ⊥

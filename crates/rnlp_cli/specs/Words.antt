@@ -1,0 +1,11 @@
+-- The forms of the program's words.
+use Rattle.std.specs.Prelude.{ℕ, List, [], ◌∷◌, Option, Some, None, codes, if◌then◌else◌}
+use Rattle.std.specs.Str.{bytes_eq}
+use Rattle.rnlp_cli.specs.declared.words.Command.{Command}
+use Rattle.rnlp_cli.specs.declared.words.Command.TheVariants.{Replay}
+
+-- what these words ask for, if anything
+abbrev pub command_in : List (List ℕ) → Option Command
+command_in [] = None
+command_in (word ∷ []) = if bytes_eq word (codes "replay") then Some Replay else None
+command_in (word ∷ next ∷ words) = None

@@ -1,0 +1,22 @@
+// How a tool ended.
+
+/// How a tool ended. Its number is the exit status of the program.
+#[derive(Clone, Copy, Debug, PartialEq, Eq)]
+pub enum ToolStatus {
+    /// The whole output was written.
+    Done = 0,
+    /// The words are no form of this call; nothing was read and nothing written.
+    Words = 2,
+    /// The source failed; nothing was written.
+    ReadFault = 3,
+    /// The sink failed; a front part of the output was written.
+    WriteFault = 4,
+    /// The input is no script; its first fault was written.
+    Script = 5,
+    /// The input is longer than its limit; nothing was written.
+    TooLong = 6,
+    /// Memory ran out; nothing was written.
+    NoMemory = 7,
+    /// The input is no event list or no right report; its first fault was written.
+    Trace = 8,
+}
