@@ -1,0 +1,2 @@
+pub mod InTurnLemmas
+pub mod ValueLemmas

@@ -1,0 +1,5 @@
+pub mod InTurn
+pub mod Ledgers
+pub mod Acts
+pub mod Entries
+pub mod Histories

@@ -1,0 +1,39 @@
+// Values that sections edit and show.
+ghost use Rattle.std.specs.Prelude.{◌≡◌, ℕ, Bool, false, IfOk};
+
+use std::alloc::{AllocError, Global};
+
+/// A value that sections edit, show and copy.
+pub trait Editable {
+    /// A change of the value.
+    type Edit;
+
+    // the value after an edit
+    ghost after: { Self → Self.Edit → Self };
+
+    // whether the value takes the edit
+    ghost taken: { Self → Self.Edit → Bool };
+
+    // the number that a show of the value tells
+    ghost number: { Self → ℕ };
+
+    /// Edits the value, and answers whether the edit was taken. An edit that is not taken leaves the value. No memory is taken.
+    fn apply(&mut self, edit: &Self::Edit) -> bool
+        ensures after { self.new ≡ after self.old edit.now }
+        ensures taken { result ≡ taken self.old edit.now };
+
+    /// An equal value.
+    ///
+    /// # Errors
+    ///
+    /// Want of memory.
+    fn copy(&self, alloc: Global) -> Result<Self, AllocError>
+        ensures { IfOk result (λ copy. copy ≡ self.now) };
+
+    /// The number that a show of the value tells. No memory is taken.
+    fn shown(&self) -> u64
+        ensures { result ≡ number self.now };
+
+    // an edit that is not taken leaves the value
+    ghost untaken: { (value : Self) (edit : Self.Edit) → taken value edit ≡ false → after value edit ≡ value };
+}

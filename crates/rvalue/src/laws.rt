@@ -1,0 +1,28 @@
+//! Laws of histories, each the contract of a function that does nothing: how values and answers go on.
+ghost use Rattle.std.specs.Prelude.{◌≡◌, ◌↔◌, ℕ, List, [], ◌∷◌, ◌++◌};
+ghost use Rattle.rvalue.specs.declared.act.Act.{Act};
+ghost use Rattle.rvalue.specs.Acts.{AnswersAreRight, IsAnsweredAfter};
+ghost use Rattle.rvalue.specs.Entries.{EntryFields, value_after_entry};
+ghost use Rattle.rvalue.specs.Histories.{value_of, HistoryAnswersRightly, EntryAnswersRightly};
+
+use crate::Editable;
+
+/// After one more entry a resource has the value from before, with the entry's own edits on it.
+pub fn values_go_on<T: Editable>()
+    ensures { (opening : T) (entries : List (EntryFields T.Edit)) (entry : EntryFields T.Edit) (l : ℕ) →
+        value_of T.after opening (entries ++ entry ∷ []) l ≡ value_after_entry T.after (value_of T.after opening entries l) entry l }
+{}
+
+/// The answers in an entry with one more act are right exactly where those before are, and that of the act is after them.
+pub fn acts_go_on<T: Editable>()
+    ensures { (values : ℕ → T) (acts : List (Act T.Edit)) (act : Act T.Edit) →
+        AnswersAreRight T.after T.taken T.number values (acts ++ act ∷ [])
+        ↔ (AnswersAreRight T.after T.taken T.number values acts × IsAnsweredAfter T.after T.taken T.number values acts act) }
+{}
+
+/// The answers in a history with one more entry are right exactly where those before are, and those of the entry are after it.
+pub fn entries_go_on<T: Editable>()
+    ensures { (openings : ℕ → T) (entries : List (EntryFields T.Edit)) (entry : EntryFields T.Edit) →
+        HistoryAnswersRightly T.after T.taken T.number openings (entries ++ entry ∷ [])
+        ↔ (HistoryAnswersRightly T.after T.taken T.number openings entries × EntryAnswersRightly T.after T.taken T.number openings entries entry) }
+{}

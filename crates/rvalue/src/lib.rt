@@ -1,0 +1,27 @@
+//! Ledgers, acts and the history: what sections edit, and what the lock keeps of it.
+//!
+//! A value that sections edit is [`Editable`]; a [`Ledger`] is one, with the edits of [`Edit`].
+//! An [`Act`] is one edit or show of a section with its answer, an [`Entry`] an event with its acts,
+//! and the [`History`] the list of all entries, with room made beforehand.
+#![tactic(auto)]
+
+mod act;
+mod editable;
+mod entry;
+mod history;
+pub mod laws;
+mod ledger;
+#[cfg(test)]
+mod tests;
+
+pub use act::Act;
+pub use editable::Editable;
+pub use entry::Entry;
+pub use history::History;
+pub use ledger::{Edit, Ledger};
+
+/// The greatest balance that an edit may leave in a ledger.
+pub const BALANCE_LIMIT: u64 = 1_000_000_000_000_000_000;
+
+/// How many edits a ledger counts; after that it takes none.
+pub const EDITS_LIMIT: u64 = u64::MAX;
