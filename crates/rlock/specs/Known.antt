@@ -1,0 +1,59 @@
+-- What contracts see of a gate, a pass and a turn.
+use Rattle.std.specs.Prelude.{◌≡◌, ℕ, ◌+◌, ◌==◌, List, [], ◌++◌, filter, length, drop, All}
+use mathlib.Core.List.{IsPrefix}
+use Rattle.atomic_table.specs.Seated.{TableId}
+
+-- which gate it is, and how many passes it has
+pub record Site : Type 0 where
+  pub gate : TableId
+  pub passes : ℕ
+
+-- A pass: its gate, its number, the opening of the state behind the gate, the history as it was seen last, the entries of it that the pass made, and how many turns it has had
+pub record Known (O E : Type 0) : Type 0 where
+  pub gate : TableId
+  pub number : ℕ
+  pub opening : O
+  pub seen : List E
+  pub mine : List E
+  pub turns : ℕ
+
+-- a turn: the pass that has it, which has seen the history as it was at the entry, and the state
+pub record Taken (S O E : Type 0) : Type 0 where
+  pub pass : Known O E
+  pub state : S
+
+-- a pass that has had no turn
+abbrev pub newcomer : {O E : Type 0} → TableId → ℕ → O → Known O E
+newcomer gate n o = record { gate = gate; number = n; opening = o; seen = []; mine = []; turns = 0 }
+
+module _ {E : Type 0} (number : E → ℕ) where
+  -- the entries of the pass n, in their order
+  abbrev pub entries_by : ℕ → List E → List E
+  entries_by n entries = filter (λ e. number e == n) entries
+
+  -- the list has new entries behind those that were seen, all of them of the pass n
+  abbrev pub Appends : ℕ → List E → List E → Type 0
+  Appends n seen entries = (more : List E) × (entries ≡ seen ++ more) × All (λ e. number e ≡ n) more
+
+-- what stands behind the entries that were seen
+abbrev pub new_entries : {E : Type 0} → List E → List E → List E
+new_entries seen entries = drop (length seen) entries
+
+-- what the pass knows is true of this opening and this list
+pub record IsTrueOf {O E : Type 0} (number : E → ℕ) (pass : Known O E) (o : O) (entries : List E) : Type 0 where
+  pub opening : o ≡ pass.opening
+  pub begins : IsPrefix pass.seen entries
+  pub own : entries_by number pass.number entries ≡ pass.mine
+
+-- the turn with this state
+abbrev pub with_state : {S O E : Type 0} → Taken S O E → S → Taken S O E
+with_state turn state = record turn { state = state }
+
+module _ {O E : Type 0} where
+  -- a pass after it has entered: it has seen the list that it found, and has had one turn more
+  abbrev pub entered : Known O E → List E → Known O E
+  entered pass found = record pass { seen = found; turns = pass.turns + 1 }
+
+  -- a pass after it has left this list: it has seen it, and the new entries are its own too
+  abbrev pub left : Known O E → List E → Known O E
+  left pass list = record pass { seen = list; mine = pass.mine ++ new_entries pass.seen list }

@@ -1,0 +1,4 @@
+pub mod Known
+pub mod Views
+pub mod Rule
+pub mod Steps

@@ -1,0 +1,76 @@
+-- The view of a pass, and what is read from a view.
+use Rattle.std.specs.Prelude.{ℕ, ◌+◌, ◌-◌, ◌==◌, Bool, true, false, List, [], ◌∷◌, ◌++◌, map, count_by, sum_by}
+use Rattle.std.proofs.Common.{zero, suc}
+use Rattle.atomic_table.specs.Seated.{TableId}
+use Rattle.rlock.specs.declared.view.View.{View}
+use Rattle.rlock.specs.declared.view.Member.{Member}
+use Rattle.rlock.specs.declared.view.Mode.{Mode}
+use Rattle.rlock.specs.declared.view.Mode.TheVariants.{Idle, Waiting, Served, Putting}
+use Rattle.rlock.specs.Known.{Known}
+
+-- how often a number stands in a list
+abbrev pub times : ℕ → List ℕ → ℕ
+times n xs = count_by (λ k. k == n) xs
+
+-- the ticket, if there is one
+abbrev pub ticket_of : Mode → List ℕ
+ticket_of Idle = []
+ticket_of (Waiting t) = t ∷ []
+ticket_of (Served t) = t ∷ []
+ticket_of (Putting t) = t ∷ []
+
+abbrev pub has_turn : Mode → Bool
+has_turn Idle = false
+has_turn (Waiting t) = false
+has_turn (Served t) = true
+has_turn (Putting t) = true
+
+-- the numbers from `first` on, of which there are `count`
+abbrev pub numbers_from : ℕ → ℕ → List ℕ
+numbers_from first zero = []
+numbers_from first (suc count) = first ∷ numbers_from (first + 1) count
+
+module _ {O E : Type 0} where
+  -- the numbers of a view: its own, those that were joined into it, and those that it has still to give out
+  abbrev pub numbers_of : View O E → List ℕ
+  numbers_of v = map (λ (m : Member O E). m.number) v.members ++ v.unmade
+
+  -- in how many views the number stands, and in how many the ticket
+  abbrev pub holders : ℕ → List (View O E) → ℕ
+  holders n views = sum_by (λ (v : View O E). times n (numbers_of v)) views
+
+  abbrev pub drawers : ℕ → List (View O E) → ℕ
+  drawers t views = sum_by (λ (v : View O E). times t (ticket_of v.mode)) views
+
+  abbrev pub turns_taken : List (View O E) → ℕ
+  turns_taken views = count_by (λ (v : View O E). has_turn v.mode) views
+
+  -- the view of a pass that has given out all numbers and joined none
+  abbrev pub pass_view : Mode → Known O E → View O E
+  pass_view mode k = record {
+    mode = mode;
+    turns = k.turns;
+    seen = k.seen;
+    members = record { number = k.number; opening = k.opening; mine = k.mine } ∷ [];
+    unmade = [];
+    olds = [];
+  }
+
+  -- the view of the pass 0, which gives out the other numbers
+  abbrev pub first_view : ℕ → O → View O E
+  first_view passes o = record {
+    mode = Idle;
+    turns = 0;
+    seen = [];
+    members = record { number = 0; opening = o; mine = [] } ∷ [];
+    unmade = numbers_from 1 (passes - 1);
+    olds = [];
+  }
+
+  abbrev pub mine_of : List (Member O E) → List E
+  mine_of [] = []
+  mine_of (m ∷ ms) = m.mine
+
+  -- a pass by its gate, its number, its opening and its view
+  abbrev pub known_from : TableId → ℕ → O → View O E → Known O E
+  known_from gate n o v = record { gate = gate; number = n; opening = o; seen = v.seen; mine = mine_of v.members; turns = v.turns }

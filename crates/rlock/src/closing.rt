@@ -1,0 +1,44 @@
+//! How a gate is closed.
+ghost use Rattle.std.specs.Prelude.{◌≡◌, ℕ, ◌<◌, All, Any};
+ghost use Rattle.rlock.specs.Known.{IsTrueOf};
+
+use crate::board::{Board, Place};
+use crate::gate::Gate;
+use crate::kept::Kept;
+use crate::pass::Pass;
+use crate::plays::TakeIn;
+use std::alloc::Global;
+
+impl<S: Kept> Gate<S> {
+    /// Takes all passes of the gate, and gives back the state.
+    ///
+    /// What each of them knows is true of the state, and each entry was made by one of them.
+    pub fn close(self, mut passes: Vec<Pass<S>>) -> S
+        requires gate { All (λ p. p.gate ≡ self.gate) passes.items }
+        requires all { (n : ℕ) → n < self.passes → Any (λ p. p.number ≡ n) passes.items }
+        ensures passes { All (λ p. IsTrueOf S.number p (S.opening result) (S.entries result)) passes.items }
+        ensures entries { All (λ e. S.number e < self.passes) (S.entries result) }
+    {
+        let last = passes.pop().unwrap();
+        self.close_and(passes, last)
+    }
+
+    // The same for these passes and the last one together.
+    fn close_and(self, passes: Vec<Pass<S>>, last: Pass<S>) -> S {
+        let Gate { board } = self;
+        let Pass { place, .. } = last;
+        let place = taken_in(&board, passes, place);
+        let mut closed = board.close_with(place);
+        let state = closed.take(0);
+        closed.free();
+        state.unwrap()
+    }
+}
+
+fn taken_in<S: Kept>(board: &Board<S>, passes: Vec<Pass<S>>, mut place: Place<S>) -> Place<S> {
+    for pass in passes {
+        let Pass { place: other, .. } = pass;
+        board.shared.join_seat::<TakeIn>(&mut place, other);
+    }
+    place
+}
