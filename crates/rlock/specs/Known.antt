@@ -41,7 +41,7 @@ new_entries seen entries = drop (length seen) entries
 
 -- what the pass knows is true of this opening and this list
 pub record IsTrueOf {O E : Type 0} (number : E → ℕ) (pass : Known O E) (o : O) (entries : List E) : Type 0 where
-  pub opening : o ≡ pass.opening
+  pub its_opening : o ≡ pass.opening
   pub begins : IsPrefix pass.seen entries
   pub own : entries_by number pass.number entries ≡ pass.mine
 

@@ -1,69 +1,88 @@
--- What each step tells, and how views are cut and joined.
-use Rattle.std.specs.Prelude.{◌≡◌, ◌≢◌, ℕ, ◌+◌, ◌%◌, ◌^◌, Option, Some, None, List, [], ◌∷◌, ◌++◌, length, nat_lt, if◌then◌else◌}
-use Rattle.std.proofs.Common.{zero, suc}
-use Rattle.atomic_table.specs.Table.{Me, Step}
+-- The kinds of atomic step: what each does to the view of the pass that takes it, and what it tells.
+use Rattle.std.specs.Prelude.{◌≡◌, ◌≢◌, ℕ, ◌+◌, ◌%◌, ◌^◌, Option, Some, None, List, [], ◌∷◌, ◌++◌, length, nat_lt, if◌then◌else◌, All}
+use mathlib.Core.List.{IsPrefix}
+use Rattle.atomic_table.specs.Table.{Me, Step, rest}
 use Rattle.atomic_table.specs.Seated.{TableId}
 use Rattle.atomic_table.specs.declared.shared.Seat.{Seat}
 use Rattle.rlock.specs.declared.view.View.{View}
 use Rattle.rlock.specs.declared.view.Member.{Member}
-use Rattle.rlock.specs.declared.view.Mode.{Mode}
 use Rattle.rlock.specs.declared.view.Mode.TheVariants.{Idle, Waiting, Served, Putting}
-use Rattle.rlock.specs.Known.{Known, IsTrueOf, new_entries}
+use Rattle.rlock.specs.Known.{Known, entries_by, new_entries}
 use Rattle.rlock.specs.Views.{pass_view}
 
 -- two words, and one slot
 abbrev pub IsSized : TableId → Type 0
 IsSized id = (id.words ≡ 2) × (id.slots ≡ 1)
 
-module _ {S O E : Type 0} where
-  -- the pass draws a ticket
-  abbrev pub drew : Step (Option S) → Me (Option S) (View O E) → ℕ → Me (Option S) (View O E) → Type 0
-  drew st me found me' = (k : Known O E) → me ≡ (pass_view Idle k, [])
-      → (t : ℕ) × (t % 2 ^ 64 ≡ found) × (me' ≡ (pass_view (Waiting t) (record k { turns = k.turns + 1 }), []))
-
-  -- the ticket is served where the word is that ticket: then the slot is taken, and what the pass knows is true of the state in it
-  abbrev pub looked : (S → O) → (S → List E) → (E → ℕ) → Step (Option S) → Me (Option S) (View O E) → ℕ → Me (Option S) (View O E) → Type 0
-  looked opening entries number st me found me' = (k : Known O E) (t : ℕ) → me ≡ (pass_view (Waiting t) k, [])
-      → (found ≡ t % 2 ^ 64 → (state : S) × (me' ≡ (pass_view (Served t) (record k { seen = entries state }), (0, Some state) ∷ [])) × IsTrueOf number k (opening state) (entries state))
-      × (found ≢ t % 2 ^ 64 → me' ≡ me)
-
-  -- the new list is the kept one
-  abbrev pub noted : List E → Step (Option S) → Me (Option S) (View O E) → ℕ → Me (Option S) (View O E) → Type 0
-  noted list st me found me' = (k : Known O E) (t : ℕ) → me.0 ≡ pass_view (Served t) k
-      → me' ≡ (pass_view (Putting t) (record k { seen = list; mine = k.mine ++ new_entries k.seen list }), me.1)
-
-  -- the state is back in its place
-  abbrev pub returned : Step (Option S) → Me (Option S) (View O E) → ℕ → Me (Option S) (View O E) → Type 0
-  returned st me found me' = (k : Known O E) (t : ℕ) → me.0 ≡ pass_view (Putting t) k → me' ≡ (pass_view Idle k, [])
-
 abbrev pub without_first : List ℕ → List ℕ
 without_first [] = []
 without_first (n ∷ ns) = ns
 
-abbrev pub longer : {E : Type 0} → List E → List E → List E
-longer xs ys = if nat_lt (length xs) (length ys) then ys else xs
-
 module _ {O E : Type 0} where
-  -- a pass with the first of these numbers, which has made nothing
+  -- the view with a new ticket
+  abbrev pub drawing : ℕ → View O E → View O E
+  drawing t v = record v { mode = Waiting t; turns = v.turns + 1 }
+
+  -- the view whose ticket is served, and which has seen this list
+  abbrev pub serving : ℕ → List E → View O E → View O E
+  serving t list v = record v { mode = Served t; seen = list }
+
+  abbrev pub with_more : List E → List (Member O E) → List (Member O E)
+  with_more more [] = []
+  with_more more (m ∷ ms) = record m { mine = m.mine ++ more } ∷ ms
+
+  -- the view whose list is the kept one, and whose pass has made what is new in it
+  abbrev pub putting : ℕ → List E → View O E → View O E
+  putting t list v = record v { mode = Putting t; seen = list; members = with_more (new_entries v.seen list) v.members }
+
+  -- the view without its ticket
+  abbrev pub resting : View O E → View O E
+  resting v = record v { mode = Idle }
+
   abbrev pub next_member : List ℕ → List (Member O E) → List (Member O E)
   next_member (n ∷ ns) (m ∷ ms) = record { number = n; opening = m.opening; mine = [] } ∷ []
   next_member _ _ = []
 
-  -- a view that has given out its least number, and the view that has this number
-  abbrev pub giver : View O E → View O E
-  giver v = record v { unmade = without_first v.unmade }
+  -- the view that has given out its least number, and the view that has it
+  abbrev pub giving : View O E → View O E
+  giving v = record v { unmade = without_first v.unmade }
 
   abbrev pub given : View O E → View O E
   given v = record { mode = Idle; turns = 0; seen = v.seen; members = next_member v.unmade v.members; unmade = []; olds = [] }
 
   -- the view v with what w knows, and what w is then
   abbrev pub joined : View O E → View O E → View O E
-  joined v w = record v { seen = longer v.seen w.seen; members = v.members ++ w.members; olds = v.olds ++ (v.seen ∷ w.seen ∷ w.olds) }
+  joined v w = record v { seen = (if nat_lt (length v.seen) (length w.seen) then w.seen else v.seen); members = v.members ++ w.members; unmade = v.unmade ++ w.unmade; olds = v.olds ++ (v.seen ∷ w.seen ∷ w.olds) }
 
   abbrev pub spent : View O E
   spent = record { mode = Idle; turns = 0; seen = []; members = []; unmade = []; olds = [] }
 
+  -- what the view knows is true of this opening and this list
+  pub record Holds (number : E → ℕ) (v : View O E) (o : O) (list : List E) : Type 0 where
+    pub openings : All (λ (m : Member O E). m.opening ≡ o) v.members
+    pub seen : IsPrefix v.seen list
+    pub olds : All (λ old. IsPrefix old list) v.olds
+    pub made : All (λ (m : Member O E). entries_by number m.number list ≡ m.mine) v.members
+
 module _ {S O E : Type 0} where
+  -- the pass has drawn the ticket that was found, and no other pass will draw it
+  abbrev pub drew : Step (Option S) → Me (Option S) (View O E) → ℕ → Me (Option S) (View O E) → Type 0
+  drew st me found me' = (t : ℕ) × (t % 2 ^ 64 ≡ found) × (me' ≡ (drawing t me.0, me.1))
+
+  -- the ticket is served where the word is that ticket: then the slot is taken, and what the view knows is true of the state in it. Else nothing changes
+  abbrev pub looked : (S → O) → (S → List E) → (E → ℕ) → Step (Option S) → Me (Option S) (View O E) → ℕ → Me (Option S) (View O E) → Type 0
+  looked opening entries number st me found me' = (t : ℕ) → me.0.mode ≡ Waiting t
+      → (found ≡ t % 2 ^ 64 → (state : S) × (me' ≡ (serving t (entries state) me.0, (0, Some state) ∷ me.1)) × Holds number me.0 (opening state) (entries state))
+      × (found ≢ t % 2 ^ 64 → me' ≡ me)
+
+  -- this list is the kept one
+  abbrev pub noted : List E → Step (Option S) → Me (Option S) (View O E) → ℕ → Me (Option S) (View O E) → Type 0
+  noted list st me found me' = (t : ℕ) → me.0.mode ≡ Served t → me' ≡ (putting t list me.0, me.1)
+
+  -- the state is in its place, and the next ticket is served
+  abbrev pub returned : Step (Option S) → Me (Option S) (View O E) → ℕ → Me (Option S) (View O E) → Type 0
+  returned st me found me' = me' ≡ (resting me.0, rest me.1)
+
   -- the seat is that of this pass, and rests
   abbrev pub Rests : Seat (Option S) (View O E) → Known O E → Type 0
   Rests seat k = seat.me ≡ (pass_view Idle k, [])

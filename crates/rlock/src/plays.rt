@@ -1,6 +1,6 @@
 //! What each step on the table tells, and how passes are split and joined.
 ghost use Rattle.std.specs.Prelude.{List, []};
-ghost use Rattle.rlock.specs.Steps.{drew, looked, noted, returned, giver, given, joined, spent};
+ghost use Rattle.rlock.specs.Steps.{drew, looked, noted, returned, giving, given, joined, spent};
 
 use crate::kept::Kept;
 use crate::view::View;
@@ -50,7 +50,7 @@ impl<S: Kept> Play<Option<S>, View<S::Opening, S::Entry>> for Return {
 pub(crate) struct GiveOut;
 
 impl<O, E> Split<View<O, E>> for GiveOut {
-    ghost left = { giver };
+    ghost left = { giving };
 
     ghost right = { given };
 }

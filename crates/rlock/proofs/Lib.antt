@@ -1,0 +1,5 @@
+pub mod Counting
+pub mod Entries
+pub mod Parts
+pub mod Moves
+pub mod Passes

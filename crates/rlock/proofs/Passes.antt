@@ -1,0 +1,62 @@
+-- What the plays tell of the seat of a pass.
+use Rattle.std.proofs.Common.{◌≡◌, ℕ, ◌%◌, ◌^◌, List, [], ◌∷◌, ◌++◌, refl, sym, ap, ◌∙◌, subst, Option, Some, None}
+use mathlib.Core.Option as maybe
+use Rattle.std.specs.Prelude.{All}
+use Rattle.std.proofs.lemmas.List.Elements.{All-head}
+use Rattle.atomic_table.specs.Table.{Me, step, rest}
+use Rattle.atomic_table.specs.declared.shared.Seat.{Seat}
+use Rattle.rlock.specs.declared.view.View.{View}
+use Rattle.rlock.specs.declared.view.Member.{Member}
+use Rattle.rlock.specs.declared.view.Mode.TheVariants.{Idle, Waiting, Served, Putting}
+use Rattle.rlock.specs.Known.{Known, IsTrueOf, entries_by}
+use Rattle.rlock.specs.declared.view.Mode.{Mode}
+use Rattle.atomic_table.specs.Seated.{TableId}
+use Rattle.rlock.specs.Views.{pass_view, known_from, mine_of}
+use Rattle.rlock.specs.Steps.{serving, Holds, looked}
+
+module _ {O E : Type 0} where
+  -- what a view knows, as what its pass knows
+  pub true_of : (number : E → ℕ) (k : Known O E) (v : View O E) (o : O) (list : List E) (mode : _) → v ≡ pass_view mode k → Holds number v o list → IsTrueOf number k o list
+  true_of number k v o list mode is h = let h' = subst (λ (z : View O E). Holds number z o list) is h in record {
+    its_opening = sym (All-head (λ (m : Member O E). m.opening ≡ o) _ [] h'.openings);
+    begins = h'.seen;
+    own = All-head (λ (m : Member O E). entries_by number m.number list ≡ m.mine) _ [] h'.made;
+  }
+
+module _ {S O E : Type 0} where
+  -- where its ticket was found, the pass has the state
+  pub found : (opening : S → O) (entries : S → List E) (number : E → ℕ) (k : Known O E) (t slots r : ℕ) (me me' : Me (Option S) (View O E)) → me ≡ (pass_view (Waiting t) k, []) → looked opening entries number (step slots 1 0 0 maybe.none) me r me' → r ≡ t % 2 ^ 64
+      → (state : S) × (me' ≡ (pass_view (Served t) (record k { seen = entries state }), (0, Some state) ∷ [])) × IsTrueOf number k (opening state) (entries state)
+  found opening entries number k t slots r me me' waits told hit = let got = (told t (ap (λ (m : Me (Option S) (View O E)). m.0.mode) waits)).0 hit in (
+    got.0,
+    got.1 ∙ ap (λ (m : Me (Option S) (View O E)). (serving t (entries got.0) m.0, (0, Some got.0) ∷ m.1)) waits,
+    true_of number k me.0 (opening got.0) (entries got.0) (Waiting t) (ap (λ (m : Me (Option S) (View O E)). m.0) waits) got.2,
+  )
+
+module _ {S : Type 0} where
+  -- the slot taken last, as an exchange asks for it
+  pub last_slot : (V : Type 0) (me : Me (Option S) V) (v : V) (x : Option S) → me ≡ (v, (0, x) ∷ []) → me.1 ≡ (0, x) ∷ rest me.1
+  last_slot V me v x is = ap (λ (m : Me (Option S) V). m.1) is ∙ ap (λ (m : Me (Option S) V). (0, x) ∷ rest m.1) (sym is)
+
+  abbrev slot_value : Option S → List (ℕ × Option S) → Option S
+  slot_value x [] = x
+  slot_value x (c ∷ cs) = c.1
+
+  -- what an exchange found in it, and what the seat is then
+  pub exchanged : (V : Type 0) (me me' : Me (Option S) V) (v : V) (x y new : Option S) → me ≡ (v, (0, x) ∷ []) → me.1 ≡ (0, y) ∷ rest me.1 → me' ≡ (me.0, (0, new) ∷ rest me.1) → (x ≡ y) × (me' ≡ (v, (0, new) ∷ []))
+  exchanged V me me' v x y new is was now = (
+    ap (slot_value x) (sym (ap (λ (m : Me (Option S) V). m.1) is) ∙ was),
+    now ∙ ap (λ (m : Me (Option S) V). (m.0, (0, new) ∷ rest m.1)) is,
+  )
+
+module _ {O E : Type 0} where
+  -- the pass is known again from its view
+  pub known_is : (gate : TableId) (n : ℕ) (o : O) (v : View O E) (mode : Mode) (k : Known O E) → v ≡ pass_view mode k → gate ≡ k.gate → n ≡ k.number → o ≡ k.opening → known_from gate n o v ≡ k
+  known_is gate n o v mode k is same_gate same_number same_opening = λ i. record {
+    gate = same_gate i;
+    number = same_number i;
+    opening = same_opening i;
+    seen = ap (λ (z : View O E). z.seen) is i;
+    mine = ap (λ (z : View O E). mine_of z.members) is i;
+    turns = ap (λ (z : View O E). z.turns) is i;
+  }
