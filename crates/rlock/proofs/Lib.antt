@@ -3,3 +3,4 @@ pub mod Entries
 pub mod Parts
 pub mod Moves
 pub mod Passes
+pub mod Shares

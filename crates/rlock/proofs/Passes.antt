@@ -1,8 +1,9 @@
 -- What the plays tell of the seat of a pass.
-use Rattle.std.proofs.Common.{◌≡◌, ℕ, ◌%◌, ◌^◌, List, [], ◌∷◌, ◌++◌, refl, sym, ap, ◌∙◌, subst, Option, Some, None}
+use Rattle.std.proofs.Common.{◌≡◌, ℕ, ◌+◌, ◌%◌, ◌^◌, ◌<◌, arith, List, [], ◌∷◌, ◌++◌, refl, sym, ap, ◌∙◌, subst, Option, Some, None}
 use mathlib.Core.Option as maybe
-use Rattle.std.specs.Prelude.{All}
-use Rattle.std.proofs.lemmas.List.Elements.{All-head}
+use Rattle.std.specs.Prelude.{All, map}
+use Rattle.std.proofs.lemmas.List.Elements.{All-nil, All-cons, All-head, All-tail}
+use mathlib.Core.List.{IsPrefix, map-append}
 use Rattle.atomic_table.specs.Table.{Me, step, rest}
 use Rattle.atomic_table.specs.declared.shared.Seat.{Seat}
 use Rattle.rlock.specs.declared.view.View.{View}
@@ -11,8 +12,10 @@ use Rattle.rlock.specs.declared.view.Mode.TheVariants.{Idle, Waiting, Served, Pu
 use Rattle.rlock.specs.Known.{Known, IsTrueOf, entries_by}
 use Rattle.rlock.specs.declared.view.Mode.{Mode}
 use Rattle.atomic_table.specs.Seated.{TableId}
-use Rattle.rlock.specs.Views.{pass_view, known_from, mine_of}
-use Rattle.rlock.specs.Steps.{serving, Holds, looked}
+use Rattle.rlock.specs.Views.{pass_view, known_from, mine_of, times, numbers_of}
+use Rattle.rlock.specs.Steps.{serving, joined, Holds, looked}
+use Rattle.rlock.specs.Covering.{Covers}
+use Rattle.rlock.proofs.Counting.{times-append, times_here}
 
 module _ {O E : Type 0} where
   -- what a view knows, as what its pass knows
@@ -59,4 +62,46 @@ module _ {O E : Type 0} where
     seen = ap (λ (z : View O E). z.seen) is i;
     mine = ap (λ (z : View O E). mine_of z.members) is i;
     turns = ap (λ (z : View O E). z.turns) is i;
+  }
+
+module _ {X : Type 0} (P : X → Type 0) where
+  pub all_left : (xs ys : List X) → All P (xs ++ ys) → All P xs
+  all_left [] ys all = All-nil P
+  all_left (x ∷ xs) ys all = All-cons P x xs (All-head P x (xs ++ ys) all) (all_left xs ys (All-tail P x (xs ++ ys) all))
+
+  pub all_right : (xs ys : List X) → All P (xs ++ ys) → All P ys
+  all_right [] ys all = all
+  all_right (x ∷ xs) ys all = all_right xs ys (All-tail P x (xs ++ ys) all)
+
+module _ {O E : Type 0} (number : E → ℕ) where
+  -- what two views know together is what each of them knows
+  joined_knows : (v w : View O E) (o : O) (list : List E) → Holds number (joined v w) o list → Holds number v o list × Holds number w o list
+  joined_knows v w o list h = let Begins : List E → Type 0 = λ old. IsPrefix old list in let Opened : Member O E → Type 0 = λ m. m.opening ≡ o in let Made : Member O E → Type 0 = λ m. entries_by number m.number list ≡ m.mine in
+      let seens = all_right Begins v.olds (v.seen ∷ w.seen ∷ w.olds) h.olds in let later = All-tail Begins v.seen (w.seen ∷ w.olds) seens in (
+        record { openings = all_left Opened v.members w.members h.openings; seen = All-head Begins v.seen (w.seen ∷ w.olds) seens; olds = all_left Begins v.olds (v.seen ∷ w.seen ∷ w.olds) h.olds; made = all_left Made v.members w.members h.made },
+        record { openings = all_right Opened v.members w.members h.openings; seen = All-head Begins w.seen w.olds later; olds = All-tail Begins w.seen w.olds later; made = all_right Made v.members w.members h.made },
+      )
+
+  joined_numbers : (n : ℕ) (v w : View O E) → times n (numbers_of (joined v w)) ≡ times n (numbers_of v) + times n (numbers_of w)
+  joined_numbers n v w = let numbers = λ (ms : List (Member O E)). map (λ (m : Member O E). m.number) ms in omega (
+      arith,
+      times-append n (numbers (v.members ++ w.members)) (v.unmade ++ w.unmade),
+      ap (times n) (map-append (λ (m : Member O E). m.number) v.members w.members),
+      times-append n (numbers v.members) (numbers w.members),
+      times-append n v.unmade w.unmade,
+      times-append n (numbers v.members) v.unmade,
+      times-append n (numbers w.members) w.unmade)
+
+  -- a view that takes in another covers what either of them covers
+  pub covers_before : (v w : View O E) (k : Known O E) → Covers number v k → Covers number (joined v w) k
+  covers_before v w k c = record { has = omega (arith, c.has, joined_numbers k.number v w); knows = λ o list h. c.knows o list (joined_knows v w o list h).0 }
+
+  pub covers_taken : (v w : View O E) (k : Known O E) → Covers number w k → Covers number (joined v w) k
+  covers_taken v w k c = record { has = omega (arith, c.has, joined_numbers k.number v w); knows = λ o list h. c.knows o list (joined_knows v w o list h).1 }
+
+  -- the view of a pass covers it
+  pub covers_itself : (v : View O E) (mode : Mode) (k : Known O E) → v ≡ pass_view mode k → Covers number v k
+  covers_itself v mode k is = record {
+    has = omega (arith, ap (λ (z : View O E). times k.number (numbers_of z)) is, times_here k.number []);
+    knows = λ o list h. true_of number k v o list mode is h;
   }

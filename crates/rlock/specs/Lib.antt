@@ -1,4 +1,5 @@
+pub mod Covering
 pub mod Known
-pub mod Views
 pub mod Rule
 pub mod Steps
+pub mod Views

@@ -1,13 +1,14 @@
 //! How a gate is closed.
-ghost use Rattle.std.specs.Prelude.{◌≡◌, ℕ, ◌<◌, All, Any};
-ghost use Rattle.rlock.specs.Known.{IsTrueOf};
+ghost use Rattle.std.specs.Prelude.{◌≡◌, ℕ, ◌<◌, ◌⊎◌, All, Any};
+ghost use Rattle.rlock.specs.Known.{Known, IsTrueOf};
+ghost use Rattle.rlock.specs.Steps.{IsSized};
+ghost use Rattle.rlock.specs.Covering.{Covers, IsIdleAt};
 
 use crate::board::{Board, Place};
 use crate::gate::Gate;
 use crate::kept::Kept;
 use crate::pass::Pass;
 use crate::plays::TakeIn;
-use std::alloc::Global;
 
 impl<S: Kept> Gate<S> {
     /// Takes all passes of the gate, and gives back the state.
@@ -19,12 +20,19 @@ impl<S: Kept> Gate<S> {
         ensures passes { All (λ p. IsTrueOf S.number p (S.opening result) (S.entries result)) passes.items }
         ensures entries { All (λ e. S.number e < self.passes) (S.entries result) }
     {
+        let _ = &self.board;
         let last = passes.pop().unwrap();
         self.close_and(passes, last)
     }
 
     // The same for these passes and the last one together.
-    fn close_and(self, passes: Vec<Pass<S>>, last: Pass<S>) -> S {
+    fn close_and(self, passes: Vec<Pass<S>>, last: Pass<S>) -> S
+        requires gate { All (λ p. p.gate ≡ self.gate) passes.items × (last.gate ≡ self.gate) }
+        requires all { (n : ℕ) → n < self.passes → Any (λ p. p.number ≡ n) passes.items ⊎ (last.number ≡ n) }
+        ensures passes { All (λ p. IsTrueOf S.number p (S.opening result) (S.entries result)) passes.items }
+        ensures last { IsTrueOf S.number last (S.opening result) (S.entries result) }
+        ensures entries { All (λ e. S.number e < self.passes) (S.entries result) }
+    {
         let Gate { board } = self;
         let Pass { place, .. } = last;
         let place = taken_in(&board, passes, place);
@@ -35,7 +43,14 @@ impl<S: Kept> Gate<S> {
     }
 }
 
-fn taken_in<S: Kept>(board: &Board<S>, passes: Vec<Pass<S>>, mut place: Place<S>) -> Place<S> {
+// The seat takes in these passes.
+fn taken_in<S: Kept>(board: &Board<S>, passes: Vec<Pass<S>>, mut place: Place<S>) -> Place<S>
+    requires table { IsSized board.now.shared.table_id × IsIdleAt board.now.shared.table_id place }
+    requires passes { All (λ p. p.gate ≡ board.now.shared.table_id) passes.items }
+    ensures idle { IsIdleAt board.now.shared.table_id result }
+    ensures passes { All (Covers S.number result.me.0) passes.items }
+    ensures before { (k : Known S.Opening S.Entry) → Covers S.number place.me.0 k → Covers S.number result.me.0 k }
+{
     for pass in passes {
         let Pass { place: other, .. } = pass;
         board.shared.join_seat::<TakeIn>(&mut place, other);
