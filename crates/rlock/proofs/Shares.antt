@@ -5,7 +5,7 @@ use mathlib.Core.List.{IsPrefix, append-nil, map-append}
 use mathlib.Core.Option as maybe
 use native.Mathlib.Decide.{ℕ_discrete, dec_le}
 use lib.ListN.{get_elem?}
-use Rattle.std.specs.Prelude.{All, IsTrue, map, nat_lt}
+use Rattle.std.specs.Prelude.{All, IsTrue, IsSome, map, unwrap_or}
 use Rattle.std.proofs.lemmas.List.Elements.{All-nil, All-cons, All-head, All-tail, All-append, Contains-get_or}
 use Rattle.std.proofs.lemmas.Bool.{true≢false, cond_both, ltb-true, ltb-false}
 use Rattle.atomic_table.specs.Table.{State, Splits, Joins, opening as first_state, Final, Seen}
@@ -137,14 +137,15 @@ module _ {S O E : Type 0} (opening : S → O) (entries : S → List E) (number :
           (λ other. omega (arith, times_else n first (numbers_from (first + 1) count) (λ e. other (sym e)), numbers_within (first + 1) count n (omega arith) (omega arith)))
 
   -- a view that has all numbers is alone, so the state is at home where its pass rests
-  pub ends : (id : ℕ) (v : V) (ws : List ℕ) (xs : List (Option S)) → v.mode ≡ Idle → ((n : ℕ) → n < passes → 0 < times n (numbers_of v)) → Final (Seen Rule id v) ws xs
-      → (state : S) × (get_elem? xs 0 ≡ maybe.some (Some state)) × Holds number v (opening state) (entries state) × All (λ e. number e < passes) (entries state)
-  ends id v ws xs idle all (s, (r, at), words, long, values) = let h = home in (
-    h.state,
-    values 0 (Some h.state) (ap (λ (hs : List (maybe.Option (Option S))). get_elem? hs 0) h.there),
-    subst (λ (z : O × List E). Holds number v z.0 z.1) (λ i. (sym h.its_opening i, sym h.its_entries i))
-        (record { openings = r.home.openings id v at; seen = r.prefixes.seen id v at; olds = r.prefixes.olds id v at; made = r.own_entries.made id v at }),
-    subst (All (λ e. number e < passes)) (sym h.its_entries) r.own_entries.known,
+  pub ends : (id : ℕ) (v : V) (ws : List ℕ) (xs : List (Option S)) → v.mode ≡ Idle → ((n : ℕ) → n < passes → 0 < times n (numbers_of v)) → Final (Seen Rule id v) ws xs → (found : Option S) → get_elem? xs 0 ≡ maybe.some found
+      → IsSome found × ((state : S) → found ≡ Some state → Holds number v (opening state) (entries state) × All (λ e. number e < passes) (entries state))
+  ends id v ws xs idle all (s, (r, at), words, long, values) found is = (
+    subst IsSome (sym there) refl,
+    λ state has. let same : home.state ≡ state = ap (λ (x : Option S). unwrap_or x home.state) (sym there ∙ has) in (
+      subst (λ (z : O × List E). Holds number v z.0 z.1) (λ i. ((sym home.its_opening ∙ ap opening same) i, (sym home.its_entries ∙ ap entries same) i))
+          (record { openings = r.home.openings id v at; seen = r.prefixes.seen id v at; olds = r.prefixes.olds id v at; made = r.own_entries.made id v at }),
+      subst (All (λ e. number e < passes)) (sym home.its_entries ∙ ap entries same) r.own_entries.known,
+    ),
   )
     where
       counts_true : (b : Bool) → 0 < cond b 1 0 → b ≡ true
@@ -167,3 +168,6 @@ module _ {S O E : Type 0} (opening : S → O) (entries : S → List E) (number :
           (λ (a : IsAway opening entries r.log s.homes s.views). let found = some_counts (λ (u : V). cond (has_turn u.mode) 1 0) s.views (omega (arith, a.one)) in
           absurd (alone found.0 found.1 found.2 (counts_true (has_turn found.1.mode) found.3)))
           r.home.place
+
+      there : found ≡ Some home.state
+      there = maybe.some-injective found (Some home.state) (sym is ∙ values 0 (Some home.state) (ap (λ (hs : List (maybe.Option (Option S))). get_elem? hs 0) home.there))

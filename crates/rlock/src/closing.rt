@@ -1,7 +1,8 @@
 //! How a gate is closed.
 ghost use Rattle.std.specs.Prelude.{◌≡◌, ℕ, ◌<◌, ◌⊎◌, All, Any};
 ghost use Rattle.rlock.specs.Known.{Known, IsTrueOf};
-ghost use Rattle.rlock.specs.Steps.{IsSized};
+ghost use Rattle.rlock.specs.Steps.{IsSized, Holds};
+ghost use Rattle.rlock.specs.Views.{times, numbers_of};
 ghost use Rattle.rlock.specs.Covering.{Covers, IsIdleAt};
 
 use crate::board::{Board, Place};
@@ -36,10 +37,7 @@ impl<S: Kept> Gate<S> {
         let Gate { board } = self;
         let Pass { place, .. } = last;
         let place = taken_in(&board, passes, place);
-        let mut closed = board.close_with(place);
-        let state = closed.take(0);
-        closed.free();
-        state.unwrap()
+        last_state(board, place)
     }
 }
 
@@ -56,4 +54,17 @@ fn taken_in<S: Kept>(board: &Board<S>, passes: Vec<Pass<S>>, mut place: Place<S>
         board.shared.join_seat::<TakeIn>(&mut place, other);
     }
     place
+}
+
+// The state of a table, once one seat has all numbers.
+fn last_state<S: Kept>(board: Board<S>, place: Place<S>) -> S
+    requires table { IsSized board.shared.table_id × IsIdleAt board.shared.table_id place }
+    requires all { (n : ℕ) → n < board.shared.key.passes → 0 < times n (numbers_of place.me.0) }
+    ensures knows { Holds S.number place.me.0 (S.opening result) (S.entries result) }
+    ensures entries { All (λ e. S.number e < board.shared.key.passes) (S.entries result) }
+{
+    let mut closed = board.close_with(place);
+    let state = closed.take(0);
+    closed.free();
+    state.unwrap()
 }
