@@ -14,8 +14,8 @@ use Rattle.rlock.specs.declared.view.View.{View}
 use Rattle.rlock.specs.declared.view.Member.{Member}
 use Rattle.rlock.specs.declared.view.Mode.{Mode}
 use Rattle.rlock.specs.declared.view.Mode.TheVariants.{Idle, Waiting, Served, Putting}
-use Rattle.rlock.specs.Known.{entries_by}
-use Rattle.rlock.specs.Views.{times, ticket_of, has_turn, numbers_from, numbers_of, first_view}
+use Rattle.rlock.specs.Known.{entries_by, numbers_from}
+use Rattle.rlock.specs.Views.{times, ticket_of, has_turn, numbers_of, first_view}
 use Rattle.rlock.specs.Rule.{Each, Numbers, Tickets, HasServedTicket, Prefixes, OwnEntries, IsHome, IsAway, Home, GateHolds}
 use Rattle.rlock.specs.Steps.{giving, given, joined, spent, Holds}
 use Rattle.rlock.proofs.Counting.{at_most_sum, some_counts, times-append, times-cons, times_here, times_else}

@@ -1,5 +1,6 @@
 -- What contracts see of a gate, a pass and a turn.
-use Rattle.std.specs.Prelude.{◌≡◌, ℕ, ◌+◌, ◌==◌, List, [], ◌++◌, filter, length, drop, All}
+use Rattle.std.specs.Prelude.{◌≡◌, ℕ, ◌+◌, ◌==◌, List, [], ◌∷◌, ◌++◌, map, filter, length, drop, All}
+use Rattle.std.proofs.Common.{zero, suc}
 use mathlib.Core.List.{IsPrefix}
 use Rattle.atomic_table.specs.Seated.{TableId}
 
@@ -57,3 +58,12 @@ module _ {O E : Type 0} where
   -- a pass after it has left this list: it has seen it, and the new entries are its own too
   abbrev pub left : Known O E → List E → Known O E
   left pass list = record pass { seen = list; mine = pass.mine ++ new_entries pass.seen list }
+
+-- the numbers from `first` on, of which there are `count`
+abbrev pub numbers_from : ℕ → ℕ → List ℕ
+numbers_from first zero = []
+numbers_from first (suc count) = first ∷ numbers_from (first + 1) count
+
+-- the first passes of a gate, of which there are `count`: they are numbered from `first` on
+abbrev pub newcomers : {O E : Type 0} → TableId → O → ℕ → ℕ → List (Known O E)
+newcomers gate o first count = map (λ n. newcomer gate n o) (numbers_from first count)

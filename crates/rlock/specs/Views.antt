@@ -1,12 +1,11 @@
 -- The view of a pass, and what is read from a view.
 use Rattle.std.specs.Prelude.{ℕ, ◌+◌, ◌-◌, ◌==◌, Bool, true, false, List, [], ◌∷◌, ◌++◌, map, count_by, sum_by}
-use Rattle.std.proofs.Common.{zero, suc}
 use Rattle.atomic_table.specs.Seated.{TableId}
 use Rattle.rlock.specs.declared.view.View.{View}
 use Rattle.rlock.specs.declared.view.Member.{Member}
 use Rattle.rlock.specs.declared.view.Mode.{Mode}
 use Rattle.rlock.specs.declared.view.Mode.TheVariants.{Idle, Waiting, Served, Putting}
-use Rattle.rlock.specs.Known.{Known}
+use Rattle.rlock.specs.Known.{Known, numbers_from}
 
 -- how often a number stands in a list
 abbrev pub times : ℕ → List ℕ → ℕ
@@ -24,11 +23,6 @@ has_turn Idle = false
 has_turn (Waiting t) = false
 has_turn (Served t) = true
 has_turn (Putting t) = true
-
--- the numbers from `first` on, of which there are `count`
-abbrev pub numbers_from : ℕ → ℕ → List ℕ
-numbers_from first zero = []
-numbers_from first (suc count) = first ∷ numbers_from (first + 1) count
 
 module _ {O E : Type 0} where
   -- the numbers of a view: its own, those that were joined into it, and those that it has still to give out
@@ -56,16 +50,20 @@ module _ {O E : Type 0} where
     olds = [];
   }
 
-  -- the view of the pass 0, which gives out the other numbers
-  abbrev pub first_view : ℕ → O → View O E
-  first_view passes o = record {
+  -- the seat's view while the numbers from `next` on are still to be given out, of which there are `left`
+  abbrev pub opening_view : ℕ → ℕ → O → View O E
+  opening_view next left o = record {
     mode = Idle;
     turns = 0;
     seen = [];
     members = record { number = 0; opening = o; mine = [] } ∷ [];
-    unmade = numbers_from 1 (passes - 1);
+    unmade = numbers_from next left;
     olds = [];
   }
+
+  -- the view of the pass 0, which gives out the other numbers
+  abbrev pub first_view : ℕ → O → View O E
+  first_view passes o = opening_view 1 (passes - 1) o
 
   abbrev pub mine_of : List (Member O E) → List E
   mine_of [] = []
