@@ -1,6 +1,7 @@
 -- The first passes, one after another.
 use Rattle.std.proofs.Common.{◌≡◌, ℕ, zero, suc, ◌+◌, ◌-◌, ◌<◌, List, [], ◌∷◌, ◌++◌, length, refl, sym, ap, ◌∙◌, arith, Some}
-use Rattle.std.specs.Prelude.{slice_get}
+use Rattle.std.specs.Prelude.{All, slice_get}
+use Rattle.std.proofs.lemmas.List.Elements.{All-nil, All-cons}
 use Rattle.atomic_table.specs.Seated.{TableId}
 use Rattle.rlock.specs.Known.{Known, newcomer, newcomers}
 
@@ -24,3 +25,7 @@ module _ {O : Type 0} (E : Type 0) (gate : TableId) (o : O) where
   newcomers-at first zero k h = absurd (omega arith)
   newcomers-at first (suc count) zero h = let a : first ≡ first + 0 = omega arith in ap (λ (n : ℕ). let x : Known O E = newcomer gate n o in Some x) a
   newcomers-at first (suc count) (suc k) h = let a : (first + 1) + k ≡ first + suc k = omega arith in newcomers-at (first + 1) count k (omega arith) ∙ ap (λ (n : ℕ). let x : Known O E = newcomer gate n o in Some x) a
+
+  pub all-newcomers : (P : Known O E → Type 0) → ((n : ℕ) → P (newcomer gate n o)) → (first count : ℕ) → All P (from first count)
+  all-newcomers P each first zero = All-nil P
+  all-newcomers P each first (suc count) = All-cons P (newcomer gate first o) (from (first + 1) count) (each first) (all-newcomers P each (first + 1) count)

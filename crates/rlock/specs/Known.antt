@@ -67,3 +67,7 @@ numbers_from first (suc count) = first ∷ numbers_from (first + 1) count
 -- the first passes of a gate, of which there are `count`: they are numbered from `first` on
 abbrev pub newcomers : {O E : Type 0} → TableId → O → ℕ → ℕ → List (Known O E)
 newcomers gate o first count = map (λ n. newcomer gate n o) (numbers_from first count)
+
+-- the two are one pass, at two times
+abbrev pub IsSamePass : {O E : Type 0} → Known O E → Known O E → Type 0
+IsSamePass before after = (after.gate ≡ before.gate) × (after.number ≡ before.number) × (after.opening ≡ before.opening)

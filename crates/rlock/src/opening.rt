@@ -26,6 +26,7 @@ impl<S: Kept + Drop> Gate<S> {
         requires count { (1 ≤ passes) × (passes ≤ SEATS) }
         requires no_entries { S.entries state ≡ [] }
         ensures count { IfOk result (λ r. (r.0.passes ≡ passes) × (length r.1.items ≡ passes)) }
+        ensures gate { IfOk result (λ r. All (λ p. p.gate ≡ r.0.gate) r.1.items) }
         ensures each { IfOk result (λ r. (k : ℕ) → k < passes → slice_get r.1.items k ≡ Some (newcomer r.0.gate k (S.opening state))) }
     {
         let firsts = snapshots(alloc, &state, passes)?;
