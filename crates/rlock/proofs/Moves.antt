@@ -24,7 +24,7 @@ use Rattle.rlock.proofs.Counting.{at_most_sum, some_counts, no_more_tickets, tim
 use Rattle.rlock.proofs.Entries.{IsPrefix-to, own_grow, Appends-prefix}
 use Rattle.rlock.proofs.Parts.{each_set, numbers_kept, tickets_kept, tickets_drawn, tickets_served, no_shared_ticket, turn_given_up, prefixes_kept, prefixes_grown, own_kept, own_grown, home_kept, home_taken, is_away, home_told, home_returned}
 
-abbrev ticket_in : Mode → ℕ
+abbrev pub ticket_in : Mode → ℕ
 ticket_in Idle = 0
 ticket_in (Waiting t) = t
 ticket_in (Served t) = t

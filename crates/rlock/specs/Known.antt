@@ -1,5 +1,5 @@
 -- What contracts see of a gate, a pass and a turn.
-use Rattle.std.specs.Prelude.{◌≡◌, ℕ, ◌+◌, ◌==◌, List, [], ◌∷◌, ◌++◌, map, filter, length, drop, All}
+use Rattle.std.specs.Prelude.{◌≡◌, ℕ, ◌+◌, ◌==◌, List, [], ◌∷◌, ◌++◌, map, filter, length, drop, All, Option, Some}
 use Rattle.std.proofs.Common.{zero, suc}
 use mathlib.Core.List.{IsPrefix}
 use Rattle.atomic_table.specs.Seated.{TableId}
@@ -9,11 +9,12 @@ pub record Site : Type 0 where
   pub gate : TableId
   pub passes : ℕ
 
--- A pass: its gate, its number, the opening of the state behind the gate, the history as it was seen last, the entries of it that the pass made, and how many turns it has had
+-- A pass: its gate, its number, the opening of the state behind the gate, the history as it was seen last, the entries of it that the pass made, and how many turns it has had.
+-- Each pass that a gate hands out has an opening
 pub record Known (O E : Type 0) : Type 0 where
   pub gate : TableId
   pub number : ℕ
-  pub opening : O
+  pub opening : Option O
   pub seen : List E
   pub mine : List E
   pub turns : ℕ
@@ -25,7 +26,7 @@ pub record Taken (S O E : Type 0) : Type 0 where
 
 -- a pass that has had no turn
 abbrev pub newcomer : {O E : Type 0} → TableId → ℕ → O → Known O E
-newcomer gate n o = record { gate = gate; number = n; opening = o; seen = []; mine = []; turns = 0 }
+newcomer gate n o = record { gate = gate; number = n; opening = Some o; seen = []; mine = []; turns = 0 }
 
 module _ {E : Type 0} (number : E → ℕ) where
   -- the entries of the pass n, in their order
@@ -42,7 +43,7 @@ new_entries seen entries = drop (length seen) entries
 
 -- what the pass knows is true of this opening and this list
 pub record IsTrueOf {O E : Type 0} (number : E → ℕ) (pass : Known O E) (o : O) (entries : List E) : Type 0 where
-  pub its_opening : o ≡ pass.opening
+  pub its_opening : pass.opening ≡ Some o
   pub begins : IsPrefix pass.seen entries
   pub own : entries_by number pass.number entries ≡ pass.mine
 

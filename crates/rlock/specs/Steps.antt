@@ -8,7 +8,7 @@ use Rattle.rlock.specs.declared.view.View.{View}
 use Rattle.rlock.specs.declared.view.Member.{Member}
 use Rattle.rlock.specs.declared.view.Mode.TheVariants.{Idle, Waiting, Served, Putting}
 use Rattle.rlock.specs.Known.{Known, entries_by, new_entries}
-use Rattle.rlock.specs.Views.{pass_view}
+use Rattle.rlock.specs.Views.{IsViewOf}
 
 -- two words, and one slot
 abbrev pub IsSized : TableId → Type 0
@@ -85,16 +85,20 @@ module _ {S O E : Type 0} where
 
   -- the seat is that of this pass, and rests
   abbrev pub Rests : Seat (Option S) (View O E) → Known O E → Type 0
-  Rests seat k = seat.me ≡ (pass_view Idle k, [])
+  Rests seat k = IsViewOf Idle k seat.me.0 × (seat.me.1 ≡ [])
+
+  -- the same, and it is the seat of that gate and number
+  abbrev pub RestsAs : Seat (Option S) (View O E) → ℕ → Known O E → Type 0
+  RestsAs seat n k = Rests seat k × (k.gate ≡ seat.table_id) × (k.number ≡ n)
 
   -- it waits with this ticket
   abbrev pub Waits : Seat (Option S) (View O E) → Known O E → ℕ → Type 0
-  Waits seat k t = seat.me ≡ (pass_view (Waiting t) k, [])
+  Waits seat k t = IsViewOf (Waiting t) k seat.me.0 × (seat.me.1 ≡ [])
 
   -- its ticket is served, and the state is out of the slot
   abbrev pub Serves : Seat (Option S) (View O E) → Known O E → ℕ → Type 0
-  Serves seat k t = seat.me ≡ (pass_view (Served t) k, (0, None) ∷ [])
+  Serves seat k t = IsViewOf (Served t) k seat.me.0 × (seat.me.1 ≡ (0, None) ∷ [])
 
   -- the same, and its new list is the kept one
   abbrev pub Puts : Seat (Option S) (View O E) → Known O E → ℕ → Type 0
-  Puts seat k t = seat.me ≡ (pass_view (Putting t) k, (0, None) ∷ [])
+  Puts seat k t = IsViewOf (Putting t) k seat.me.0 × (seat.me.1 ≡ (0, None) ∷ [])

@@ -1,5 +1,5 @@
 -- The view of a pass, and what is read from a view.
-use Rattle.std.specs.Prelude.{ℕ, ◌+◌, ◌-◌, ◌==◌, Bool, true, false, List, [], ◌∷◌, ◌++◌, map, count_by, sum_by}
+use Rattle.std.specs.Prelude.{◌≡◌, ℕ, ◌+◌, ◌-◌, ◌==◌, Bool, true, false, Option, Some, None, List, [], ◌∷◌, ◌++◌, map, count_by, sum_by}
 use Rattle.atomic_table.specs.Seated.{TableId}
 use Rattle.rlock.specs.declared.view.View.{View}
 use Rattle.rlock.specs.declared.view.Member.{Member}
@@ -39,16 +39,20 @@ module _ {O E : Type 0} where
   abbrev pub turns_taken : List (View O E) → ℕ
   turns_taken views = count_by (λ (v : View O E). has_turn v.mode) views
 
-  -- the view of a pass that has given out all numbers and joined none
-  abbrev pub pass_view : Mode → Known O E → View O E
-  pass_view mode k = record {
+  -- the view of a pass with this opening, which has given out all numbers and joined none
+  abbrev pub pass_view : Mode → O → Known O E → View O E
+  pass_view mode o k = record {
     mode = mode;
     turns = k.turns;
     seen = k.seen;
-    members = record { number = k.number; opening = k.opening; mine = k.mine } ∷ [];
+    members = record { number = k.number; opening = o; mine = k.mine } ∷ [];
     unmade = [];
     olds = [];
   }
+
+  -- it is the view of this pass
+  abbrev pub IsViewOf : Mode → Known O E → View O E → Type 0
+  IsViewOf mode k v = (o : O) × (k.opening ≡ Some o) × (v ≡ pass_view mode o k)
 
   -- the seat's view while the numbers from `next` on are still to be given out, of which there are `left`
   abbrev pub opening_view : ℕ → ℕ → O → View O E
@@ -69,6 +73,10 @@ module _ {O E : Type 0} where
   mine_of [] = []
   mine_of (m ∷ ms) = m.mine
 
-  -- a pass by its gate, its number, its opening and its view
-  abbrev pub known_from : TableId → ℕ → O → View O E → Known O E
-  known_from gate n o v = record { gate = gate; number = n; opening = o; seen = v.seen; mine = mine_of v.members; turns = v.turns }
+  abbrev pub opening_of : List (Member O E) → Option O
+  opening_of [] = None
+  opening_of (m ∷ ms) = Some m.opening
+
+  -- a pass by its gate, its number and its view
+  abbrev pub known_from : TableId → ℕ → View O E → Known O E
+  known_from gate n v = record { gate = gate; number = n; opening = opening_of v.members; seen = v.seen; mine = mine_of v.members; turns = v.turns }

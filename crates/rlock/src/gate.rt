@@ -1,5 +1,5 @@
 //! A gate, and the turns that are taken at it.
-ghost use Rattle.std.specs.Prelude.{◌≡◌, ◌≢◌, ℕ, ◌+◌, ◌%◌, ◌^◌, [], ◌∷◌, None};
+ghost use Rattle.std.specs.Prelude.{◌≡◌, ◌≢◌, ℕ, ◌+◌, ◌%◌, ◌^◌, [], ◌∷◌, Some, None};
 ghost use Rattle.rlock.specs.declared.view.Mode.TheVariants.{Waiting, Served, Putting};
 ghost use Rattle.rlock.specs.Known.{Known, Appends, IsTrueOf, entered, left};
 ghost use Rattle.rlock.specs.Steps.{Rests, Waits, Serves, Puts};
@@ -42,18 +42,10 @@ impl<S: Kept> Gate<S> {
         ensures pass { result.pass ≡ entered pass (S.entries result.state) }
         ensures state { IsTrueOf S.number pass (S.opening result.state) (S.entries result.state) }
     {
-        let Pass {
-            mut place,
-            number,
-            first,
-        } = pass;
+        let Pass { mut place, number } = pass;
         let ticket = self.board.shared.fetch_add::<Draw>(&mut place, 0, 1);
         let state = self.await_ticket(rt, &mut place, ticket);
-        let holder = Holder {
-            place,
-            number,
-            first,
-        };
+        let holder = Holder { place, number };
         Turn { holder, state }
     }
 
@@ -79,23 +71,15 @@ impl<S: Kept> Gate<S> {
     /// The pass has then seen the list that it left, and made its new entries.
     pub fn leave(&self, turn: Turn<S>) -> Pass<S>
         requires gate { turn.pass.gate ≡ self.now.gate }
-        requires opening { S.opening turn.state ≡ turn.pass.opening }
+        requires opening { turn.pass.opening ≡ Some (S.opening turn.state) }
         requires entries { Appends S.number turn.pass.number turn.pass.seen (S.entries turn.state) }
         ensures { result ≡ left turn.pass (S.entries turn.state) }
     {
         let Turn { holder, state } = turn;
-        let Holder {
-            mut place,
-            number,
-            first,
-        } = holder;
+        let Holder { mut place, number } = holder;
         self.note::<Brand>(&mut place, &state);
         self.put_back(&mut place, state);
-        Pass {
-            place,
-            number,
-            first,
-        }
+        Pass { place, number }
     }
 
     // The list of the state, which is out with the pass, is the kept one from now on.
@@ -112,7 +96,7 @@ impl<S: Kept> Gate<S> {
     // Puts the state in its place, and lets the next pass go on.
     fn put_back(&self, place: &mut Place<S>, state: S)
         requires gate { place.old.table_id ≡ self.now.gate }
-        requires ready { (k : Known S.Opening S.Entry) × (t : ℕ) × Puts place.old k t × (S.opening state ≡ k.opening) × (S.entries state ≡ k.seen) }
+        requires ready { (k : Known S.Opening S.Entry) × (t : ℕ) × Puts place.old k t × (k.opening ≡ Some (S.opening state)) × (S.entries state ≡ k.seen) }
         ensures same { (place.new.table_id ≡ place.old.table_id) × (place.new.id ≡ place.old.id) }
         ensures idle { (k : Known S.Opening S.Entry) (t : ℕ) → Puts place.old k t → Rests place.new k }
     {

@@ -7,26 +7,24 @@ ghost use Rattle.rlock.specs.Known.{with_state};
 use crate::board::Place;
 use crate::kept::Kept;
 use std::marker::Model;
-use std::snapshot::Snapshot;
 
 /// A pass while its ticket is served.
 pub(crate) struct Holder<S: Kept> {
     pub(crate) place: Place<S>,
     pub(crate) number: u8,
-    pub(crate) first: Snapshot<S>,
 }
 
 impl<S: Kept> Model for Holder<S> {
     ghost use Rattle.std.specs.Prelude.{◌≡◌, ℕ, [], ◌∷◌, None};
     ghost use Rattle.rlock.specs.Known.{Known};
-    ghost use Rattle.rlock.specs.Views.{known_from, pass_view};
+    ghost use Rattle.rlock.specs.Views.{known_from, IsViewOf};
     ghost use Rattle.rlock.specs.declared.view.Mode.TheVariants.{Served};
 
     ghost Value = { Known S.Opening S.Entry };
 
-    ghost view = { λ h. known_from h.place.table_id h.number (S.opening h.first.value) h.place.me.0 };
+    ghost view = { λ h. known_from h.place.table_id h.number h.place.me.0 };
 
-    ghost invariant = { λ h. (t : ℕ) × (h.place.me ≡ (pass_view (Served t) (known_from h.place.table_id h.number (S.opening h.first.value) h.place.me.0), (0, None) ∷ [])) };
+    ghost invariant = { λ h. (t : ℕ) × IsViewOf (Served t) (known_from h.place.table_id h.number h.place.me.0) h.place.me.0 × (h.place.me.1 ≡ (0, None) ∷ []) };
 }
 
 /// The state, in the hands of one pass. It must be given back by `leave`.
