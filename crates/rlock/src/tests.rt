@@ -1,5 +1,6 @@
 ghost use Rattle.std.specs.Prelude.{◌≡◌, ℕ, ◌<◌, length, All, IsTrue, IfOk, slice_index_or};
-ghost use Rattle.rlock.specs.Known.{Known, IsSamePass};
+ghost use denote.Param.Send.{IsSync};
+ghost use Rattle.rlock.specs.Known.{Known};
 ghost use Rattle.rlock.specs.declared.roll.Signature.{Signature};
 
 use crate::roll::{Roll, sign_in};
@@ -81,8 +82,14 @@ fn sign_in_four<R: Threads + Wait + AllocGlobal + Sync>(
     let others = passes.split_off(half)?;
     let (first, second) = join(
         rt,
-        || sign_in_two(rt, gate, passes, turns),
-        || sign_in_two(rt, gate, others, turns),
+        || -> Result<Vec<Pass<Roll>>, AllocError>
+            requires { IsSync R.row × All (λ p. p.gate ≡ gate.now.gate) passes.items }
+            ensures { IfOk result (λ v. All (λ p. p.gate ≡ gate.entry.now.gate) v.items) }
+        { sign_in_two(rt, gate, passes, turns) },
+        || -> Result<Vec<Pass<Roll>>, AllocError>
+            requires { IsSync R.row × All (λ p. p.gate ≡ gate.now.gate) others.items }
+            ensures { IfOk result (λ v. All (λ p. p.gate ≡ gate.entry.now.gate) v.items) }
+        { sign_in_two(rt, gate, others, turns) },
     );
     let mut all = first?;
     all.append(&mut second?)?;
@@ -106,7 +113,8 @@ fn closed(rt: &impl Abort, gate: Gate<Roll>, passes: Vec<Pass<Roll>>, count: u8)
     requires gate { All (λ p. p.gate ≡ gate.gate) passes.items }
     requires count { gate.passes ≡ count }
 {
-    assert!(rt; passes.len() == usize::from(count) && are_in_order(passes.as_slice()));
+    assert!(rt; passes.len() == usize::from(count));
+    assert!(rt; are_in_order(passes.as_slice()));
     gate.close(passes)
 }
 
