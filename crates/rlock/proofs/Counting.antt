@@ -1,11 +1,11 @@
 -- Sums over a list of which one element changes, and how many tickets can be out.
-use Rattle.std.proofs.Common.{◌≡◌, ◌≢◌, ℕ, zero, suc, ◌+◌, ◌<◌, ◌≤◌, ◌⊎◌, Bool, true, false, cond, eqb, List, [], ◌∷◌, ◌++◌, length, set, refl, sym, ap, ◌∙◌, inl, inr, arith, eq-eqb, ne_eqb}
+use Rattle.std.proofs.Common.{◌≡◌, ◌≢◌, ℕ, zero, suc, ◌+◌, ◌<◌, ◌≤◌, cond, eqb, List, [], ◌∷◌, ◌++◌, length, set, refl, sym, ap, ◌∙◌, arith, eq-eqb, ne_eqb}
 use mathlib.Core.Logic.{dite}
 use mathlib.Core.Option.{some, some-injective, some-ne-none}
 use native.Mathlib.Decide.{ℕ_discrete, dec_le}
 use lib.ListN.{get_elem?}
-use Rattle.std.specs.Prelude.{sum_by, count_by}
-use Rattle.std.proofs.lemmas.List.Sums.{sum_by-cons, sum_by-append, sum_by_push}
+use Rattle.std.specs.Prelude.{sum_by}
+use Rattle.std.proofs.lemmas.List.Sums.{sum_by-cons, sum_by-append}
 use Rattle.rlock.specs.Views.{times}
 
 module _ {A : Type 0} (f : A → ℕ) where
@@ -87,13 +87,23 @@ total_most base count [] = omega (arith, total_none base count)
     total_none : (base count : ℕ) → total base count (λ t. times t []) ≡ 0
     total_none base zero = refl
     total_none base (suc count) = omega (arith, total_none base count)
-total_most base count (x ∷ xs) = omega (arith, total_same base count (λ t. times t (x ∷ xs)) (λ t. times t (x ∷ []) + times t xs) (λ t. times-append t (x ∷ []) xs),
-    total_add base count (λ t. times t (x ∷ [])) (λ t. times t xs), total_one base count x, total_most base count xs)
+total_most base count (x ∷ xs) = omega (
+  arith,
+  total_same base count (λ t. times t (x ∷ xs)) (λ t. times t (x ∷ []) + times t xs) (λ t. times-append t (x ∷ []) xs),
+  total_add base count (λ t. times t (x ∷ [])) (λ t. times t xs),
+  total_one base count x,
+  total_most base count xs,
+)
 
 total_least : (count : ℕ) (xs : List ℕ) → ((n : ℕ) → count ≤ n → times n xs ≡ 0) → length xs ≤ total 0 count (λ t. times t xs)
 total_least count [] below = omega arith
-total_least count (x ∷ xs) below = omega (arith, total_same 0 count (λ t. times t (x ∷ xs)) (λ t. times t (x ∷ []) + times t xs) (λ t. times-append t (x ∷ []) xs),
-    total_add 0 count (λ t. times t (x ∷ [])) (λ t. times t xs), total_inside count x inside, total_least count xs (λ n far. omega (arith, below n far, times-append n (x ∷ []) xs)))
+total_least count (x ∷ xs) below = omega (
+  arith,
+  total_same 0 count (λ t. times t (x ∷ xs)) (λ t. times t (x ∷ []) + times t xs) (λ t. times-append t (x ∷ []) xs),
+  total_add 0 count (λ t. times t (x ∷ [])) (λ t. times t xs),
+  total_inside count x inside,
+  total_least count xs (λ n far. omega (arith, below n far, times-append n (x ∷ []) xs)),
+)
   where
     inside : x < count
     inside = dite (dec_le count x) (λ far. absurd (omega (arith, below x far, times_here x xs))) (λ near. omega arith)
@@ -103,19 +113,24 @@ module _ {A : Type 0} (tickets numbers : A → List ℕ) where
       → total base count (λ t. sum_by (λ v. times t (tickets v)) vs) ≤ total 0 passes (λ n. sum_by (λ v. times n (numbers v)) vs)
   crowd base count passes [] each below = omega (arith, total_most base count [])
   crowd base count passes (v ∷ vs) each below = omega (
-      arith,
-      total_same base count (λ t. sum_by (λ v. times t (tickets v)) (v ∷ vs)) (λ t. times t (tickets v) + sum_by (λ v. times t (tickets v)) vs) (λ t. sum_by-cons (λ v. times t (tickets v)) v vs),
-      total_same 0 passes (λ n. sum_by (λ v. times n (numbers v)) (v ∷ vs)) (λ n. times n (numbers v) + sum_by (λ v. times n (numbers v)) vs) (λ n. sum_by-cons (λ v. times n (numbers v)) v vs),
-      total_add base count (λ t. times t (tickets v)) (λ t. sum_by (λ v. times t (tickets v)) vs),
-      total_add 0 passes (λ n. times n (numbers v)) (λ n. sum_by (λ v. times n (numbers v)) vs),
-      total_most base count (tickets v),
-      each 0 v refl,
-      total_least passes (numbers v) (λ n far. omega (arith, below n far, sum_by-cons (λ v. times n (numbers v)) v vs)),
-      crowd base count passes vs (λ i w at. each (suc i) w at) (λ n far. omega (arith, below n far, sum_by-cons (λ v. times n (numbers v)) v vs)))
+    arith,
+    total_same base count (λ t. sum_by (λ v. times t (tickets v)) (v ∷ vs)) (λ t. times t (tickets v) + sum_by (λ v. times t (tickets v)) vs) (λ t. sum_by-cons (λ v. times t (tickets v)) v vs),
+    total_same 0 passes (λ n. sum_by (λ v. times n (numbers v)) (v ∷ vs)) (λ n. times n (numbers v) + sum_by (λ v. times n (numbers v)) vs) (λ n. sum_by-cons (λ v. times n (numbers v)) v vs),
+    total_add base count (λ t. times t (tickets v)) (λ t. sum_by (λ v. times t (tickets v)) vs),
+    total_add 0 passes (λ n. times n (numbers v)) (λ n. sum_by (λ v. times n (numbers v)) vs),
+    total_most base count (tickets v),
+    each 0 v refl,
+    total_least passes (numbers v) (λ n far. omega (arith, below n far, sum_by-cons (λ v. times n (numbers v)) v vs)),
+    crowd base count passes vs (λ i w at. each (suc i) w at) (λ n far. omega (arith, below n far, sum_by-cons (λ v. times n (numbers v)) v vs)),
+  )
 
   -- where each ticket and each number stands in one place, there are no more tickets than numbers
   pub no_more_tickets : (base count passes : ℕ) (vs : List A) → ((i : ℕ) (v : A) → get_elem? vs i ≡ some v → length (tickets v) ≤ length (numbers v))
       → ((t : ℕ) → base ≤ t → t < base + count → sum_by (λ v. times t (tickets v)) vs ≡ 1) → ((n : ℕ) → n < passes → sum_by (λ v. times n (numbers v)) vs ≡ 1) → ((n : ℕ) → passes ≤ n → sum_by (λ v. times n (numbers v)) vs ≡ 0)
       → count ≤ passes
-  no_more_tickets base count passes vs each out once below = omega (arith, crowd base count passes vs each below, total_ones base count (λ t. sum_by (λ v. times t (tickets v)) vs) out,
-      total_ones 0 passes (λ n. sum_by (λ v. times n (numbers v)) vs) (λ n _ less. once n (omega arith)))
+  no_more_tickets base count passes vs each out once below = omega (
+    arith,
+    crowd base count passes vs each below,
+    total_ones base count (λ t. sum_by (λ v. times t (tickets v)) vs) out,
+    total_ones 0 passes (λ n. sum_by (λ v. times n (numbers v)) vs) (λ n _ less. once n (omega arith)),
+  )

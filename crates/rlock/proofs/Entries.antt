@@ -1,12 +1,12 @@
 -- Lists of entries: beginnings, and the entries of one pass.
-use Rattle.std.proofs.Common.{◌≡◌, ◌≢◌, ℕ, ◌+◌, ◌<◌, ◌≤◌, Bool, true, false, cond, eqb, List, [], ◌∷◌, ◌++◌, length, drop, refl, sym, ap, ◌∙◌, subst, arith, eq-eqb, ne_eqb, length-append, append_assoc}
+use Rattle.std.proofs.Common.{◌≡◌, ◌≢◌, ℕ, ◌≤◌, Bool, cond, eqb, List, [], ◌∷◌, ◌++◌, length, drop, refl, sym, ap, ◌∙◌, arith, eq-eqb, ne_eqb, length-append, append_assoc}
 use mathlib.Core.List.{IsPrefix, append-nil}
-use Rattle.std.specs.Prelude.{All, filter, map}
+use Rattle.std.specs.Prelude.{All, map}
 use Rattle.std.proofs.Math.Seq.{drop-append_seam}
 use Rattle.std.proofs.lemmas.List.Elements.{All-nil, All-cons, All-head, All-tail, filter-append}
 use Rattle.rlock.specs.Known.{entries_by, Appends, new_entries}
 use Rattle.rlock.specs.Views.{times}
-use Rattle.rlock.proofs.Counting.{times-append, times-cons, times_here}
+use Rattle.rlock.proofs.Counting.{times-cons, times_here}
 
 module _ {E : Type 0} where
   pub IsPrefix-trans : (xs ys zs : List E) → IsPrefix xs ys → IsPrefix ys zs → IsPrefix xs zs

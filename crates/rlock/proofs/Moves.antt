@@ -1,13 +1,13 @@
 -- Each step of a turn keeps the rule, and tells what its play says.
-use Rattle.std.proofs.Common.{◌≡◌, ◌≢◌, ℕ, zero, suc, ◌+◌, ◌-◌, ◌%◌, ◌^◌, ◌<◌, ◌≤◌, ◌⊎◌, Bool, true, false, cond, List, [], ◌∷◌, ◌++◌, length, get_or, set, refl, sym, ap, ◌∙◌, subst, inl, inr, ⊎_elim, arith, Option, Some, None}
-use Rattle.std.proofs.Math.Nat.{mod-add-mod, mod-mod}
+use Rattle.std.proofs.Common.{◌≡◌, ℕ, ◌+◌, ◌-◌, ◌%◌, ◌^◌, ◌<◌, ◌≤◌, Bool, true, false, cond, List, [], ◌∷◌, ◌++◌, length, get_or, set, refl, sym, ap, ◌∙◌, subst, ⊎_elim, arith, Option, Some}
+use Rattle.std.proofs.Math.Nat.{mod-add-mod}
 use mathlib.Core.Logic.{dite}
-use mathlib.Core.List.{IsPrefix, append-nil}
+use mathlib.Core.List.{append-nil}
 use mathlib.Core.Option as maybe
 use native.Mathlib.Decide.{ℕ_discrete, dec_le}
 use lib.ListN.{get_elem?}
 use lib.Seq.{set-get_or}
-use Rattle.std.specs.Prelude.{All, IsTrue, map}
+use Rattle.std.specs.Prelude.{All, map}
 use Rattle.std.proofs.lemmas.List.Elements.{All-nil, All-cons, All-head}
 use Rattle.std.proofs.lemmas.Bool.{true≢false}
 use Rattle.atomic_table.specs.Table.{State, Me, step, keeps, takes, gives, stepped, rest, put_back, Allows}
@@ -17,11 +17,11 @@ use Rattle.rlock.specs.declared.view.Member.{Member}
 use Rattle.rlock.specs.declared.view.Mode.{Mode}
 use Rattle.rlock.specs.declared.view.Mode.TheVariants.{Idle, Waiting, Served, Putting}
 use Rattle.rlock.specs.Known.{entries_by, Appends, new_entries}
-use Rattle.rlock.specs.Views.{times, ticket_of, has_turn, numbers_of, drawers, turns_taken}
-use Rattle.rlock.specs.Rule.{Each, Numbers, Tickets, HasServedTicket, Prefixes, OwnEntries, IsHome, IsAway, Home, GateHolds}
+use Rattle.rlock.specs.Views.{times, ticket_of, has_turn, numbers_of, drawers}
+use Rattle.rlock.specs.Rule.{Tickets, HasServedTicket, IsHome, IsAway, Home, GateHolds}
 use Rattle.rlock.specs.Steps.{drawing, serving, with_more, putting, resting, Holds, drew, looked, noted, returned}
-use Rattle.rlock.proofs.Counting.{at_most_sum, some_counts, no_more_tickets, times_here, times-append}
-use Rattle.rlock.proofs.Entries.{IsPrefix-to, own_grow, Appends-prefix}
+use Rattle.rlock.proofs.Counting.{at_most_sum, some_counts, no_more_tickets, times_here}
+use Rattle.rlock.proofs.Entries.{own_grow, Appends-prefix}
 use Rattle.rlock.proofs.Parts.{each_set, numbers_kept, tickets_kept, tickets_drawn, tickets_served, no_shared_ticket, turn_given_up, prefixes_kept, prefixes_grown, own_kept, own_grown, home_kept, home_taken, is_away, home_told, home_returned}
 
 abbrev pub ticket_in : Mode → ℕ

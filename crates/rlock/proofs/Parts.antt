@@ -14,7 +14,7 @@ use Rattle.atomic_table.proofs.Lists.{at_set, at_snoc, set_here, set_else, at_lo
 use Rattle.rlock.specs.declared.view.View.{View}
 use Rattle.rlock.specs.declared.view.Member.{Member}
 use Rattle.rlock.specs.Known.{entries_by, Appends}
-use Rattle.rlock.specs.Views.{times, ticket_of, has_turn, numbers_of, holders, drawers, turns_taken}
+use Rattle.rlock.specs.Views.{times, ticket_of, has_turn, numbers_of, drawers, turns_taken}
 use Rattle.rlock.specs.Rule.{Each, Numbers, Tickets, HasServedTicket, Prefixes, OwnEntries, IsHome, IsAway, Home}
 use Rattle.rlock.proofs.Counting.{sum_set, at_most_sum, two_at_most_sum, times_here, times_else, times-append}
 use Rattle.rlock.proofs.Entries.{IsPrefix-trans, apart_from, others_keep}

@@ -1,11 +1,10 @@
 -- What the plays tell of the seat of a pass.
-use Rattle.std.proofs.Common.{◌≡◌, ℕ, ◌+◌, ◌%◌, ◌^◌, ◌<◌, arith, List, [], ◌∷◌, ◌++◌, refl, sym, ap, ◌∙◌, subst, Option, Some, None}
+use Rattle.std.proofs.Common.{◌≡◌, ℕ, ◌+◌, ◌%◌, ◌^◌, arith, List, [], ◌∷◌, ◌++◌, sym, ap, ◌∙◌, subst, Option, Some}
 use mathlib.Core.Option as maybe
 use Rattle.std.specs.Prelude.{All, map}
 use Rattle.std.proofs.lemmas.List.Elements.{All-nil, All-cons, All-head, All-tail}
 use mathlib.Core.List.{IsPrefix, map-append}
 use Rattle.atomic_table.specs.Table.{Me, step, rest}
-use Rattle.atomic_table.specs.declared.shared.Seat.{Seat}
 use Rattle.rlock.specs.declared.view.View.{View}
 use Rattle.rlock.specs.declared.view.Member.{Member}
 use Rattle.rlock.specs.declared.view.Mode.TheVariants.{Idle, Waiting, Served, Putting}
@@ -109,13 +108,14 @@ module _ {O E : Type 0} (number : E → ℕ) where
 
   joined_numbers : (n : ℕ) (v w : View O E) → times n (numbers_of (joined v w)) ≡ times n (numbers_of v) + times n (numbers_of w)
   joined_numbers n v w = let numbers = λ (ms : List (Member O E)). map (λ (m : Member O E). m.number) ms in omega (
-      arith,
-      times-append n (numbers (v.members ++ w.members)) (v.unmade ++ w.unmade),
-      ap (times n) (map-append (λ (m : Member O E). m.number) v.members w.members),
-      times-append n (numbers v.members) (numbers w.members),
-      times-append n v.unmade w.unmade,
-      times-append n (numbers v.members) v.unmade,
-      times-append n (numbers w.members) w.unmade)
+    arith,
+    times-append n (numbers (v.members ++ w.members)) (v.unmade ++ w.unmade),
+    ap (times n) (map-append (λ (m : Member O E). m.number) v.members w.members),
+    times-append n (numbers v.members) (numbers w.members),
+    times-append n v.unmade w.unmade,
+    times-append n (numbers v.members) v.unmade,
+    times-append n (numbers w.members) w.unmade,
+  )
 
   -- a view that takes in another covers what either of them covers
   pub covers_before : (v w : View O E) (k : Known O E) → Covers number v k → Covers number (joined v w) k

@@ -1,26 +1,25 @@
 -- Giving out a number and taking in a pass keep the rule; so does the first state. What the rule tells once one pass has taken in all others.
-use Rattle.std.proofs.Common.{◌≡◌, ◌≢◌, ℕ, zero, suc, ◌+◌, ◌-◌, ◌%◌, ◌^◌, ◌<◌, ◌≤◌, ◌⊎◌, Bool, true, false, cond, List, [], ◌∷◌, ◌++◌, length, set, refl, sym, ap, ◌∙◌, subst, inl, inr, ⊎_elim, arith, Option, Some, None, ltb, length-append}
+use Rattle.std.proofs.Common.{◌≡◌, ℕ, zero, suc, ◌+◌, ◌-◌, ◌<◌, ◌≤◌, Bool, true, false, cond, List, [], ◌∷◌, ◌++◌, length, set, refl, sym, ap, ◌∙◌, subst, inl, ⊎_elim, arith, Option, Some, ltb, length-append}
 use mathlib.Core.Logic.{dite}
-use mathlib.Core.List.{IsPrefix, append-nil, map-append}
+use mathlib.Core.List.{IsPrefix, map-append}
 use mathlib.Core.Option as maybe
 use native.Mathlib.Decide.{ℕ_discrete, dec_le}
 use lib.ListN.{get_elem?}
-use Rattle.std.specs.Prelude.{All, IsTrue, IsSome, map, unwrap_or}
-use Rattle.std.proofs.lemmas.List.Elements.{All-nil, All-cons, All-head, All-tail, All-append, Contains-get_or}
+use Rattle.std.specs.Prelude.{All, IsSome, map, unwrap_or}
+use Rattle.std.proofs.lemmas.List.Elements.{All-nil, All-cons, All-head, All-tail, All-append}
 use Rattle.std.proofs.lemmas.Bool.{true≢false, cond_both, ltb-true, ltb-false}
 use Rattle.atomic_table.specs.Table.{State, Splits, Joins, opening as first_state, Final, Seen}
 use Rattle.atomic_table.proofs.Lists.{set_here, set_else}
 use Rattle.rlock.specs.declared.view.View.{View}
 use Rattle.rlock.specs.declared.view.Member.{Member}
-use Rattle.rlock.specs.declared.view.Mode.{Mode}
-use Rattle.rlock.specs.declared.view.Mode.TheVariants.{Idle, Waiting, Served, Putting}
+use Rattle.rlock.specs.declared.view.Mode.TheVariants.{Idle}
 use Rattle.rlock.specs.Known.{entries_by, numbers_from}
 use Rattle.rlock.specs.Views.{times, ticket_of, has_turn, numbers_of, first_view}
-use Rattle.rlock.specs.Rule.{Each, Numbers, Tickets, HasServedTicket, Prefixes, OwnEntries, IsHome, IsAway, Home, GateHolds}
+use Rattle.rlock.specs.Rule.{Each, HasServedTicket, IsHome, IsAway, GateHolds}
 use Rattle.rlock.specs.Steps.{giving, given, joined, spent, Holds}
 use Rattle.rlock.proofs.Counting.{at_most_sum, some_counts, times-append, times-cons, times_here, times_else}
-use Rattle.rlock.proofs.Entries.{IsPrefix-refl, IsPrefix-length, IsPrefix-whole}
-use Rattle.rlock.proofs.Parts.{each_set, each_push, is_there, numbers_kept, numbers_split, numbers_joined, no_shared_number, tickets_kept, tickets_new, prefixes_kept, prefixes_spent, prefixes_new, own_kept, own_new, home_kept, home_new}
+use Rattle.rlock.proofs.Entries.{IsPrefix-length, IsPrefix-whole}
+use Rattle.rlock.proofs.Parts.{each_set, each_push, is_there, numbers_split, numbers_joined, no_shared_number, tickets_kept, tickets_new, prefixes_kept, prefixes_spent, prefixes_new, own_kept, own_new, home_kept, home_new}
 
 module _ {S O E : Type 0} (opening : S → O) (entries : S → List E) (number : E → ℕ) (passes : ℕ) (o : O) where
   abbrev V : Type 0
@@ -40,10 +39,16 @@ module _ {S O E : Type 0} (opening : S → O) (entries : S → List E) (number :
         log = r.log;
         served = r.served;
         drawn = r.drawn;
-        numbers = numbers_split passes s.views id v w new at (λ k. omega (arith,
-            times-append k (map (λ (m : Member O E). m.number) v.members) v.unmade, times-append k (map (λ (m : Member O E). m.number) v.members) w.unmade,
-            ap (times k) has, ap (times k) left, times-cons k n ns,
-            ap (λ (ms : List (Member O E)). times k (map (λ (m : Member O E). m.number) ms ++ [])) taken, times-cons k n [])) r.numbers;
+        numbers = numbers_split passes s.views id v w new at (λ k. omega (
+          arith,
+          times-append k (map (λ (m : Member O E). m.number) v.members) v.unmade,
+          times-append k (map (λ (m : Member O E). m.number) v.members) w.unmade,
+          ap (times k) has,
+          ap (times k) left,
+          times-cons k n ns,
+          ap (λ (ms : List (Member O E)). times k (map (λ (m : Member O E). m.number) ms ++ [])) taken,
+          times-cons k n [],
+        )) r.numbers;
         tickets = tickets_new r.served r.drawn s.words vs new refl (tickets_kept r.served r.drawn s.words s.views id v w at refl (r.tickets.of_passes id v at) r.tickets);
         turn = each_push (HasServedTicket r.served) vs new (each_set (HasServedTicket r.served) s.views id w (r.turn id v at) (λ j u _. r.turn j u)) (λ turn. absurd (true≢false (sym turn)));
         prefixes = prefixes_new r.log vs new (r.prefixes.seen id v at) refl (prefixes_kept r.log s.views id v w at (r.prefixes.seen id v at) (λ e. e) (r.prefixes.olds id v at) r.prefixes);
@@ -72,9 +77,15 @@ module _ {S O E : Type 0} (opening : S → O) (entries : S → List E) (number :
         log = r.log;
         served = r.served;
         drawn = r.drawn;
-        numbers = numbers_joined passes s.views id other v w u none at there (λ n. omega (arith,
-            times-append n (numbers (v.members ++ w.members)) (v.unmade ++ w.unmade), ap (times n) (map-append (λ (m : Member O E). m.number) v.members w.members), times-append n (numbers v.members) (numbers w.members),
-            times-append n v.unmade w.unmade, times-append n (numbers v.members) v.unmade, times-append n (numbers w.members) w.unmade)) r.numbers;
+        numbers = numbers_joined passes s.views id other v w u none at there (λ n. omega (
+          arith,
+          times-append n (numbers (v.members ++ w.members)) (v.unmade ++ w.unmade),
+          ap (times n) (map-append (λ (m : Member O E). m.number) v.members w.members),
+          times-append n (numbers v.members) (numbers w.members),
+          times-append n v.unmade w.unmade,
+          times-append n (numbers v.members) v.unmade,
+          times-append n (numbers w.members) w.unmade,
+        )) r.numbers;
         tickets = tickets_kept r.served r.drawn s.words vs other w none there (sym (ap ticket_of idle_w)) (omega arith)
             (tickets_kept r.served r.drawn s.words s.views id v u at refl (omega (arith, r.tickets.of_passes id v at, length-append v.members w.members)) r.tickets);
         turn = each_set (HasServedTicket r.served) vs other none (λ turn. absurd (true≢false (sym turn))) (λ j x _. each_set (HasServedTicket r.served) s.views id u (r.turn id v at) (λ k y _. r.turn k y) j x);

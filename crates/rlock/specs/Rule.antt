@@ -1,5 +1,5 @@
 -- The rule of the gate, which holds between any two atomic steps.
-use Rattle.std.specs.Prelude.{◌≡◌, ℕ, ◌+◌, ◌-◌, ◌%◌, ◌^◌, ◌<◌, ◌≤◌, ◌⊎◌, Option, Some, List, [], ◌∷◌, length, All, IsTrue}
+use Rattle.std.specs.Prelude.{◌≡◌, ℕ, ◌%◌, ◌^◌, ◌<◌, ◌≤◌, ◌⊎◌, Option, Some, List, [], ◌∷◌, length, All, IsTrue}
 use mathlib.Core.List.{IsPrefix}
 use mathlib.Core.Option as maybe
 use lib.ListN.{get_elem?}
@@ -7,7 +7,7 @@ use Rattle.atomic_table.specs.Table.{State}
 use Rattle.rlock.specs.declared.view.View.{View}
 use Rattle.rlock.specs.declared.view.Member.{Member}
 use Rattle.rlock.specs.Known.{entries_by}
-use Rattle.rlock.specs.Views.{times, ticket_of, has_turn, holders, drawers, turns_taken}
+use Rattle.rlock.specs.Views.{ticket_of, has_turn, holders, drawers, turns_taken}
 
 module _ {O E : Type 0} where
   abbrev pub Each : (View O E → Type 0) → List (View O E) → Type 0

@@ -1,5 +1,5 @@
 -- The view of a pass, and what is read from a view.
-use Rattle.std.specs.Prelude.{◌≡◌, ℕ, ◌+◌, ◌-◌, ◌==◌, Bool, true, false, Option, Some, None, List, [], ◌∷◌, ◌++◌, map, count_by, sum_by}
+use Rattle.std.specs.Prelude.{◌≡◌, ℕ, ◌-◌, ◌==◌, Bool, true, false, Option, Some, None, List, [], ◌∷◌, ◌++◌, map, count_by, sum_by}
 use Rattle.atomic_table.specs.Seated.{TableId}
 use Rattle.rlock.specs.declared.view.View.{View}
 use Rattle.rlock.specs.declared.view.Member.{Member}

@@ -16,11 +16,7 @@ impl<S: Kept + Drop> Gate<S> {
     /// A gate before this state, and its passes, numbered from 0 in order. None of them has seen or made anything.
     ///
     /// At `Err` there was no memory, and the state is dropped.
-    pub fn new(
-        alloc: Global,
-        state: S,
-        passes: u8,
-    ) -> Result<(Gate<S>, Vec<Pass<S>>), AllocError>
+    pub fn new(alloc: Global, state: S, passes: u8) -> Result<(Gate<S>, Vec<Pass<S>>), AllocError>
         requires count { (1 ≤ passes) × (passes ≤ SEATS) }
         requires no_entries { S.entries state ≡ [] }
         ensures count { IfOk result (λ r. (r.0.passes ≡ passes) × (length r.1.items ≡ passes)) }

@@ -1,4 +1,4 @@
-use Rattle.std.proofs.Common.{rules, arith, ◌≡◌, ℕ, List, [], ◌∷◌, refl, sym, ap, ◌∙◌, subst, map}
+use Rattle.std.proofs.Common.{rules, ◌≡◌, List, [], ◌∷◌, refl, sym, ap, ◌∙◌, subst, map}
 use Rattle.std.specs.Prelude.{All}
 use Rattle.std.proofs.lemmas.List.Elements.{All-get_or, All-weaker, All-push}
 use Rattle.std.proofs.lemmas.Iterator.Adapters.{YieldsList-from_vec}
@@ -16,7 +16,7 @@ pub join_seat-requires : goal.join_seat-requires
 join_seat-requires g c = let p = c.pass.inside in let idle = c.loop-pass.invariant.idle in let gives = c.into_iter-pass-iterator.ensures.into_iter_gives in
     let turn = YieldsList-turn (YieldsList-from_vec {s = c.into_iter-pass-iterator.result} c.args.passes.items gives.0 (gives.1 ∙ c.args.passes.ok.0)) c.loop-pass.yielded c.loop-pass.pass-iterator c.loop-pass.yielded_by _ c.next.new.self c.in-Some.pass c.in-Some.is c.next.ensures.steps in
     let its_gate : c.in-Some.pass.gate ≡ c.args.board.now.shared.table_id = ap (λ (k : Known g.row.S-Opening.Denot g.row.S-Entry.Denot). k.gate) turn.1
-        ∙ All-get_or (λ (k : Known g.row.S-Opening.Denot g.row.S-Entry.Denot). k.gate ≡ c.args.board.now.shared.table_id) c.args.passes.items _ c.in-Some.pass turn.0 c.requires.passes in (
+    ∙ All-get_or (λ (k : Known g.row.S-Opening.Denot g.row.S-Entry.Denot). k.gate ≡ c.args.board.now.shared.table_id) c.args.passes.items _ c.in-Some.pass turn.0 c.requires.passes in (
       idle.0,
       ap (λ (k : Known g.row.S-Opening.Denot g.row.S-Entry.Denot). k.gate) c.pass.view_is ∙ its_gate,
       c.pass.invariant.1,

@@ -1,4 +1,3 @@
-use Rattle.std.proofs.Common.{◌≡◌}
 use Rattle.std.specs.Prelude.{All}
 use Rattle.rlock.specs.Known.{Known}
 use Rattle.rlock.specs.Covering.{Covers, IsIdleAt}

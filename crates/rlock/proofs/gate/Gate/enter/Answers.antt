@@ -1,4 +1,4 @@
-use Rattle.std.proofs.Common.{rules, ◌≡◌, ℕ, ◌+◌, List, refl, sym, ap, ◌∙◌, subst}
+use Rattle.std.proofs.Common.{rules, ℕ, ◌+◌, refl, ap, ◌∙◌, subst}
 use Rattle.rlock.specs.declared.view.Mode.TheVariants.{Idle, Served}
 use Rattle.rlock.specs.Known.{Known, IsTrueOf, entered}
 use Rattle.rlock.specs.Views.{known_from}

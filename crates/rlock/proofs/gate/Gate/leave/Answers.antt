@@ -1,5 +1,5 @@
-use Rattle.std.proofs.Common.{rules, ◌≡◌, ℕ, List, refl, sym, ap, ◌∙◌, subst, Some}
-use Rattle.rlock.specs.declared.view.Mode.TheVariants.{Idle, Served}
+use Rattle.std.proofs.Common.{◌≡◌, refl, sym, ap, ◌∙◌, subst, Some}
+use Rattle.rlock.specs.declared.view.Mode.TheVariants.{Idle}
 use Rattle.rlock.specs.Known.{Known, Taken, Appends, left}
 use Rattle.rlock.specs.Views.{known_from}
 use Rattle.rlock.specs.Steps.{Rests}

@@ -1,6 +1,6 @@
-use Rattle.std.proofs.Common.{rules, arith, ◌≡◌, ◌+◌, ℕ, List, length, ap, ◌∙◌, subst, sym, Some}
+use Rattle.std.proofs.Common.{rules, arith, ◌≡◌, ◌+◌, List, length, ap, ◌∙◌, subst, sym, Some}
 use Rattle.std.specs.Prelude.{All, slice_get}
-use Rattle.rlock.specs.Known.{Known, newcomer, newcomers}
+use Rattle.rlock.specs.Known.{Known, newcomer}
 use Rattle.rlock.proofs.Newcomers.{length-newcomers, newcomers-at, all-newcomers}
 use Rattle.rlock.proofs.gate.Gate.new.Goals as goal
 
