@@ -10,6 +10,7 @@ use Rattle.rlock.specs.Known.{entries_by}
 use Rattle.rlock.specs.Views.{ticket_of, has_turn, holders, drawers, turns_taken}
 
 module _ {O E : Type 0} where
+  -- it is so of each view
   abbrev pub Each : (View O E → Type 0) → List (View O E) → Type 0
   Each P views = (id : ℕ) (v : View O E) → get_elem? views id ≡ maybe.some v → P v
 

@@ -14,6 +14,7 @@ use Rattle.rlock.specs.Views.{IsViewOf}
 abbrev pub IsSized : TableId → Type 0
 IsSized id = (id.words ≡ 2) × (id.slots ≡ 1)
 
+-- the numbers without the least one
 abbrev pub without_first : List ℕ → List ℕ
 without_first [] = []
 without_first (n ∷ ns) = ns
@@ -27,6 +28,7 @@ module _ {O E : Type 0} where
   abbrev pub serving : ℕ → List E → View O E → View O E
   serving t list v = record v { mode = Served t; seen = list }
 
+  -- the first of these has made more
   abbrev pub with_more : List E → List (Member O E) → List (Member O E)
   with_more more [] = []
   with_more more (m ∷ ms) = record m { mine = m.mine ++ more } ∷ ms
@@ -39,6 +41,7 @@ module _ {O E : Type 0} where
   abbrev pub resting : View O E → View O E
   resting v = record v { mode = Idle }
 
+  -- a pass with the least of these numbers, and with the opening of the others
   abbrev pub next_member : List ℕ → List (Member O E) → List (Member O E)
   next_member (n ∷ ns) (m ∷ ms) = record { number = n; opening = m.opening; mine = [] } ∷ []
   next_member _ _ = []

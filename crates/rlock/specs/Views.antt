@@ -18,6 +18,7 @@ ticket_of (Waiting t) = t ∷ []
 ticket_of (Served t) = t ∷ []
 ticket_of (Putting t) = t ∷ []
 
+-- whether the state is out of the slot
 abbrev pub has_turn : Mode → Bool
 has_turn Idle = false
 has_turn (Waiting t) = false
@@ -29,13 +30,15 @@ module _ {O E : Type 0} where
   abbrev pub numbers_of : View O E → List ℕ
   numbers_of v = map (λ (m : Member O E). m.number) v.members ++ v.unmade
 
-  -- in how many views the number stands, and in how many the ticket
+  -- how often a number stands in the views
   abbrev pub holders : ℕ → List (View O E) → ℕ
   holders n views = sum_by (λ (v : View O E). times n (numbers_of v)) views
 
+  -- in how many views a ticket stands
   abbrev pub drawers : ℕ → List (View O E) → ℕ
   drawers t views = sum_by (λ (v : View O E). times t (ticket_of v.mode)) views
 
+  -- how many views have the turn
   abbrev pub turns_taken : List (View O E) → ℕ
   turns_taken views = count_by (λ (v : View O E). has_turn v.mode) views
 
@@ -69,6 +72,7 @@ module _ {O E : Type 0} where
   abbrev pub first_view : ℕ → O → View O E
   first_view passes o = opening_view 1 (passes - 1) o
 
+  -- what the first of these has made, and its opening
   abbrev pub mine_of : List (Member O E) → List E
   mine_of [] = []
   mine_of (m ∷ ms) = m.mine

@@ -12,7 +12,7 @@ use crate::pass::Pass;
 use crate::plays::TakeIn;
 
 impl<S: Kept> Gate<S> {
-    /// Takes all passes of the gate, and gives back the state.
+    /// Takes all passes of the gate, and gives back the state. The number of each pass has to be among theirs.
     ///
     /// What each of them knows is true of the state, and each entry was made by one of them.
     pub fn close(self, mut passes: Vec<Pass<S>>) -> S
@@ -21,6 +21,7 @@ impl<S: Kept> Gate<S> {
         ensures passes { All (λ p. IsTrueOf S.number p (S.opening result) (S.entries result)) passes.items }
         ensures entries { All (λ e. S.number e < self.passes) (S.entries result) }
     {
+        // The gate's invariant: it has a pass.
         let _ = &self.board;
         let last = passes.pop().unwrap();
         self.close_and(passes, last)

@@ -34,7 +34,7 @@ impl<S: Kept> Model for Gate<S> {
 }
 
 impl<S: Kept> Gate<S> {
-    /// Waits for the pass's turn, and takes the state.
+    /// Waits for the turn of a pass of this gate, and takes the state.
     ///
     /// What the pass knows is true of the state. The pass has then seen the state's list, and has had one turn more.
     pub fn enter<R: Wait>(&self, rt: &R, pass: Pass<S>) -> Turn<S>
@@ -66,7 +66,7 @@ impl<S: Kept> Gate<S> {
         unreachable!()
     }
 
-    /// Gives the state back, and ends the turn.
+    /// Gives the state back, and ends the turn. Its opening has to be as it was at the entry, and its list the one at the entry with entries of this pass behind it.
     ///
     /// The pass has then seen the list that it left, and made its new entries.
     pub fn leave(&self, turn: Turn<S>) -> Pass<S>

@@ -10,10 +10,12 @@ use crate::pass::Pass;
 use std::alloc::{AllocError, Global};
 use std::sync::Wait;
 
-/// Which pass has signed, and the how manieth time it says that this was.
+/// A pass's signature.
 #[derive(Clone, Copy, Debug, PartialEq, Eq)]
 pub struct Signature {
+    /// The number of the pass.
     pub pass: u8,
+    /// How often it says that it had signed before.
     pub time: u32,
 }
 
