@@ -1,0 +1,15 @@
+use Rattle.std.proofs.Common.{rules, ◌≡◌, ◌<◌, ℕ, List, length, get_or, true, sym, ap, ◌∙◌, subst}
+use Rattle.std.proofs.lemmas.List.{get_or_default}
+use Rattle.rlock.specs.Known.{Known, newcomer}
+use Rattle.rlock.specs.declared.roll.Signature.{Signature}
+use Rattle.rlock.proofs.tests.closed.Goals as goal
+
+pub close-requires-clause-all : goal.close-requires-clause-all
+close-requires-clause-all g c = λ n low. let d : Known ℕ Signature = newcomer c.args.gate.gate 0 0 in let passes = c.args.passes.items in let same = c.as_slice.ensures.value in
+    let inside : n < length passes = search rules in let yes : c.are_in_order.result ≡ true = search rules in (
+      n,
+      get_or passes n d,
+      inside,
+      get_or_default passes n (get_or passes n d) d inside,
+      ap (λ (l : List (Known ℕ Signature)). (get_or l n d).number) (sym same) ∙ c.are_in_order.ensures yes n d (subst (λ (l : List (Known ℕ Signature)). n < length l) (sym same) inside),
+    )

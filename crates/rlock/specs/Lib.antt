@@ -1,0 +1,6 @@
+pub mod Covering
+pub mod Known
+pub mod Roll
+pub mod Rule
+pub mod Steps
+pub mod Views

@@ -1,0 +1,24 @@
+//! A ticket lock whose kept history every pass can prove from.
+//!
+//! A gate keeps one state, which has an opening that no turn changes and a list of entries. A pass takes turns at it:
+//! `enter` waits for the pass's turn, and `leave` ends it. What a pass has seen and made stands in the contracts as lists,
+//! and `close` says that all of it stands in the one list that the state has in the end.
+#![tactic(auto)]
+
+mod board;
+mod closing;
+mod gate;
+mod kept;
+mod opening;
+mod pass;
+mod plays;
+pub mod roll;
+#[cfg(test)]
+mod tests;
+mod turn;
+mod view;
+
+pub use gate::Gate;
+pub use kept::Kept;
+pub use pass::Pass;
+pub use turn::Turn;
