@@ -1,14 +1,13 @@
 -- Declared sets: which sets are, and that each member is shared with each other.
-use Rattle.std.proofs.Common.{◌≡◌, ◌≢◌, ◌⊎◌, ℕ, ◌+◌, ◌-◌, ◌<◌, ◌≤◌, ◌==◌, ◌&&◌, ◌||◌, not, Bool, true, false, cond, List, [], ◌∷◌, ◌++◌, nat_lt, refl, sym, ap, ◌∙◌, inl, inr, arith}
-use Rattle.std.specs.Prelude.{slice_get, Some}
+use Rattle.std.proofs.Common.{◌≡◌, ◌⊎◌, ℕ, ◌+◌, ◌-◌, ◌<◌, ◌≤◌, ◌==◌, ◌&&◌, ◌||◌, not, true, false, cond, List, [], ◌∷◌, ◌++◌, nat_lt, refl, sym, ap, ◌∙◌, inl, inr, arith}
 use Rattle.std.specs.List.{list_any, list_all}
 use Rattle.std.specs.Ordering.{nat_cmp}
 use Rattle.std.specs.Cmp.{nat_cmp_total}
 use Rattle.std.specs.FinSet.{empty, contains, insert, remove, len, is_subset, empty_of_len, len-empty, len-insert, len-remove}
-use Rattle.std.proofs.lemmas.Bool.{eqb-true, eq-eqb, ltb-false, ne_eqb, or_cases, or_left, or_right, and_parts, and_from, false_from_ne_true, true_from_ne_false, not-false}
+use Rattle.std.proofs.lemmas.Bool.{eqb-true, eq-eqb, ltb-false, ne_eqb, or_cases, or_left, or_right, and_parts, and_from, false_from_ne_true, true_from_ne_false}
 use Rattle.std.proofs.lemmas.List.Folds.{list_any-append}
 use Rattle.rset.specs.Sets.{Set, all_below}
-use Rattle.rset.proofs.SetLemmas.{contains_empty, contains_insert, contains_remove, filled_by, all_below_at, all_below_within, within_at, within_from, within_transitive, within_reflexive}
+use Rattle.rset.proofs.SetLemmas.{contains_empty, contains_remove, all_below_at, all_below_within, within_at, within_from, within_transitive}
 use Rattle.rset.proofs.SetMembers.{contrary}
 use Rattle.rexpand.specs.Groups.{shared_with, is_inside, is_declared, is_group}
 use Rattle.rexpand.proofs.SharedLemmas.{in_one_group, shared_itself, shared_by_group}

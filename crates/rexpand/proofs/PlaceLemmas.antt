@@ -1,13 +1,12 @@
 -- The places of a claim: their members, and how they grow with what is read, what is written and the groups.
-use Rattle.std.proofs.Common.{◌≡◌, ◌⊎◌, ℕ, ◌==◌, ◌||◌, Bool, true, false, List, [], ◌∷◌, ◌++◌, fold, refl, sym, ap, ◌∙◌, inl, inr}
+use Rattle.std.proofs.Common.{◌≡◌, ◌⊎◌, ℕ, ◌||◌, Bool, true, false, List, [], ◌∷◌, ◌++◌, fold, refl, sym, ap, ◌∙◌, inl, inr}
 use Rattle.std.specs.List.{list_any, list_all}
-use Rattle.std.specs.Ordering.{nat_cmp}
-use Rattle.std.specs.FinSet.{empty, contains, insert, union, is_subset, items}
+use Rattle.std.specs.FinSet.{empty, contains, union, is_subset, items}
 use Rattle.std.proofs.lemmas.Bool.{or_cases, or_left, or_right}
 use Rattle.rset.specs.declared.TheConstants.{RESOURCES}
 use Rattle.rset.specs.Sets.{Set, all_below, meets, rising}
-use Rattle.rset.proofs.SetLemmas.{same_test, same_members, contains_empty, contains_insert, contains_union, contains_in_items, within_at, within_from, within_both, union_within, within_reflexive, meets_from, meets_common, meets_empty_left, meets_within_left, meets_within_right, meets_union_left, meets_insert_right, meets_empty_right, apart_at, all_below_at, all_below_from, rising_has}
-use Rattle.rset.proofs.SetMembers.{contrary, passing, passes_at}
+use Rattle.rset.proofs.SetLemmas.{same_test, same_members, contains_union, contains_in_items, within_at, within_from, within_both, meets_from, meets_common, meets_empty_left, meets_insert_right, meets_empty_right, apart_at, all_below_at, all_below_from, rising_has}
+use Rattle.rset.proofs.SetMembers.{passing, passes_at}
 use Rattle.rexpand.specs.Groups.{shared_with, places_of, is_group}
 use Rattle.rexpand.proofs.SharedLemmas.{shared_alone, shared_symmetric, shared_itself, shared_persists, shared_grows, shared_below}
 

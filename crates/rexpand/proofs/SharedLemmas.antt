@@ -1,12 +1,11 @@
 -- What is shared with a resource: its members, and how it grows with the groups.
 use Rattle.std.proofs.Common.{◌≡◌, ◌⊎◌, ℕ, ◌<◌, ◌==◌, ◌&&◌, ◌||◌, Bool, true, false, cond, List, [], ◌∷◌, ◌++◌, refl, sym, ap, subst, ◌∙◌, inl, inr}
 use Rattle.std.specs.List.{list_any, list_all}
-use Rattle.std.specs.Ordering.{nat_cmp}
 use Rattle.std.specs.FinSet.{empty, contains, insert, union, is_subset}
-use Rattle.std.proofs.lemmas.Bool.{eqb-true, eq-eqb, or_cases, or_left, or_right, and_parts, and_from}
+use Rattle.std.proofs.lemmas.Bool.{eqb-true, eq-eqb, or_cases, or_left, or_right, and_parts}
 use Rattle.std.proofs.lemmas.List.Folds.{list_any-append}
 use Rattle.rset.specs.Sets.{Set, all_below}
-use Rattle.rset.proofs.SetLemmas.{same_test, same_members, contains_empty, contains_insert, contains_union, within_from, all_below_at, all_below_from, empty_within, union_empty_left}
+use Rattle.rset.proofs.SetLemmas.{same_test, same_members, contains_empty, contains_insert, contains_union, within_from, all_below_at, all_below_from}
 use Rattle.rset.proofs.SetMembers.{contrary}
 use Rattle.rexpand.specs.Groups.{shared_with, is_group}
 

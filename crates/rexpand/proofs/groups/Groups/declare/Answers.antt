@@ -1,9 +1,8 @@
-use Rattle.std.proofs.Common.{◌≡◌, ◌≤◌, ◌<◌, ◌∷◌, ◌++◌, [], true, false, length, List, fold, refl, sym, ap, subst, ◌∙◌, arith}
+use Rattle.std.proofs.Common.{◌≡◌, ◌≤◌, ◌<◌, ◌∷◌, ◌++◌, [], true, length, List, fold, refl, sym, ap, subst, ◌∙◌, arith}
 use Rattle.std.specs.FinSet.{empty}
 use Rattle.std.proofs.lemmas.Bool.{true≢false}
 use Rattle.rset.specs.Sets.{Set, all_below, rising}
 use Rattle.rexpand.specs.declared.TheConstants.{GROUPS}
-use Rattle.rexpand.specs.Groups.{is_group}
 use Rattle.rexpand.specs.Kept.{IsKept, widen}
 use Rattle.rexpand.proofs.GroupLemmas.{groups_parts, group_of}
 use Rattle.rexpand.proofs.KeptLemmas.{kept_push, length_widened, written_back}

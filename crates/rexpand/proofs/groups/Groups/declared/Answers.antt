@@ -1,5 +1,5 @@
-use Rattle.std.proofs.Common.{◌≡◌, ◌≤◌, sym, ap, ◌∙◌, refl, arith}
-use Rattle.std.specs.FinSet.{len, empty, is_subset}
+use Rattle.std.proofs.Common.{sym, ap, ◌∙◌, refl, arith}
+use Rattle.std.specs.FinSet.{is_subset}
 use Rattle.rset.proofs.SetLemmas.{filled_by}
 use Rattle.rexpand.specs.Groups.{is_declared}
 use Rattle.rexpand.proofs.GroupLemmas.{groups_parts}
