@@ -1,0 +1,5 @@
+pub mod SharedLemmas
+pub mod PlaceLemmas
+pub mod DeclaredLemmas
+pub mod GroupLemmas
+mod KeptLemmas

@@ -1,0 +1,28 @@
+// Why a group is not declared.
+ghost use Rattle.std.specs.Prelude.{◌≡◌};
+ghost use Rattle.rexpand.specs.declared.errors.GroupErr.TheVariants.{Memory};
+
+use std::alloc::AllocError;
+use thiserror::Error;
+
+/// Why a group is not declared. As a number each refusal is its place in their order.
+#[derive(Clone, Copy, Debug, PartialEq, Eq, Error)]
+pub enum GroupErr {
+    /// It has no member.
+    #[error("the group has no member")]
+    EmptyGroup = 1,
+    /// There are as many groups as there may be, which is [`GROUPS`](crate::GROUPS).
+    #[error("too many groups")]
+    TooMany = 2,
+    /// Memory ran out.
+    #[error("out of memory")]
+    Memory = 3,
+}
+
+impl From<AllocError> for GroupErr {
+    ghost from_gives = { λ _ e. e ≡ Memory };
+
+    fn from(_e: AllocError) -> GroupErr {
+        GroupErr::Memory
+    }
+}

@@ -1,0 +1,18 @@
+//! Read groups: which resources are shared with one another, and the places that a claim takes.
+//!
+//! A [`Groups`] is the list of the groups that were declared. What is shared with a resource is the resource itself
+//! together with every group that contains it; the places of a write are found from that.
+//! No contract tells how the groups are kept.
+#![tactic(auto)]
+
+mod errors;
+mod groups;
+mod sharing;
+#[cfg(test)]
+mod tests;
+
+pub use errors::GroupErr;
+pub use groups::Groups;
+
+/// The number of groups that may be declared.
+pub const GROUPS: usize = 256;
