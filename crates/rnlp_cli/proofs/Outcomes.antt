@@ -21,7 +21,7 @@ use Rattle.rnlp_cli.proofs.Rows.{rows_unique}
 pub no_output : (bytes : List ℕ) (fault : Fault) → (rows : List Row) × AreRowsOf bytes rows × (first_fault rows ≡ Some fault) → (text : List ℕ) → IsOutput (Some Replay) bytes text → ⊥
 no_output bytes fault (rows, are, first) text (list, spelled, is) =
     let same : rows ≡ spelled.0 = rows_unique default_config st.StartRecord (strip_bom bytes) rows spelled.0 are spelled.1 in
-    let none : first_fault rows ≡ None = ap first_fault same ∙ no_fault spelled.0 list.resources list.tasks spelled.2 in
+    let none : first_fault rows ≡ None = ap first_fault same ∙ no_fault spelled.0 list spelled.2 in
     true≢false (ap is_none (sym none ∙ first))
 
 pub refused : (bytes : List ℕ) (fault : Fault) (before after : Option (List ℕ)) (failed same : Type 0) (s : ToolStatus) → IsRefused fault before after failed same s

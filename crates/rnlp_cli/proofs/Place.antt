@@ -1,5 +1,5 @@
 -- Where the reader of a list is in its text, and what one read more says.
-use Rattle.std.proofs.Common.{◌≡◌, ℕ, ◌+◌, Bor, true, false, cond, List, [], ◌∷◌, ◌++◌, length, Option, Some, None, refl, sym, ap, subst, ◌∙◌, arith, append_assoc, length-append}
+use Rattle.std.proofs.Common.{◌≡◌, ℕ, ◌+◌, ◌^◌, ◌<◌, Bor, true, false, cond, List, [], ◌∷◌, ◌++◌, length, Option, Some, None, refl, sym, ap, subst, ◌∙◌, arith, append_assoc, length-append}
 use Rattle.std.proofs.lemmas.Bool.{true≢false}
 use Rattle.std.proofs.lemmas.List.{append-nil}
 use Rattle.std.specs.Prelude.{Result, Ok, Err, IfOk}
@@ -12,9 +12,9 @@ use Rattle.csv.specs.declared.parser.State.TheVariants as st
 use Rattle.csv.specs.declared.reader.Trim.TheVariants as trim
 use Rattle.csv.proofs.ReadFacts.{rows-more, rows-end}
 use Rattle.rnlp_cli.specs.Records.{Row, AreRowsOf}
-use Rattle.rnlp_cli.specs.Faults.{first_fault, fault_from, code_of, told_first, has_end, resources_in, tasks_in}
-use Rattle.rnlp_cli.specs.Lists.{IsEventList}
-use Rattle.rnlp_cli.specs.Reading.{HasRead, error_at}
+use Rattle.rnlp_cli.specs.Faults.{first_fault, fault_from, code_of, told_first, has_word, is_end, resources_in, tasks_in, state_after}
+use Rattle.rnlp_cli.specs.Lists.{Listed, listed, IsEventList}
+use Rattle.rnlp_cli.specs.Reading.{HasRead, IsReady, error_at}
 use Rattle.rnlp_cli.specs.declared.list.EventList.{EventList}
 use Rattle.rnlp_cli.specs.declared.reading.RowErr.{RowErr}
 use Rattle.rnlp_cli.specs.declared.reading.RowErr.TheVariants as row
@@ -24,7 +24,9 @@ use Rattle.rnlp_cli.specs.declared.list.Code.{Code}
 use Rattle.rnlp_cli.specs.declared.list.Code.TheVariants.{NoEnd}
 use Rattle.rnlp_cli.specs.declared.list.Fault.{Fault}
 use Rattle.rnlp_cli.specs.declared.reading.Reading.{Reading}
-use Rattle.rnlp_cli.proofs.Grammar.{passed, spells, spelled_names}
+use Rattle.rnlp_cli.proofs.Grammar.{passed, spells, spelled_list, events_in-few}
+use Rattle.rnlp_cli.specs.Events.{events_in, opening_of}
+use Rattle.rnlp_cli.proofs.Spelled.{after-resources, after-seats, after-issued}
 use Rattle.rnlp_cli.proofs.Rows.{rows_around}
 
 -- the bytes of a slice that a reader has left
@@ -99,32 +101,51 @@ at_fault bytes old new was line before left fields code h read bad =
 
 -- records that end without `end`
 pub no_end : (bytes : List ℕ) (reader : Reader (Bor (List ℕ))) (was : Reading) (line : ℕ) (before : List Row) (left : List ℕ)
-    → IsAt bytes reader was line before left → has_end before ≡ false → first_fault before ≡ Some (record { line = line; code = NoEnd })
+    → IsAt bytes reader was line before left → has_word is_end before ≡ false → first_fault before ≡ Some (record { line = line; code = NoEnd })
 unfolding fault_from
 no_end bytes reader was line before left h none =
     ap first_fault (sym (append-nil before)) ∙ h.free []
     ∙ ap (λ b. cond b None (Some (record { line = length before + 1; code = NoEnd }))) none
     ∙ ap (λ n. Some (record { line = n; code = NoEnd })) h.counted
 
--- records that end with `end` are those of a list
+-- a reader that has read not too many records is ready for the next
+pub ready : (before : List Row) (reading : Reading) → HasRead before reading → length before < 2 ^ 62 → IsReady reading
+ready before reading h few =
+    let rs = resources_in before in
+    let ts = tasks_in before in
+    let issued = after-issued (opening_of rs ts) (events_in rs ts before) in
+    let many = events_in-few rs ts before in
+    let stamps : (state_after before).issued < 2 ^ 63 = omega arith in
+    record {
+      over = ap (λ s. s.resources) h.state ∙ after-resources (opening_of rs ts) (events_in rs ts before) ∙ ap length (sym h.resources);
+      seats = ap (λ s. s.seats) h.state ∙ after-seats (opening_of rs ts) (events_in rs ts before) ∙ ap length (sym h.tasks);
+      stamps = subst (λ n. n < 2 ^ 63) (ap (λ s. s.issued) (sym h.state)) stamps;
+    }
+
+-- what was read, as a list
+abbrev pub read_so_far : Reading → Listed
+read_so_far reading = record { resources = reading.resources; tasks = reading.tasks; events = reading.events.items }
+
+-- records that end with `end` are those of the list that was read
 pub whole : (bytes : List ℕ) (reader : Reader (Bor (List ℕ))) (was : Reading) (line : ℕ) (before : List Row) (left : List ℕ)
-    → IsAt bytes reader was line before left → has_end before ≡ true → IsEventList before (resources_in before) (tasks_in before)
+    → IsAt bytes reader was line before left → length before < 2 ^ 62 → has_word is_end before ≡ true → IsEventList before (read_so_far was)
 unfolding fault_from
-whole bytes reader was line before left h ended =
+whole bytes reader was line before left h few ended =
     let none : first_fault before ≡ None =
     ap first_fault (sym (append-nil before)) ∙ h.free [] ∙ ap (λ b. cond b None (Some (record { line = length before + 1; code = NoEnd }))) ended in
-    let list = spells before none in
-    let names = spelled_names before list.0 list.1 list.2 in
-    subst (λ tasks. IsEventList before (resources_in before) tasks) (sym names.1) (subst (λ resources. IsEventList before resources list.1) (sym names.0) list.2)
+    let list = spells before (omega arith) none in
+    let said = spelled_list before list.0 list.1 in
+    let resources : list.0.resources ≡ was.resources = sym (h.reads.resources ∙ said.0) in
+    let tasks : list.0.tasks ≡ was.tasks = sym (h.reads.tasks ∙ said.1) in
+    let events : list.0.events ≡ was.events.items = sym (h.reads.events ∙ (λ i. events_in (said.0 i) (said.1 i) before) ∙ said.2) in
+    subst (IsEventList before) (λ i. record { resources = resources i; tasks = tasks i; events = events i }) list.1
 
 -- what `read_list` says at `Ok`, from what the reader's end says there
 pub list_ok : (r : Result EventList ListErr) (bytes : List ℕ) (reading : Reading) (before : List Row) → AreRowsOf bytes before → HasRead before reading
-    → (has_end before ≡ true → IsEventList before (resources_in before) (tasks_in before))
-    → IfOk r (λ list. (b : List Row) → HasRead b reading → (has_end b ≡ true) × (list.resources ≡ resources_in b) × (list.tasks ≡ tasks_in b))
-    → IfOk r (λ list. (rows : List Row) × AreRowsOf bytes rows × IsEventList rows list.resources list.tasks)
-list_ok (Ok list) bytes reading before rows read spelled h =
-    let is = h before read in
-    (before, rows, subst (λ tasks. IsEventList before list.resources tasks) (sym is.2) (subst (λ resources. IsEventList before resources (tasks_in before)) (sym is.1) (spelled is.0)))
+    → (has_word is_end before ≡ true → IsEventList before (read_so_far reading))
+    → IfOk r (λ list. (reading.ended ≡ true) × (listed list ≡ read_so_far reading))
+    → IfOk r (λ list. (rows : List Row) × AreRowsOf bytes rows × IsEventList rows (listed list))
+list_ok (Ok list) bytes reading before rows read spelled h = (before, rows, subst (IsEventList before) (sym h.1) (spelled (sym read.ended ∙ h.0)))
 list_ok (Err e) bytes reading before rows read spelled h = tt
 
 pub err_is : {T E : Type 0} {x y : E} → ◌≡◌ {A = Result T E} (Err x) (Err y) → x ≡ y
@@ -134,3 +155,7 @@ err_is {T} {E} {x} {y} e = cc
 pub bad_at : (line : ℕ) (e : RowErr) (fault : Fault) → error_at line e ≡ list.Bad fault → (code : Code) × (e ≡ row.Bad code) × (fault ≡ record { line = line; code = code })
 bad_at line (row.Bad code) fault h = (code, refl, cc)
 bad_at line row.Memory fault h = cc
+
+-- the lines are not too many
+pub few_before : (bytes : List ℕ) (reader : Reader (Bor (List ℕ))) (was : Reading) (line : ℕ) (before : List Row) (left : List ℕ) → IsAt bytes reader was line before left → line < 2 ^ 62 → length before < 2 ^ 62
+few_before bytes reader was line before left h few = let counted = h.counted in omega arith

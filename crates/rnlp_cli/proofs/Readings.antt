@@ -1,119 +1,194 @@
 -- What a reader knows after one record more.
-use Rattle.std.proofs.Common.{◌≡◌, ℕ, Bool, true, false, not, ◌||◌, ◌==◌, cond, List, [], ◌∷◌, ◌++◌, length, Some, None, refl, sym, ap, ◌∙◌, arith}
-use Rattle.std.proofs.lemmas.Bool.Decides.{nat_tests}
+use Rattle.std.proofs.Common.{◌≡◌, ℕ, Bool, true, false, not, ◌||◌, cond, List, [], ◌∷◌, ◌++◌, Option, Some, None, refl, sym, ap, subst, ◌∙◌, true≢false}
 use Rattle.std.proofs.lemmas.List.{append-nil}
-use Rattle.std.specs.Prelude.{Result, Ok, Err, OnOk}
-use Rattle.rset.specs.Names.{is_name, knows}
-use Rattle.rset.specs.declared.TheConstants.{RESOURCES}
+use Rattle.std.specs.Prelude.{is_some}
+use Rattle.std.specs.List.{cons_option}
+use Rattle.rclaim.specs.declared.event.Event.{Event}
+use Rattle.rmodel.specs.Machine.{Standing}
+use Rattle.rmodel.specs.Steps.{after, next}
 use Rattle.rnlp_cli.specs.Records.{Row, word_of, second_of}
-use Rattle.rnlp_cli.specs.Faults.{names_in, has_end, is_nil, is_resource, is_task, is_end, is_bad_name, is_bad_field, is_bad_order, code_of}
-use Rattle.rnlp_cli.specs.Reading.{HasRead}
+use Rattle.rnlp_cli.specs.Events.{event_in, events_in, opening_of}
+use Rattle.rnlp_cli.specs.Faults.{names_in, resources_in, tasks_in, has_word, is_nil, is_resource, is_task, is_event, is_end, is_bad_name, is_bad_field, is_bad_order}
+use Rattle.rnlp_cli.specs.Reading.{HasRead, StepsBy, Notes, IsBadNote, standing}
 use Rattle.rnlp_cli.specs.declared.reading.Reading.{Reading}
 use Rattle.rnlp_cli.specs.declared.record.Word.{Word}
-use Rattle.rnlp_cli.specs.declared.record.Word.TheVariants.{Version, Resource, Task, End}
-use Rattle.rnlp_cli.specs.declared.list.Code.TheVariants.{BadField, BadOrder}
-use Rattle.rnlp_cli.proofs.Grammar.{names_in-append, has_end-append}
+use Rattle.rnlp_cli.specs.declared.record.Word.TheVariants.{Version, Resource, Task, Issue, Finish, End, Unknown}
+use Rattle.rnlp_cli.proofs.Grammar.{names_in-append, has_word-append, events_in-append, no_event_by, not_resource, not_task, not_end, some_behind}
+use Rattle.rnlp_cli.proofs.Spelled.{after-push}
 
-not_false : (b : Bool) → (b ≡ false → ⊥) → b ≡ true
-not_false true h = refl
-not_false false h = absurd (h refl)
+-- ---- tests
 
-not_true : (b : Bool) → (b ≡ true → ⊥) → b ≡ false
-not_true true h = absurd (h refl)
-not_true false h = refl
+neither_of : (a b : Bool) → (a || b) ≡ false → (a ≡ false) × (b ≡ false)
+neither_of true b h = absurd (true≢false h)
+neither_of false b h = (refl, h)
 
 or-false : (b : Bool) → (b || false) ≡ b
 or-false true = refl
 or-false false = refl
 
--- a name that is one, is not there and has room is none that the table refuses
-pub fits-table : (names : List (List ℕ)) (name : List ℕ) → (is_name name ≡ false → ⊥) → ((is_name name ≡ true) × (knows names name ≡ true) → ⊥)
-    → ((is_name name ≡ true) × (knows names name ≡ false) × (length names ≡ RESOURCES) → ⊥) → is_bad_name names name ≡ false
-fits-table names name named new room =
-    let is : is_name name ≡ true = not_false (is_name name) named in
-    let unknown : knows names name ≡ false = not_true (knows names name) (λ e. new (is, e)) in
-    let free : (length names == RESOURCES) ≡ false = not_true (length names == RESOURCES) (λ e. room (is, unknown, grind (arith, nat_tests))) in
-    rw (is, unknown, free) refl
-
--- a name that a table refuses for one of the three reasons
-pub no_name : (names : List (List ℕ)) (name : List ℕ) → is_name name ≡ false → is_bad_name names name ≡ true
-no_name names name e = rw e refl
-
-pub known_name : (names : List (List ℕ)) (name : List ℕ) → (is_name name ≡ true) × (knows names name ≡ true) → is_bad_name names name ≡ true
-known_name names name (is, e) = rw (is, e) refl
-
-pub no_room : (names : List (List ℕ)) (name : List ℕ) → (is_name name ≡ true) × (knows names name ≡ false) × (length names ≡ RESOURCES) → is_bad_name names name ≡ true
-no_room names name (is, new, e) = let full : (length names == RESOURCES) ≡ true = grind (arith, nat_tests) in rw (is, new, full) refl
-
-some-behind : (rows : List Row) (row : Row) → is_nil (rows ++ row ∷ []) ≡ false
-some-behind [] row = refl
-some-behind (r ∷ rows) row = refl
-
--- a record of each kind, as a list of one
-one_name : (kind : Word → Bool) (row : Row) → names_in kind (row ∷ []) ≡ cond (kind (word_of row)) (second_of row ∷ []) []
-unfolding names_in
-one_name kind row = refl
-
--- the reader after a record, by what it is
-pub has_read_more : (before : List Row) (row : Row) (old new : Reading) → HasRead before old → new.begun ≡ true
-    → new.resources ≡ old.resources ++ cond (is_resource (word_of row)) (second_of row ∷ []) []
-    → new.tasks ≡ old.tasks ++ cond (is_task (word_of row)) (second_of row ∷ []) []
-    → new.ended ≡ (old.ended || is_end (word_of row))
-    → HasRead (before ++ row ∷ []) new
-unfolding names_in has_end
-has_read_more before row old new h begun resources tasks ended = record {
-  begun = begun ∙ sym (ap not (some-behind before row));
-  resources = resources ∙ ap (λ xs. xs ++ cond (is_resource (word_of row)) (second_of row ∷ []) []) h.resources ∙ sym (names_in-append is_resource before (row ∷ []));
-  tasks = tasks ∙ ap (λ xs. xs ++ cond (is_task (word_of row)) (second_of row ∷ []) []) h.tasks ∙ sym (names_in-append is_task before (row ∷ []));
-  ended = ended ∙ ap (λ b. b || is_end (word_of row)) h.ended ∙ ap (λ b. has_end before || b) (sym (or-false (is_end (word_of row)))) ∙ sym (has_end-append before (row ∷ []));
-}
-
--- the same for each kind of record
-read_as : (w : Word) (before : List Row) (row : Row) (old new : Reading) → HasRead before old → word_of row ≡ w → new.begun ≡ true
-    → new.resources ≡ old.resources ++ cond (is_resource w) (second_of row ∷ []) []
-    → new.tasks ≡ old.tasks ++ cond (is_task w) (second_of row ∷ []) []
-    → new.ended ≡ (old.ended || is_end w)
-    → HasRead (before ++ row ∷ []) new
-read_as w before row old new h is begun resources tasks ended =
-    has_read_more before row old new h begun
-    (resources ∙ ap (λ v. old.resources ++ cond (is_resource v) (second_of row ∷ []) []) (sym is))
-    (tasks ∙ ap (λ v. old.tasks ++ cond (is_task v) (second_of row ∷ []) []) (sym is))
-    (ended ∙ ap (λ v. old.ended || is_end v) (sym is))
-
 or-true : (b : Bool) → (b || true) ≡ true
 or-true true = refl
 or-true false = refl
 
-pub read_version : (before : List Row) (row : Row) (old : Reading) → HasRead before old → word_of row ≡ Version
-    → HasRead (before ++ row ∷ []) (record { begun = true; resources = old.resources; tasks = old.tasks; ended = old.ended })
-read_version before row old h is = read_as Version before row old _ h is refl (sym (append-nil _)) (sym (append-nil _)) (sym (or-false _))
+not_false : (b : Bool) → not b ≡ false → b ≡ true
+not_false true h = refl
+not_false false h = absurd (true≢false h)
 
-pub read_resource : (before : List Row) (row : Row) (old : Reading) (names : List (List ℕ)) → HasRead before old → word_of row ≡ Resource → names ≡ old.resources ++ second_of row ∷ []
-    → HasRead (before ++ row ∷ []) (record { begun = true; resources = names; tasks = old.tasks; ended = old.ended })
-read_resource before row old names h is grown = read_as Resource before row old _ h is refl grown (sym (append-nil _)) (sym (or-false _))
+-- ---- one record more
 
-pub read_task : (before : List Row) (row : Row) (old : Reading) (names : List (List ℕ)) → HasRead before old → word_of row ≡ Task → names ≡ old.tasks ++ second_of row ∷ []
-    → HasRead (before ++ row ∷ []) (record { begun = true; resources = old.resources; tasks = names; ended = old.ended })
-read_task before row old names h is grown = read_as Task before row old _ h is refl (sym (append-nil _)) grown (sym (or-false _))
+names-push : (kind : Word → Bool) (before : List Row) (row : Row) → names_in kind (before ++ row ∷ []) ≡ names_in kind before ++ cond (kind (word_of row)) (second_of row ∷ []) []
+unfolding names_in
+names-push kind before row = names_in-append kind before (row ∷ [])
 
-pub read_end : (before : List Row) (row : Row) (old : Reading) → HasRead before old → word_of row ≡ End
-    → HasRead (before ++ row ∷ []) (record { begun = true; resources = old.resources; tasks = old.tasks; ended = true })
-read_end before row old h is = read_as End before row old _ h is refl (sym (append-nil _)) (sym (append-nil _)) (sym (or-true _))
+same_names : (kind : Word → Bool) (before : List Row) (row : Row) → kind (word_of row) ≡ false → names_in kind (before ++ row ∷ []) ≡ names_in kind before
+same_names kind before row none = names-push kind before row ∙ ap (λ b. names_in kind before ++ cond b (second_of row ∷ []) []) none ∙ append-nil (names_in kind before)
 
--- what holds at `Ok` follows from what holds there
-pub on_ok : {T E : Type 0} (r : Result T E) (P Q : Type 0) → OnOk r P → (P → Q) → OnOk r Q
-on_ok (Ok x) P Q p f = f p
-on_ok (Err e) P Q p f = tt
+one_name : (kind : Word → Bool) (before : List Row) (row : Row) → kind (word_of row) ≡ true → names_in kind (before ++ row ∷ []) ≡ names_in kind before ++ second_of row ∷ []
+one_name kind before row is = names-push kind before row ∙ ap (λ b. names_in kind before ++ cond b (second_of row ∷ []) []) is
 
--- the code of a record, by its two tests
-pub code-field : (before : List Row) (row : Row) → is_bad_field before row (word_of row) ≡ true → code_of before row ≡ Some BadField
-unfolding code_of
-code-field before row e = rw e refl
+word-push : (kind : Word → Bool) (before : List Row) (row : Row) → has_word kind (before ++ row ∷ []) ≡ (has_word kind before || kind (word_of row))
+unfolding has_word
+word-push kind before row = has_word-append kind before (row ∷ []) ∙ ap (λ b. has_word kind before || b) (or-false (kind (word_of row)))
 
-pub code-order : (before : List Row) (row : Row) → is_bad_field before row (word_of row) ≡ false → is_bad_order before (word_of row) ≡ true → code_of before row ≡ Some BadOrder
-unfolding code_of
-code-order before row e f = rw (e, f) refl
+same_word : (kind : Word → Bool) (before : List Row) (row : Row) → kind (word_of row) ≡ false → has_word kind (before ++ row ∷ []) ≡ has_word kind before
+same_word kind before row none = word-push kind before row ∙ ap (λ b. has_word kind before || b) none ∙ or-false (has_word kind before)
 
-pub code-none : (before : List Row) (row : Row) → is_bad_field before row (word_of row) ≡ false → is_bad_order before (word_of row) ≡ false → code_of before row ≡ None
-unfolding code_of
-code-none before row e f = rw (e, f) refl
+no_event : (rs ts : List (List ℕ)) (row : Row) → is_event (word_of row) ≡ false → event_in rs ts row ≡ None
+unfolding event_in
+no_event rs ts row none = no_event_by rs ts row (word_of row) none
+
+events-same : (rs ts : List (List ℕ)) (before : List Row) (row : Row) → event_in rs ts row ≡ None → events_in rs ts (before ++ row ∷ []) ≡ events_in rs ts before
+unfolding events_in
+events-same rs ts before row none =
+    events_in-append rs ts before (row ∷ []) ∙ ap (λ o. events_in rs ts before ++ cons_option o []) none ∙ append-nil (events_in rs ts before)
+
+events-push : (rs ts : List (List ℕ)) (before : List Row) (row : Row) (e : Event) → event_in rs ts row ≡ Some e → events_in rs ts (before ++ row ∷ []) ≡ events_in rs ts before ++ e ∷ []
+unfolding events_in
+events-push rs ts before row e is = events_in-append rs ts before (row ∷ []) ∙ ap (λ o. events_in rs ts before ++ cons_option o []) is
+
+-- records without one of an event spell none
+no_events : (rs ts : List (List ℕ)) (rows : List Row) → has_word is_event rows ≡ false → events_in rs ts rows ≡ []
+unfolding events_in has_word
+no_events rs ts [] h = refl
+no_events rs ts (row ∷ rows) h =
+    let parts = neither_of (is_event (word_of row)) (has_word is_event rows) h in
+    ap (λ o. cons_option o (events_in rs ts rows)) (no_event rs ts row parts.0) ∙ no_events rs ts rows parts.1
+
+begun_more : (before : List Row) (row : Row) → true ≡ not (is_nil (before ++ row ∷ []))
+begun_more before row = sym (ap not (some_behind before row))
+
+-- ---- the reader
+
+-- the state over other names and events
+state-at : (rs rs' ts ts' : List (List ℕ)) (es es' : List Event) → rs ≡ rs' → ts ≡ ts' → es ≡ es' → after (opening_of rs ts) es ≡ after (opening_of rs' ts') es'
+state-at rs rs' ts ts' es es' p q r = λ i. after (opening_of (p i) (q i)) (r i)
+
+-- after a record that declares nothing and spells nothing
+read_quiet : (before : List Row) (row : Row) (old : Reading) (ended : Bool) → HasRead before old → is_resource (word_of row) ≡ false → is_task (word_of row) ≡ false → is_event (word_of row) ≡ false
+    → ended ≡ (old.ended || is_end (word_of row)) → HasRead (before ++ row ∷ []) (record old { begun = true; ended = ended })
+read_quiet before row old ended h no_resource no_task none is =
+    let rs : resources_in (before ++ row ∷ []) ≡ resources_in before = same_names is_resource before row no_resource in
+    let ts : tasks_in (before ++ row ∷ []) ≡ tasks_in before = same_names is_task before row no_task in
+    let es : events_in (resources_in (before ++ row ∷ [])) (tasks_in (before ++ row ∷ [])) (before ++ row ∷ []) ≡ events_in (resources_in before) (tasks_in before) before =
+    (λ i. events_in (rs i) (ts i) (before ++ row ∷ [])) ∙ events-same (resources_in before) (tasks_in before) before row (no_event (resources_in before) (tasks_in before) row none) in
+    record {
+      begun = begun_more before row;
+      resources = h.resources ∙ sym rs;
+      tasks = h.tasks ∙ sym ts;
+      events = h.events ∙ sym es;
+      stepped = h.stepped ∙ sym (same_word is_event before row none);
+      state = h.state ∙ sym (state-at _ _ _ _ _ _ rs ts es);
+      ended = is ∙ ap (λ b. b || is_end (word_of row)) h.ended ∙ sym (word-push is_end before row);
+    }
+
+no_machine : (rs ts : List (List ℕ)) (o : Option Standing) → is_some o ≡ false → standing rs ts o ≡ opening_of rs ts
+no_machine rs ts None h = refl
+no_machine rs ts (Some m) h = absurd (true≢false h)
+
+-- after a record that declares a name, before any event
+read_name : (before : List Row) (row : Row) (old : Reading) (rs ts : List (List ℕ)) → HasRead before old → is_event (word_of row) ≡ false → is_end (word_of row) ≡ false → has_word is_event before ≡ false
+    → rs ≡ resources_in (before ++ row ∷ []) → ts ≡ tasks_in (before ++ row ∷ []) → HasRead (before ++ row ∷ []) (record old { begun = true; resources = rs; tasks = ts })
+read_name before row old rs ts h none not_last early p q =
+    let still : has_word is_event (before ++ row ∷ []) ≡ false = same_word is_event before row none ∙ early in
+    let nothing = no_events (resources_in (before ++ row ∷ [])) (tasks_in (before ++ row ∷ [])) (before ++ row ∷ []) still in
+    record {
+      begun = begun_more before row;
+      resources = p;
+      tasks = q;
+      events = h.events ∙ no_events (resources_in before) (tasks_in before) before early ∙ sym nothing;
+      stepped = h.stepped ∙ early ∙ sym still;
+      state = no_machine rs ts old.machine (h.stepped ∙ early) ∙ state-at rs _ ts _ [] _ p q (sym nothing);
+      ended = h.ended ∙ sym (same_word is_end before row not_last);
+    }
+
+some_before : (before : List Row) → is_nil (resources_in before) ≡ false → is_nil before ≡ false
+unfolding names_in
+some_before [] h = absurd (true≢false h)
+some_before (row ∷ rows) h = refl
+
+-- after an accepted event
+pub read_event : (before : List Row) (row : Row) (old new : Reading) (e : Event) → HasRead before old → is_event (word_of row) ≡ true → event_in (resources_in before) (tasks_in before) row ≡ Some e
+    → is_nil (resources_in before) ≡ false → StepsBy old new e → HasRead (before ++ row ∷ []) new
+read_event before row old new e h is spelled some steps =
+    let rs : resources_in (before ++ row ∷ []) ≡ resources_in before = same_names is_resource before row (not_resource (word_of row) is) in
+    let ts : tasks_in (before ++ row ∷ []) ≡ tasks_in before = same_names is_task before row (not_task (word_of row) is) in
+    let es : events_in (resources_in (before ++ row ∷ [])) (tasks_in (before ++ row ∷ [])) (before ++ row ∷ []) ≡ events_in (resources_in before) (tasks_in before) before ++ e ∷ [] =
+    (λ i. events_in (rs i) (ts i) (before ++ row ∷ [])) ∙ events-push (resources_in before) (tasks_in before) before row e spelled in
+    record {
+      begun = steps.begun ∙ h.begun ∙ ap not (some_before before some) ∙ begun_more before row;
+      resources = steps.resources ∙ h.resources ∙ sym rs;
+      tasks = steps.tasks ∙ h.tasks ∙ sym ts;
+      events = steps.events ∙ ap (λ xs. xs ++ e ∷ []) h.events ∙ sym es;
+      stepped = steps.stepped ∙ sym (word-push is_event before row ∙ ap (λ b. has_word is_event before || b) is ∙ or-true (has_word is_event before));
+      state = steps.state ∙ ap (λ s. next s e) h.state ∙ sym (after-push (opening_of (resources_in before) (tasks_in before)) (events_in (resources_in before) (tasks_in before) before) e)
+          ∙ sym (state-at _ _ _ _ _ _ rs ts es);
+      ended = steps.ended ∙ h.ended ∙ sym (same_word is_end before row (not_end (word_of row) is));
+    }
+
+-- ---- a record of the head
+
+pub three_of : (a b c : Bool) → (a || b || c) ≡ false → (a ≡ false) × (b ≡ false) × (c ≡ false)
+three_of true b c h = absurd (true≢false h)
+three_of false true c h = absurd (true≢false h)
+three_of false false c h = (refl, refl, h)
+
+-- what was noted fits its field
+pub noted_field : (before : List Row) (row : Row) (old new : Reading) (w : Word) (name : List ℕ) → HasRead before old → name ≡ second_of row → Notes old new w name → is_bad_field before row w ≡ false
+noted_field before row old new Version name h second noted = refl
+noted_field before row old new End name h second noted = refl
+noted_field before row old new Resource name h second noted = (λ i. is_bad_name (sym h.resources i) (sym second i)) ∙ noted.0
+noted_field before row old new Task name h second noted = (λ i. is_bad_name (sym h.tasks i) (sym second i)) ∙ noted.0
+noted_field before row old new (Issue kind) name h second noted = absurd noted
+noted_field before row old new Finish name h second noted = absurd noted
+noted_field before row old new Unknown name h second noted = absurd noted
+
+-- what could not be noted does not
+pub bad_noted : (before : List Row) (row : Row) (old : Reading) (w : Word) (name : List ℕ) → HasRead before old → name ≡ second_of row → IsBadNote old w name → is_bad_field before row w ≡ true
+bad_noted before row old Version name h second bad = absurd bad
+bad_noted before row old End name h second bad = absurd bad
+bad_noted before row old Resource name h second bad = (λ i. is_bad_name (sym h.resources i) (sym second i)) ∙ bad
+bad_noted before row old Task name h second bad = (λ i. is_bad_name (sym h.tasks i) (sym second i)) ∙ bad
+bad_noted before row old (Issue kind) name h second bad = absurd bad
+bad_noted before row old Finish name h second bad = absurd bad
+bad_noted before row old Unknown name h second bad = refl
+
+-- the reader has read the record, where it may stand there
+pub noted_read : (before : List Row) (row : Row) (old new : Reading) (w : Word) (name : List ℕ) → HasRead before old → word_of row ≡ w → name ≡ second_of row → is_bad_order before w ≡ false → Notes old new w name
+    → HasRead (before ++ row ∷ []) new
+noted_read before row old new Version name h is second order noted =
+    subst (HasRead (before ++ row ∷ [])) (sym noted) (read_quiet before row old old.ended h (ap is_resource is) (ap is_task is) (ap is_event is) (sym (or-false old.ended) ∙ ap (λ v. old.ended || is_end v) (sym is)))
+noted_read before row old new End name h is second order noted =
+    subst (HasRead (before ++ row ∷ [])) (sym noted) (read_quiet before row old true h (ap is_resource is) (ap is_task is) (ap is_event is) (sym (or-true old.ended) ∙ ap (λ v. old.ended || is_end v) (sym is)))
+noted_read before row old new Resource name h is second order noted =
+    let early = (three_of (is_nil before) _ (has_word is_event before) order).2 in
+    let rs : old.resources ++ name ∷ [] ≡ resources_in (before ++ row ∷ []) = (λ i. h.resources i ++ second i ∷ []) ∙ sym (one_name is_resource before row (ap is_resource is)) in
+    let ts : old.tasks ≡ tasks_in (before ++ row ∷ []) = h.tasks ∙ sym (same_names is_task before row (ap is_task is)) in
+    subst (HasRead (before ++ row ∷ [])) (sym noted.1) (read_name before row old (old.resources ++ name ∷ []) old.tasks h (ap is_event is) (ap is_end is) early rs ts)
+noted_read before row old new Task name h is second order noted =
+    let early = (three_of (is_nil (resources_in before)) (has_word is_event before) _ order).1 in
+    let rs : old.resources ≡ resources_in (before ++ row ∷ []) = h.resources ∙ sym (same_names is_resource before row (ap is_resource is)) in
+    let ts : old.tasks ++ name ∷ [] ≡ tasks_in (before ++ row ∷ []) = (λ i. h.tasks i ++ second i ∷ []) ∙ sym (one_name is_task before row (ap is_task is)) in
+    subst (HasRead (before ++ row ∷ [])) (sym noted.1) (read_name before row old old.resources (old.tasks ++ name ∷ []) h (ap is_event is) (ap is_end is) early rs ts)
+noted_read before row old new (Issue kind) name h is second order noted = absurd noted
+noted_read before row old new Finish name h is second order noted = absurd noted
+noted_read before row old new Unknown name h is second order noted = absurd noted

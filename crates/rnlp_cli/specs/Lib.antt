@@ -1,5 +1,7 @@
 pub mod Words
 pub mod Records
+pub mod Fields
+pub mod Events
 pub mod Faults
 pub mod Lists
 pub mod Reading

@@ -1,9 +1,73 @@
 -- The report of an event list, as records.
-use Rattle.std.specs.Prelude.{ℕ, List, [], ◌∷◌, ◌++◌, length, map, codes, decimal}
+use Rattle.std.specs.Prelude.{ℕ, Bool, List, [], ◌∷◌, ◌++◌, length, map, slice_index_or, codes, decimal, if◌then◌else◌}
+use Rattle.std.specs.List.{join_with_byte}
+use Rattle.std.specs.FinSet.{union}
+use Rattle.rset.specs.Sets.{Set, rising}
+use Rattle.rclaim.specs.Requests.{asked_set}
+use Rattle.rclaim.specs.Changes.{ChangeLists}
+use Rattle.rclaim.specs.declared.request.Kind.{Kind}
+use Rattle.rclaim.specs.declared.request.Kind.TheVariants.{Read, Write}
+use Rattle.rclaim.specs.declared.claim.Status.{Status}
+use Rattle.rclaim.specs.declared.claim.Status.TheVariants.{Waiting, Entitled, Satisfied}
+use Rattle.rclaim.specs.declared.changes.StatusChange.{StatusChange}
+use Rattle.rclaim.specs.declared.changes.GrantChange.{GrantChange}
+use Rattle.rclaim.specs.declared.event.Event.{Event}
+use Rattle.rclaim.specs.declared.event.Event.TheVariants.{Issue, Finish}
+use Rattle.rmodel.specs.State.{LockState}
+use Rattle.rmodel.specs.Steps.{next}
+use Rattle.rmodel.specs.Changes.{changes_between}
 use Rattle.rnlp_cli.specs.Records.{Row}
-use Rattle.rnlp_cli.specs.Lists.{head_rows, end_row}
+use Rattle.rnlp_cli.specs.Events.{opening_of}
+use Rattle.rnlp_cli.specs.Lists.{Listed, head_rows, end_row}
 use Rattle.rnlp_cli.specs.Text.{lines_of}
-use Rattle.rnlp_cli.specs.declared.list.EventList.{EventList}
+
+-- the name with a number
+abbrev pub name_at : List (List ℕ) → ℕ → List ℕ
+name_at names n = slice_index_or names n []
+
+-- the members of a set by rising number, joined by `+`; `-` where there is none
+abbrev pub joined : List (List ℕ) → List ℕ
+joined [] = codes "-"
+joined (name ∷ names) = join_with_byte 43 (name ∷ names)
+
+unfoldable pub set_text : List (List ℕ) → Set → List ℕ
+set_text resources s = joined (map (name_at resources) (rising s))
+
+abbrev pub kind_text : Kind → List ℕ
+kind_text Read = codes "read"
+kind_text Write = codes "write"
+
+-- the record of an event
+abbrev pub event_row : List (List ℕ) → List (List ℕ) → Event → Row
+event_row resources tasks (Issue seat r) =
+    codes "issue" ∷ name_at tasks seat ∷ kind_text r.kind ∷ set_text resources (asked_set r.kind r.reads r.writes) ∷ decimal r.len ∷ []
+event_row resources tasks (Finish seat) = codes "finish" ∷ name_at tasks seat ∷ []
+
+abbrev pub claim_text : Bool → List ℕ
+claim_text write_half = if write_half then codes "write" else codes "read"
+
+abbrev pub status_text : Status → List ℕ
+status_text Waiting = codes "waiting"
+status_text Entitled = codes "entitled"
+status_text Satisfied = codes "satisfied"
+
+-- the record of a claim's new status
+abbrev pub now_row : List (List ℕ) → StatusChange → Row
+now_row tasks change = codes "now" ∷ name_at tasks change.seat ∷ claim_text change.write_half ∷ status_text change.status ∷ []
+
+-- the record of what a request holds now
+abbrev pub grant_row : List (List ℕ) → List (List ℕ) → GrantChange → Row
+grant_row resources tasks change = codes "grant" ∷ name_at tasks change.seat ∷ set_text resources (union change.reads change.writes) ∷ []
+
+-- the records of the changes of a step
+abbrev pub change_rows : List (List ℕ) → List (List ℕ) → ChangeLists → List Row
+change_rows resources tasks changes = map (now_row tasks) changes.statuses ++ map (grant_row resources tasks) changes.grants
+
+-- the records of events and of what each changes, from a state on
+unfoldable pub history_rows : List (List ℕ) → List (List ℕ) → LockState → List Event → List Row
+history_rows resources tasks s [] = []
+history_rows resources tasks s (e ∷ events) =
+    (event_row resources tasks e ∷ change_rows resources tasks (changes_between s (next s e))) ++ history_rows resources tasks (next s e) events
 
 -- how many requests may be incomplete at once
 abbrev pub cap_row : ℕ → Row
@@ -13,12 +77,13 @@ cap_row cap = codes "cap" ∷ decimal cap ∷ []
 abbrev pub ledger_row : List ℕ → ℕ → ℕ → Row
 ledger_row name balance edits = codes "ledger" ∷ name ∷ decimal balance ∷ decimal edits ∷ []
 
--- the report: the head with its cap, a ledger of each resource, and `end`
-abbrev pub report_rows : EventList → List Row
+-- the report: the head with its cap, the history, a ledger of each resource, and `end`
+abbrev pub report_rows : Listed → List Row
 report_rows list =
     head_rows list.resources list.tasks
-    ++ (cap_row (length list.tasks) ∷ (map (λ name. ledger_row name 0 0) list.resources ++ end_row ∷ []))
+    ++ (cap_row (length list.tasks) ∷ (history_rows list.resources list.tasks (opening_of list.resources list.tasks) list.events
+    ++ (map (λ name. ledger_row name 0 0) list.resources ++ end_row ∷ [])))
 
 -- the one spelling of the report
-abbrev pub report_text : EventList → List ℕ
+abbrev pub report_text : Listed → List ℕ
 report_text list = lines_of (report_rows list)

@@ -1,9 +1,13 @@
 -- How an output is spelled: lines of fields.
 use Rattle.std.specs.Prelude.{ℕ, List, [], ◌∷◌, ◌++◌, codes, decimal}
 use Rattle.std.specs.List.{flat_map}
+use Rattle.rclaim.specs.declared.request.RequestErr.TheVariants as cause
+use Rattle.rmodel.specs.declared.refused.Refused.TheVariants as refused
 use Rattle.rnlp_cli.specs.Records.{Row}
 use Rattle.rnlp_cli.specs.declared.list.Code.{Code}
-use Rattle.rnlp_cli.specs.declared.list.Code.TheVariants.{BadField, BadOrder, NoEnd}
+use Rattle.rnlp_cli.specs.declared.list.Code.TheVariants.{BadField, UnknownName, BadOrder, Refused, NoEnd}
+use Rattle.rnlp_cli.specs.declared.list.Refusal.{Refusal}
+use Rattle.rnlp_cli.specs.declared.list.Refusal.TheVariants.{Request, Step}
 use Rattle.rnlp_cli.specs.declared.list.Fault.{Fault}
 
 -- a field with the comma before it
@@ -19,12 +23,23 @@ line (field ∷ fields) = (field ++ flat_map behind_comma fields) ++ 10 ∷ []
 abbrev pub lines_of : List Row → List ℕ
 lines_of rows = flat_map line rows
 
--- the number that an error line tells
-abbrev pub number_of : Code → ℕ
-number_of BadField = 1
-number_of BadOrder = 3
-number_of NoEnd = 8
+-- the number that an error line tells of a refusal
+abbrev pub refusal_number : Refusal → ℕ
+refusal_number (Step refused.SeatBusy) = 1
+refusal_number (Step refused.Full) = 2
+refusal_number (Step refused.NotHolding) = 3
+refusal_number (Request cause.EmptyRequest) = 7
+refusal_number (Request cause.Undeclared) = 8
+refusal_number (Request cause.FirstOutside) = 9
+
+-- the numbers that an error line tells of a code
+abbrev pub code_fields : Code → Row
+code_fields BadField = decimal 1 ∷ []
+code_fields UnknownName = decimal 2 ∷ []
+code_fields BadOrder = decimal 3 ∷ []
+code_fields (Refused refusal) = decimal 4 ∷ decimal (refusal_number refusal) ∷ []
+code_fields NoEnd = decimal 8 ∷ []
 
 -- the line that is written of an input with this fault
 abbrev pub error_line : Fault → List ℕ
-error_line fault = line (codes "error" ∷ decimal fault.line ∷ decimal (number_of fault.code) ∷ [])
+error_line fault = line (codes "error" ∷ decimal fault.line ∷ code_fields fault.code)

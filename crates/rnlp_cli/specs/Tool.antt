@@ -1,12 +1,11 @@
 -- What the tools answer.
 use Rattle.std.specs.Prelude.{◌≡◌, ℕ, List, Option, Some, None, ⊤}
 use Rattle.rnlp_cli.specs.Records.{Row, AreRowsOf}
-use Rattle.rnlp_cli.specs.Lists.{IsEventList}
+use Rattle.rnlp_cli.specs.Lists.{Listed, IsEventList}
 use Rattle.rnlp_cli.specs.Faults.{first_fault}
 use Rattle.rnlp_cli.specs.Report.{report_text}
 use Rattle.rnlp_cli.specs.Text.{error_line}
 use Rattle.io_ends.specs.Ends.{Appends, AppendsPrefix}
-use Rattle.rnlp_cli.specs.declared.list.EventList.{EventList}
 use Rattle.rnlp_cli.specs.declared.list.Fault.{Fault}
 use Rattle.rnlp_cli.specs.declared.words.Command.{Command}
 use Rattle.rnlp_cli.specs.declared.words.Command.TheVariants.{Replay}
@@ -14,13 +13,13 @@ use Rattle.rnlp_cli.specs.declared.status.ToolStatus.{ToolStatus}
 use Rattle.rnlp_cli.specs.declared.status.ToolStatus.TheVariants as status
 
 -- these bytes spell this event list
-abbrev pub Spells : List ℕ → EventList → Type 0
-Spells bytes list = (rows : List Row) × AreRowsOf bytes rows × IsEventList rows list.resources list.tasks
+abbrev pub Spells : List ℕ → Listed → Type 0
+Spells bytes list = (rows : List Row) × AreRowsOf bytes rows × IsEventList rows list
 
 -- the output of a command for this input: `replay` writes the report of the list that the bytes spell
 abbrev pub IsOutput : Option Command → List ℕ → List ℕ → Type 0
 IsOutput None bytes text = ⊥
-IsOutput (Some Replay) bytes text = (list : EventList) × Spells bytes list × (text ≡ report_text list)
+IsOutput (Some Replay) bytes text = (list : Listed) × Spells bytes list × (text ≡ report_text list)
 
 -- the first fault of an input
 abbrev pub IsFault : Option Command → List ℕ → Fault → Type 0

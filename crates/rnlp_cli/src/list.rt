@@ -1,24 +1,42 @@
 // An event list, and what is wrong with a text that is none.
+use rclaim::{Event, RequestErr};
+use rmodel::Refused;
 use rset::NameTable;
 
-/// What an event list declares.
+/// What an event list says.
 #[derive(Drop)]
 pub struct EventList {
     /// The resources, numbered in the order of the list.
     pub resources: NameTable,
     /// The tasks, numbered likewise.
     pub tasks: NameTable,
+    /// The events, in order.
+    pub events: Vec<Event>,
 }
 
-/// What is wrong with a record. Its number is told by the error line.
+/// Why an event is refused.
+#[derive(Clone, Copy, Debug, PartialEq, Eq)]
+pub enum Refusal {
+    /// By its request alone.
+    Request(RequestErr),
+    /// By the lock, in the state that the events before lead to.
+    Step(Refused),
+}
+
+/// What is wrong with a record. The first of these, in this order, is told.
 #[derive(Clone, Copy, Debug, PartialEq, Eq)]
 pub enum Code {
-    /// It is no record of this kind of input, or the name that it declares is bad, repeated or past the limit.
-    BadField = 1,
+    /// It is no record of this kind of input, a name that it declares is bad, repeated or past the limit, or its
+    /// length is none.
+    BadField,
+    /// It names a task or a resource that is not declared.
+    UnknownName,
     /// It may not stand at this place.
-    BadOrder = 3,
+    BadOrder,
+    /// Its event is refused.
+    Refused(Refusal),
     /// The records end without `end`.
-    NoEnd = 8,
+    NoEnd,
 }
 
 /// The first fault of a text.

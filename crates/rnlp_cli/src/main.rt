@@ -4,6 +4,8 @@
 //! is, what its first fault is and which text is written of it stand in specs/.
 #![tactic(auto)]
 
+mod fields;
+mod history;
 mod list;
 mod reading;
 mod record;
@@ -16,7 +18,7 @@ mod tool;
 mod words;
 
 use io_ends::{StdinSource, StdoutSink, write_all};
-pub use list::{Code, EventList, Fault};
+pub use list::{Code, EventList, Fault, Refusal};
 pub use status::ToolStatus;
 use std::alloc::Global;
 use std::env;

@@ -1,16 +1,25 @@
 // Reading an event list, record by record.
-ghost use Rattle.std.specs.Prelude.{◌≡◌, ◌++◌, ◌∷◌, [], List, true, false, OnOk, IfOk};
+ghost use Rattle.std.specs.Prelude.{◌≡◌, ◌<◌, ◌≤◌, ◌++◌, ◌∷◌, [], List, length, true, false, None, Some, IsSome, OnOk, IfOk, IfErr, option_map};
 ghost use Rattle.csv.specs.Records.{fields_of};
-ghost use Rattle.rnlp_cli.specs.Records.{Row, AreRowsOf, word_of, second_of};
-ghost use Rattle.rnlp_cli.specs.Faults.{code_of, first_fault, is_bad_field, is_bad_order, is_bad_name, has_end, resources_in, tasks_in};
-ghost use Rattle.rnlp_cli.specs.Lists.{IsEventList};
-ghost use Rattle.rnlp_cli.specs.Reading.{HasRead, error_at};
+ghost use Rattle.rclaim.specs.Requests.{normalised};
+ghost use Rattle.rmodel.specs.Steps.{Fits, refusal, next};
+ghost use Rattle.rnlp_cli.specs.Records.{Row, AreRowsOf, word_of};
+ghost use Rattle.rnlp_cli.specs.Events.{request_refusal};
+ghost use Rattle.rnlp_cli.specs.Faults.{first_fault, is_bad_order, is_bad_name, is_event};
+ghost use Rattle.rnlp_cli.specs.Lists.{IsEventList, listed};
+ghost use Rattle.rnlp_cli.specs.Reading.{HasRead, IsReady, Takes, Refuses, Notes, IsBadNote, StepsBy, state_of, step_code, error_at};
 
-use crate::list::{Code, EventList, Fault};
-use crate::record::{Word, second_of, word_of};
+use crate::fields::{length_of, set_of};
+use crate::list::{Code, EventList, Fault, Refusal};
+use crate::record::{Word, field_of, word_of};
 use csv::{ByteRecord, ReaderBuilder};
-use rset::{NameErr, NameTable};
-use std::alloc::Global;
+use rclaim::{Event, Kind, LENGTH_LIMIT, Request, RequestErr};
+use rmodel::{Plain, Refused, admit};
+use rset::{NameErr, NameTable, ResourceSet};
+use std::alloc::{AllocError, Global};
+
+/// The most records that are read: no memory holds so many bytes.
+const MOST_RECORDS: u64 = 1 << 62;
 
 /// Why a text was not read as an event list.
 #[derive(Clone, Copy, Debug, PartialEq, Eq)]
@@ -23,7 +32,7 @@ pub enum ListErr {
 
 /// Reads the records of a text as an event list.
 pub fn read_list(alloc: Global, bytes: &[u8]) -> Result<EventList, ListErr>
-    ensures list { IfOk result (λ list. (rows : List Row) × AreRowsOf bytes.now rows × IsEventList rows list.resources list.tasks) }
+    ensures list { IfOk result (λ list. (rows : List Row) × AreRowsOf bytes.now rows × IsEventList rows (listed list)) }
     ensures fault { (fault : Fault) → result ≡ Err (ListErr.Bad fault) → (rows : List Row) × AreRowsOf bytes.now rows × (first_fault rows ≡ Some fault) }
 {
     let mut reader = ReaderBuilder::new()
@@ -32,14 +41,14 @@ pub fn read_list(alloc: Global, bytes: &[u8]) -> Result<EventList, ListErr>
         .from_reader(alloc, bytes);
     let mut row = ByteRecord::new(alloc);
     let mut reading = Reading::new(alloc);
-    for line in 1..u64::MAX {
+    for line in 1..MOST_RECORDS {
         let Ok(found) = reader.read_byte_record(&mut row) else {
             return Err(ListErr::Memory);
         };
         if !found {
             return reading.finish(line);
         }
-        if let Err(e) = reading.take(&row) {
+        if let Err(e) = reading.take(alloc, &row) {
             return Err(e.at(line));
         }
     }
@@ -64,12 +73,15 @@ impl RowErr {
     }
 }
 
-// What the records so far have declared.
+// What the records so far have declared, and the events that they spell.
 #[derive(Drop)]
 struct Reading {
     begun: bool,
     resources: NameTable,
     tasks: NameTable,
+    // Made at the first event.
+    machine: Option<Plain>,
+    events: Vec<Event>,
     ended: bool,
 }
 
@@ -81,20 +93,34 @@ impl Reading {
             begun: false,
             resources: NameTable::new(alloc),
             tasks: NameTable::new(alloc),
+            machine: None,
+            events: Vec::new(alloc),
             ended: false,
         }
     }
 
     // Takes the next record, or tells what is wrong with it.
-    fn take(&mut self, row: &ByteRecord) -> Result<(), RowErr>
-        ensures taken { OnOk result ((before : List Row) → HasRead before self.old
-            → (code_of before (fields_of row.now) ≡ None) × HasRead (before ++ fields_of row.now ∷ []) self.new) }
-        ensures bad { (code : Code) → result ≡ Err (RowErr.Bad code) → (before : List Row) → HasRead before self.old
-            → code_of before (fields_of row.now) ≡ Some code }
+    fn take(&mut self, alloc: Global, row: &ByteRecord) -> Result<(), RowErr>
+        requires { IsReady self.old }
+        ensures taken { OnOk result (Takes self.old self.new (fields_of row.now)) }
+        ensures bad { (code : Code) → result ≡ Err (RowErr.Bad code) → Refuses self.old (fields_of row.now) code }
     {
-        let word = word_of(row);
+        match word_of(row) {
+            Word::Issue(kind) => self.issue(alloc, kind, row),
+            Word::Finish => self.finish_of(alloc, row),
+            word => self.head(word, row),
+        }
+    }
+
+    // Takes a record of the head, or the end.
+    fn head(&mut self, word: Word, row: &ByteRecord) -> Result<(), RowErr>
+        requires word { word ≡ word_of (fields_of row.now) }
+        requires head { is_event word ≡ false }
+        ensures taken { OnOk result (Takes self.old self.new (fields_of row.now)) }
+        ensures bad { (code : Code) → result ≡ Err (RowErr.Bad code) → Refuses self.old (fields_of row.now) code }
+    {
         let misplaced = self.misplaces(word);
-        match self.note(word, second_of(row)) {
+        match self.note(word, field_of(row, 1)) {
             Ok(()) if misplaced => Err(RowErr::Bad(Code::BadOrder)),
             Ok(()) => Ok(()),
             Err(e) => Err(e),
@@ -103,23 +129,24 @@ impl Reading {
 
     // Whether such a record may not stand here.
     fn misplaces(&self, word: Word) -> bool
-        ensures { (before : List Row) → HasRead before self.now → result ≡ is_bad_order before word }
+        ensures order { (before : List Row) → HasRead before self.now → result ≡ is_bad_order before word }
+        ensures ready { is_event word ≡ true → result ≡ false → (0 < length self.now.resources) × (0 < length self.now.tasks) }
     {
+        let no_task = self.tasks.len() == 0;
         match word {
             Word::Version => self.begun,
-            Word::Resource => !self.begun || self.tasks.len() != 0,
-            Word::Task => self.resources.len() == 0 || self.ended,
-            Word::End => self.tasks.len() == 0 || self.ended,
+            Word::Resource => !self.begun || !no_task || self.machine.is_some(),
+            Word::Task => self.resources.len() == 0 || self.machine.is_some() || self.ended,
+            Word::Issue(_) | Word::Finish => self.resources.len() == 0 || no_task || self.ended,
+            Word::End => no_task || self.ended,
             Word::Unknown => false,
         }
     }
 
-    // Notes a record, of which `name` is the second field.
+    // Notes a record of the head, of which `name` is the second field.
     fn note(&mut self, word: Word, name: &[u8]) -> Result<(), RowErr>
-        ensures noted { OnOk result ((before : List Row) (row : Row) → HasRead before self.old → word ≡ word_of row → name.now ≡ second_of row
-            → (is_bad_field before row word ≡ false) × HasRead (before ++ row ∷ []) self.new) }
-        ensures bad { (code : Code) → result ≡ Err (RowErr.Bad code) → (before : List Row) (row : Row) → HasRead before self.old → name.now ≡ second_of row
-            → (is_bad_field before row word ≡ true) × (code ≡ Code.BadField) }
+        ensures noted { OnOk result (Notes self.old self.new word name.now) }
+        ensures bad { (code : Code) → result ≡ Err (RowErr.Bad code) → (is_event word ≡ false) → (code ≡ Code.BadField) × IsBadNote self.old word name.now }
     {
         self.begun = true;
         match word {
@@ -130,31 +157,139 @@ impl Reading {
                 self.ended = true;
                 Ok(())
             }
-            Word::Unknown => Err(RowErr::Bad(Code::BadField)),
+            Word::Issue(_) | Word::Finish | Word::Unknown => Err(RowErr::Bad(Code::BadField)),
         }
+    }
+
+    // Takes an issue of this kind.
+    fn issue(&mut self, alloc: Global, kind: Kind, row: &ByteRecord) -> Result<(), RowErr>
+        requires word { word_of (fields_of row.now) ≡ Word.Issue kind }
+        requires ready { IsReady self.old }
+        ensures taken { OnOk result (Takes self.old self.new (fields_of row.now)) }
+        ensures bad { (code : Code) → result ≡ Err (RowErr.Bad code) → Refuses self.old (fields_of row.now) code }
+    {
+        let Some(len) = length_of(field_of(row, 4)) else {
+            return Err(RowErr::Bad(Code::BadField));
+        };
+        let Some(seat) = self.tasks.number_of(field_of(row, 1)) else {
+            return Err(RowErr::Bad(Code::UnknownName));
+        };
+        let Some(set) = set_of(&self.resources, field_of(row, 3)) else {
+            return Err(RowErr::Bad(Code::UnknownName));
+        };
+        if self.misplaces(Word::Issue(kind)) {
+            return Err(RowErr::Bad(Code::BadOrder));
+        }
+        match request_of(kind, set, len) {
+            Ok(request) => self.step(alloc, &Event::Issue { seat, request }),
+            Err(cause) => Err(RowErr::Bad(Code::Refused(Refusal::Request(cause)))),
+        }
+    }
+
+    // Takes a finish.
+    fn finish_of(&mut self, alloc: Global, row: &ByteRecord) -> Result<(), RowErr>
+        requires word { word_of (fields_of row.now) ≡ Word.Finish }
+        requires ready { IsReady self.old }
+        ensures taken { OnOk result (Takes self.old self.new (fields_of row.now)) }
+        ensures bad { (code : Code) → result ≡ Err (RowErr.Bad code) → Refuses self.old (fields_of row.now) code }
+    {
+        let Some(seat) = self.tasks.number_of(field_of(row, 1)) else {
+            return Err(RowErr::Bad(Code::UnknownName));
+        };
+        if self.misplaces(Word::Finish) {
+            return Err(RowErr::Bad(Code::BadOrder));
+        }
+        self.step(alloc, &Event::Finish { seat })
+    }
+
+    // Takes an event in its place.
+    fn step(&mut self, alloc: Global, event: &Event) -> Result<(), RowErr>
+        requires names { (0 < length self.old.resources) × (0 < length self.old.tasks) }
+        requires fits { Fits (state_of self.old) event.now }
+        ensures stepped { OnOk result (StepsBy self.old self.new event.now) }
+        ensures refused { (code : Code) → result ≡ Err (RowErr.Bad code) → Some code ≡ option_map step_code (refusal (state_of self.old) event.now) }
+    {
+        if self.make_machine(alloc).is_err() {
+            return Err(RowErr::Memory);
+        }
+        let Some(machine) = &mut self.machine else {
+            return Err(RowErr::Memory);
+        };
+        match apply(machine, event) {
+            Ok(()) => keep(&mut self.events, event),
+            Err(cause) => Err(RowErr::Bad(Code::Refused(Refusal::Step(cause)))),
+        }
+    }
+
+    // Makes the machine, if it is not there: all names are declared by now.
+    fn make_machine(&mut self, alloc: Global) -> Result<(), AllocError>
+        requires { (0 < length self.old.resources) × (0 < length self.old.tasks) }
+        ensures made { OnOk result (IsSome self.new.machine × (state_of self.new ≡ state_of self.old)) }
+        ensures others { self.new ≡ record self.old { machine = self.new.machine } }
+    {
+        if self.machine.is_none() {
+            let tasks = self.tasks.len();
+            self.machine = Some(Plain::new(alloc, self.resources.len(), tasks, tasks)?);
+        }
+        Ok(())
     }
 
     // The list, where the records had their end.
     fn finish(self, line: u64) -> Result<EventList, ListErr>
-        ensures list { IfOk result (λ list. (before : List Row) → HasRead before self
-            → (has_end before ≡ true) × (list.resources ≡ resources_in before) × (list.tasks ≡ tasks_in before)) }
-        ensures no_end { (fault : Fault) → result ≡ Err (ListErr.Bad fault) → (before : List Row) → HasRead before self
-            → (has_end before ≡ false) × (fault ≡ record { line = line; code = Code.NoEnd }) }
+        ensures list { IfOk result (λ list. (self.ended ≡ true) × (listed list ≡ record { resources = self.resources; tasks = self.tasks; events = self.events.items })) }
+        ensures no_end { (fault : Fault) → result ≡ Err (ListErr.Bad fault) → (self.ended ≡ false) × (fault ≡ record { line = line; code = Code.NoEnd }) }
     {
         let Reading {
             begun: _,
             resources,
             tasks,
+            machine: _,
+            events,
             ended,
         } = self;
         if ended {
-            Ok(EventList { resources, tasks })
+            Ok(EventList {
+                resources,
+                tasks,
+                events,
+            })
         } else {
             Err(ListErr::Bad(Fault {
                 line,
                 code: Code::NoEnd,
             }))
         }
+    }
+}
+
+// The request of this kind for a set.
+fn request_of(kind: Kind, set: ResourceSet, len: u32) -> Result<Request, RequestErr>
+    requires { len ≤ LENGTH_LIMIT }
+    ensures made { IfOk result (λ r. (r ≡ normalised kind set set len) × (request_refusal (normalised kind set set len) ≡ None)) }
+    ensures refused { IfErr result (λ cause. request_refusal (normalised kind set set len) ≡ Some cause) }
+{
+    let request = Request::new(kind, set, set, ResourceSet::empty(), len, 0)?;
+    admit(&request)?;
+    Ok(request)
+}
+
+// One step of the machine.
+fn apply(machine: &mut Plain, event: &Event) -> Result<(), Refused>
+    requires { Fits machine.old.state event.now }
+    ensures stepped { OnOk result ((refusal machine.old.state event.now ≡ None) × (machine.new.state ≡ next machine.old.state event.now)) }
+    ensures refused { IfErr result (λ cause. refusal machine.old.state event.now ≡ Some cause) }
+{
+    machine.step(*event)
+}
+
+// Puts an event behind the others.
+fn keep(events: &mut Vec<Event>, event: &Event) -> Result<(), RowErr>
+    ensures kept { OnOk result (events.new.items ≡ events.old.items ++ event.now ∷ []) }
+    ensures memory { IfErr result (λ e. e ≡ RowErr.Memory) }
+{
+    match events.push(*event) {
+        Ok(()) => Ok(()),
+        Err(_) => Err(RowErr::Memory),
     }
 }
 

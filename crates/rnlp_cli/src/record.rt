@@ -1,11 +1,12 @@
-// What a record of a list is, by its first field and the number of its fields.
+// What a record of a list is, by the number of its fields and the words in them.
 ghost use Rattle.std.specs.Prelude.{◌≡◌};
 ghost use Rattle.csv.specs.Records.{fields_of};
-ghost use Rattle.rnlp_cli.specs.Records.{word_of, word_alone, word_with, second_of};
+ghost use Rattle.rnlp_cli.specs.Records.{word_of, word_alone, word_with, word_of_five, field_of};
 
 use csv::ByteRecord;
+use rclaim::Kind;
 
-/// What a record is, by its first field and the number of its fields.
+/// What a record is.
 #[derive(Clone, Copy, Debug, PartialEq, Eq)]
 pub enum Word {
     /// `rnlp,1`
@@ -14,6 +15,10 @@ pub enum Word {
     Resource,
     /// `task,NAME`
     Task,
+    /// `issue,TASK,KIND,SET,LEN`
+    Issue(Kind),
+    /// `finish,TASK`
+    Finish,
     /// `end`
     End,
     /// No record of this kind of input.
@@ -21,13 +26,13 @@ pub enum Word {
 }
 
 /// What a record is.
-#[tactic(auto, unfolding(crate::specs::Records::word_of))]
 pub fn word_of(row: &ByteRecord) -> Word
     ensures { result ≡ word_of (fields_of row.now) }
 {
-    match (row.get(0), row.get(1), row.get(2)) {
-        (Some(first), None, _) => word_alone(first),
-        (Some(first), Some(second), None) => word_with(first, second),
+    match row.len() {
+        1 => word_alone(field_of(row, 0)),
+        2 => word_with(field_of(row, 0), field_of(row, 1)),
+        5 => word_of_five(field_of(row, 0), field_of(row, 2)),
         _ => Word::Unknown,
     }
 }
@@ -47,7 +52,9 @@ fn word_alone(first: &[u8]) -> Word
 fn word_with(first: &[u8], second: &[u8]) -> Word
     ensures { result ≡ word_with first.now second.now }
 {
-    if first == b"resource".as_slice() {
+    if first == b"finish".as_slice() {
+        Word::Finish
+    } else if first == b"resource".as_slice() {
         Word::Resource
     } else if first == b"task".as_slice() {
         Word::Task
@@ -58,12 +65,25 @@ fn word_with(first: &[u8], second: &[u8]) -> Word
     }
 }
 
-/// The second field of a record; empty where it has none.
-pub fn second_of(row: &ByteRecord) -> &[u8]
-    ensures { result.now ≡ second_of (fields_of row.now) }
+// What a record of five fields is: its third names the kind of a request.
+fn word_of_five(first: &[u8], kind: &[u8]) -> Word
+    ensures { result ≡ word_of_five first.now kind.now }
 {
-    match row.get(1) {
-        Some(second) => second,
+    if first == b"issue".as_slice() && kind == b"read".as_slice() {
+        Word::Issue(Kind::Read)
+    } else if first == b"issue".as_slice() && kind == b"write".as_slice() {
+        Word::Issue(Kind::Write)
+    } else {
+        Word::Unknown
+    }
+}
+
+/// The field at a place counted from 0; empty where there is none.
+pub fn field_of(row: &ByteRecord, place: usize) -> &[u8]
+    ensures { result.now ≡ field_of (fields_of row.now) place }
+{
+    match row.get(place) {
+        Some(field) => field,
         None => &[],
     }
 }

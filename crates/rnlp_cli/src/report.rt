@@ -1,8 +1,12 @@
 // The report of an event list.
-ghost use Rattle.std.specs.Prelude.{◌≡◌, ◌++◌, ◌∷◌, [], length, map, IfOk, OnOk};
+ghost use Rattle.std.specs.Prelude.{◌≡◌, ◌<◌, ◌++◌, ◌∷◌, [], length, map, IfOk, OnOk};
 ghost use Rattle.rnlp_cli.specs.Text.{line, lines_of};
-ghost use Rattle.rnlp_cli.specs.Report.{report_text, ledger_row, cap_row};
+ghost use Rattle.rnlp_cli.specs.Report.{ledger_row, cap_row, report_text};
+ghost use Rattle.rnlp_cli.specs.Lists.{listed};
+ghost use Rattle.rnlp_cli.specs.Events.{opening_of};
+ghost use Rattle.rmodel.specs.Steps.{AreAccepted};
 
+use crate::history::push_history;
 use crate::list::EventList;
 use crate::text::push_line;
 use itoa::Buffer;
@@ -11,13 +15,16 @@ use std::alloc::{AllocError, Global};
 
 /// The text of the report of a list.
 pub fn report_of(alloc: Global, list: &EventList) -> Result<Vec<u8>, AllocError>
-    ensures { IfOk result (λ text. text.items ≡ report_text list.now) }
+    requires names { (0 < length list.now.resources) × (0 < length list.now.tasks) }
+    requires accepted { AreAccepted (opening_of list.now.resources list.now.tasks) list.now.events.items }
+    ensures { IfOk result (λ text. text.items ≡ report_text (listed list.now)) }
 {
     let mut text = Vec::new(alloc);
     push_line(&mut text, b"rnlp", &[b"1".as_slice()])?;
     push_names(&mut text, b"resource", &list.resources)?;
     push_names(&mut text, b"task", &list.tasks)?;
     push_cap(&mut text, list.tasks.len())?;
+    push_history(alloc, &mut text, list)?;
     push_ledgers(&mut text, &list.resources)?;
     push_line(&mut text, b"end", &[])?;
     Ok(text)

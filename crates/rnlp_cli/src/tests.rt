@@ -98,6 +98,85 @@ const REPLAYS: [(&[u8], &[u8]); 22] = [
     (b"rnlp,1\nresource,a\ntask,t1\n", b"error,4,8\n"),
 ];
 
+// The head of the lists of events below.
+const HEAD: &str = "rnlp,1\nresource,a\nresource,b\ntask,t1\n";
+
+// Events of one task, and the line of their first fault.
+const FAULTS: [(&str, &[u8]); 12] = [
+    // the request: a read of many, an empty set, lengths
+    ("issue,t1,read,a+b,1\nend\n", b"error,5,4,8\n"),
+    ("issue,t1,write,-,1\nend\n", b"error,5,4,7\n"),
+    ("issue,t1,write,a,1000000001\nend\n", b"error,5,1\n"),
+    ("issue,t1,write,a,\nend\n", b"error,5,1\n"),
+    ("issue,t1,add,a,1\nend\n", b"error,5,1\n"),
+    // the names
+    ("issue,t2,read,a,1\nend\n", b"error,5,2\n"),
+    ("issue,t1,write,a+c,1\nend\n", b"error,5,2\n"),
+    ("issue,t1,write,a+,1\nend\n", b"error,5,2\n"),
+    // the lock
+    ("finish,t1\nend\n", b"error,5,4,3\n"),
+    (
+        "issue,t1,write,a,1\nissue,t1,write,a,1\nend\n",
+        b"error,6,4,1\n",
+    ),
+    // the order
+    ("issue,t1,read,a,1\ntask,t2\nend\n", b"error,6,3\n"),
+    ("end\nfinish,t1\n", b"error,6,3\n"),
+];
+
+// A list of three tasks, and its report.
+const THREE_TASKS: &[u8] = b"rnlp,1
+resource,a
+resource,b
+task,t1
+task,t2
+task,t3
+issue,t1,write,a+b,2
+issue,t2,read,a,1
+issue,t3,write,b,1
+finish,t1
+end
+";
+
+const THREE_TASKS_REPORT: &[u8] = b"rnlp,1
+resource,a
+resource,b
+task,t1
+task,t2
+task,t3
+cap,3
+issue,t1,write,a+b,2
+now,t1,write,satisfied
+grant,t1,a+b
+issue,t2,read,a,1
+now,t2,read,entitled
+issue,t3,write,b,1
+finish,t1
+now,t2,read,satisfied
+now,t3,write,satisfied
+grant,t2,a
+grant,t3,b
+ledger,a,0,0
+ledger,b,0,0
+end
+";
+
+#[test]
+fn events(rt: HostRuntime) -> Result<(), Fail> {
+    let alloc = rt.alloc();
+    let (status, written) = run(alloc, &["replay"], THREE_TASKS, &[], &[])?;
+    assert_eq!(rt; written.as_slice(), THREE_TASKS_REPORT);
+    assert_eq!(rt; status, ToolStatus::Done);
+    for (events, line) in FAULTS {
+        let mut text = String::from_str(alloc, HEAD)?;
+        text.push_str(events)?;
+        let (status, written) = run(alloc, &["replay"], text.as_bytes(), &[], &[])?;
+        assert_eq!(rt; written.as_slice(), line);
+        assert_eq!(rt; status, ToolStatus::Trace);
+    }
+    Ok(())
+}
+
 #[test]
 fn replays(rt: HostRuntime) -> Result<(), Fail> {
     for (input, output) in REPLAYS {

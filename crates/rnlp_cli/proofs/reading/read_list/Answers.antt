@@ -1,6 +1,6 @@
-use Rattle.std.proofs.Common.{[], Some, Err, refl, sym, ap, ◌∙◌, inr}
+use Rattle.std.proofs.Common.{[], Some, Err, refl, sym, ap, ◌∙◌, inr, arith}
 use Rattle.csv.specs.Reading.{Reached, builder_config, builder_is_flexible, builder_trim, builder_names_headers, strip_bom}
-use Rattle.rnlp_cli.proofs.Place.{at_more, at_end, at_fault, no_end, whole, list_ok, bad_at, err_is}
+use Rattle.rnlp_cli.proofs.Place.{at_more, at_end, at_fault, no_end, whole, ready, few_before, list_ok, bad_at, err_is}
 use Rattle.rnlp_cli.proofs.reading.read_list.Goals as goal
 
 pub loop-line-init : goal.loop-line-init
@@ -24,6 +24,11 @@ loop-line-init c =
       },
     )
 
+pub take-requires : goal.take-requires
+take-requires c =
+    let at = c.loop-line.invariant in
+    ready at.0 c.loop-line.reading at.2.reads (few_before c.args.bytes.now c.loop-line.reader c.loop-line.reading c.loop-line.line at.0 at.1 at.2 (let test = c.loop-line-test.true in omega arith))
+
 pub loop-line-preserved : goal.loop-line-preserved
 loop-line-preserved c =
     let at = c.loop-line.invariant in
@@ -36,16 +41,17 @@ returns-then-not-found-clause-list c =
     let at = c.loop-line.invariant in
     let read = rw c.if-not-found.true at (c.in-Ok.ensures.reads at.2.trim at.2.ready) in
     let rows = at_end c.args.bytes.now c.loop-line.reader c.read_byte_record.new.self c.loop-line.reading c.loop-line.line at.0 at.1 _ at.2 read in
+    let few = few_before c.args.bytes.now c.loop-line.reader c.loop-line.reading c.loop-line.line at.0 at.1 at.2 (let test = c.loop-line-test.true in omega arith) in
     list_ok c.finish.result c.args.bytes.now c.loop-line.reading at.0 rows at.2.reads
-    (whole c.args.bytes.now c.loop-line.reader c.loop-line.reading c.loop-line.line at.0 at.1 at.2) c.finish.ensures.list
+    (whole c.args.bytes.now c.loop-line.reader c.loop-line.reading c.loop-line.line at.0 at.1 at.2 few) c.finish.ensures.list
 
 pub returns-then-not-found-clause-fault : goal.returns-then-not-found-clause-fault
 returns-then-not-found-clause-fault c = λ fault is.
     let at = c.loop-line.invariant in
     let read = rw c.if-not-found.true at (c.in-Ok.ensures.reads at.2.trim at.2.ready) in
     let rows = at_end c.args.bytes.now c.loop-line.reader c.read_byte_record.new.self c.loop-line.reading c.loop-line.line at.0 at.1 _ at.2 read in
-    let none = c.finish.ensures.no_end fault is at.0 at.2.reads in
-    (at.0, rows, no_end c.args.bytes.now c.loop-line.reader c.loop-line.reading c.loop-line.line at.0 at.1 at.2 none.0 ∙ ap Some (sym none.1))
+    let none = c.finish.ensures.no_end fault is in
+    (at.0, rows, no_end c.args.bytes.now c.loop-line.reader c.loop-line.reading c.loop-line.line at.0 at.1 at.2 (sym at.2.reads.ended ∙ none.0) ∙ ap Some (sym none.1))
 
 pub returns-in-Err-clause-fault : goal.returns-in-Err-clause-fault
 returns-in-Err-clause-fault c = λ fault is.

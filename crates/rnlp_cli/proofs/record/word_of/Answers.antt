@@ -1,19 +1,19 @@
-use Rattle.std.proofs.Common.{refl, ◌∙◌}
+use Rattle.std.proofs.Common.{◌∙◌, arith, sym, ap}
 use Rattle.csv.specs.Records.{fields_of}
-use Rattle.rnlp_cli.proofs.Fields.{word-is}
+use Rattle.rnlp_cli.specs.Records.{word_alone, word_with, word_of_five}
+use Rattle.rnlp_cli.proofs.RecordFields.{one-field, two-fields, five-fields, other-fields}
 use Rattle.rnlp_cli.proofs.record.word_of.Goals as goal
 
-pub returns-in-Some-None-default : goal.returns-in-Some-None-default
-returns-in-Some-None-default c =
-    c.word_alone.ensures ∙ word-is (fields_of c.args.row.now) _ _ _ c.in-Some-None-default.ensures.value c.in-Some-None-default.ensures'.value refl
+pub returns-in-1 : goal.returns-in-1
+returns-in-1 c = c.word_alone.ensures ∙ ap word_alone c.field_of.ensures ∙ one-field (fields_of c.args.row.now) (sym c.len.ensures ∙ c.in-1.is)
 
-pub returns-in-Some-Some-None : goal.returns-in-Some-Some-None
-returns-in-Some-Some-None c =
-    c.word_with.ensures
-    ∙ word-is (fields_of c.args.row.now) _ _ _ c.in-Some-Some-None.ensures.value c.in-Some-Some-None.ensures'.value c.in-Some-Some-None.ensures''.value
+pub returns-in-2 : goal.returns-in-2
+returns-in-2 c = c.word_with.ensures ∙ (λ i. word_with (c.field_of-in-2.ensures i) (c.field_of-in-2-2.ensures i)) ∙ two-fields (fields_of c.args.row.now) (sym c.len.ensures ∙ c.in-2.is)
+
+pub returns-in-5 : goal.returns-in-5
+returns-in-5 c = c.word_of_five.ensures ∙ (λ i. word_of_five (c.field_of-in-5.ensures i) (c.field_of-in-5-2.ensures i)) ∙ five-fields (fields_of c.args.row.now) (sym c.len.ensures ∙ c.in-5.is)
 
 pub returns-in_default : goal.returns-in_default
-returns-in_default c = word-is (fields_of c.args.row.now) _ _ _ c.in_default.ensures.value c.in_default.ensures'.value c.in_default.ensures''.value
-
-pub returns-in_default-2 : goal.returns-in_default-2
-returns-in_default-2 c = word-is (fields_of c.args.row.now) _ _ _ (rw c.in_default.is-0 at c.get.ensures.value) c.get-2.ensures.value c.get-3.ensures.value
+returns-in_default c =
+    let size = c.len.ensures in
+    other-fields (fields_of c.args.row.now) (λ e. omega (arith, size, e)) (λ e. omega (arith, size, e)) (λ e. omega (arith, size, e))

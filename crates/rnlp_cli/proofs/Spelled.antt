@@ -1,0 +1,270 @@
+-- Records and the events that they spell.
+use Rattle.std.proofs.Common.{◌≡◌, ◌≢◌, ℕ, ◌+◌, ◌^◌, ◌<◌, ◌≤◌, Bool, true, false, ◌&&◌, ◌||◌, ◌==◌, cond, List, [], ◌∷◌, ◌++◌, length, Option, Some, None, refl, sym, ap, subst, ◌∙◌, arith, IsTrue, codes}
+use Rattle.std.proofs.lemmas.Bool.{true≢false}
+use Rattle.std.proofs.lemmas.Bool.Decides.{nat_tests}
+use Rattle.std.specs.Prelude.{is_none, unwrap_or, option_map, option_and_then, nat_le}
+use Rattle.std.specs.List.{slice_split}
+use Rattle.std.specs.Str.{bytes_eq}
+use Rattle.std.specs.FinSet.{empty, insert, len, empty_of_len, len-empty}
+use Rattle.std.specs.Ordering.{nat_cmp}
+use Rattle.rset.specs.Sets.{Set, all_below}
+use Rattle.rset.specs.Names.{number_in}
+use Rattle.rset.proofs.NameLemmas.{number_below}
+use Rattle.rset.proofs.SetsBelow.{all_below_empty, all_below_insert}
+use Rattle.rclaim.specs.Requests.{RequestFields, normalised, asked_set, FitsKind, IsNormal}
+use Rattle.rclaim.specs.declared.TheConstants.{LENGTH_LIMIT}
+use Rattle.rclaim.specs.declared.request.Kind.{Kind}
+use Rattle.rclaim.specs.declared.request.Kind.TheVariants.{Read, Write}
+use Rattle.rclaim.specs.declared.request.RequestErr.{RequestErr}
+use Rattle.rclaim.specs.declared.request.RequestErr.TheVariants.{EmptyRequest, Undeclared}
+use Rattle.rclaim.specs.declared.event.Event.{Event}
+use Rattle.rclaim.specs.declared.event.Event.TheVariants as event
+use Rattle.rmodel.specs.Claims.{is_admitted}
+use Rattle.rmodel.specs.State.{LockState}
+use Rattle.rmodel.specs.Steps.{refusal, after, next, Comes, AreAccepted}
+use Rattle.rnlp_cli.specs.Records.{Row, second_of, field_of}
+use Rattle.rnlp_cli.specs.Fields.{number_told, length_in, gather, set_in}
+use Rattle.rnlp_cli.specs.Events.{issue_in, event_by, request_refusal, refusal_by, refusal_in}
+use Rattle.rnlp_cli.specs.Faults.{is_event, is_bad_field, is_unknown, resources_in, tasks_in}
+use Rattle.rnlp_cli.specs.declared.record.Word.{Word}
+use Rattle.rnlp_cli.specs.declared.record.Word.TheVariants.{Version, Resource, Task, Issue, Finish, End, Unknown}
+use Rattle.rnlp_cli.specs.declared.list.Refusal.TheVariants.{Step}
+
+some_is : {X : Type 0} {x y : X} → Some x ≡ Some y → x ≡ y
+some_is {x = x} e = ap (λ o. unwrap_or o x) e
+
+some_none : {X : Type 0} {x : X} → ◌≡◌ {A = Option X} None (Some x) → ⊥
+some_none e = true≢false (ap is_none e)
+
+-- what a choice that gave something was made of
+and_then_some : {X Y : Type 0} (f : X → Option Y) (o : Option X) (y : Y) → option_and_then f o ≡ Some y → (x : X) × (o ≡ Some x) × (f x ≡ Some y)
+and_then_some f None y h = absurd (some_none h)
+and_then_some f (Some x) y h = (x, refl, h)
+
+map_some : {X Y : Type 0} (f : X → Y) (o : Option X) (y : Y) → option_map f o ≡ Some y → (x : X) × (o ≡ Some x) × (f x ≡ y)
+map_some f None y h = absurd (some_none h)
+map_some f (Some x) y h = (x, refl, some_is h)
+
+is_there : {X : Type 0} (o : Option X) → is_none o ≡ false → (x : X) × (o ≡ Some x)
+is_there None h = absurd (true≢false h)
+is_there (Some x) h = (x, refl)
+
+-- ---- what a record that spells an event has in its fields
+
+pub record IssueSpelled (resources tasks : List (List ℕ)) (kind : Kind) (row : Row) (e : Event) : Type 0 where
+  pub seat : ℕ
+  pub set : Set
+  pub len : ℕ
+  pub task : number_in tasks (second_of row) ≡ Some seat
+  pub names : set_in resources (field_of row 3) ≡ Some set
+  pub length : length_in (field_of row 4) ≡ Some len
+  pub is : e ≡ event.Issue seat (normalised kind set set len)
+
+pub issue_spelled : (resources tasks : List (List ℕ)) (kind : Kind) (row : Row) (e : Event) → issue_in resources tasks kind row ≡ Some e → IssueSpelled resources tasks kind row e
+issue_spelled resources tasks kind row e h =
+    let a = and_then_some _ (number_in tasks (second_of row)) e h in
+    let b = and_then_some _ (set_in resources (field_of row 3)) e a.2 in
+    let c = map_some _ (length_in (field_of row 4)) e b.2 in
+    record { seat = a.0; set = b.0; len = c.0; task = a.1; names = b.1; length = c.1; is = sym c.2 }
+
+-- an event stands in a record of an event alone
+pub spells_event : (resources tasks : List (List ℕ)) (row : Row) (w : Word) (e : Event) → event_by resources tasks row w ≡ Some e → is_event w ≡ true
+spells_event resources tasks row (Issue kind) e h = refl
+spells_event resources tasks row Finish e h = refl
+spells_event resources tasks row Version e h = absurd (some_none h)
+spells_event resources tasks row Resource e h = absurd (some_none h)
+spells_event resources tasks row Task e h = absurd (some_none h)
+spells_event resources tasks row End e h = absurd (some_none h)
+spells_event resources tasks row Unknown e h = absurd (some_none h)
+
+or_false : (a b : Bool) → a ≡ false → b ≡ false → (a || b) ≡ false
+or_false a b p q = rw (p, q) refl
+
+-- its fields are right and its names known
+pub spelled_right : (before : List Row) (row : Row) (w : Word) (e : Event) → event_by (resources_in before) (tasks_in before) row w ≡ Some e
+    → (is_bad_field before row w ≡ false) × (is_unknown before row w ≡ false)
+spelled_right before row (Issue kind) e h =
+    let s = issue_spelled (resources_in before) (tasks_in before) kind row e h in
+    (ap is_none s.length, or_false _ _ (ap is_none s.task) (ap is_none s.names))
+spelled_right before row Finish e h = let s = map_some event.Finish (number_in (tasks_in before) (second_of row)) e h in (refl, ap is_none s.1)
+spelled_right before row Version e h = absurd (some_none h)
+spelled_right before row Resource e h = absurd (some_none h)
+spelled_right before row Task e h = absurd (some_none h)
+spelled_right before row End e h = absurd (some_none h)
+spelled_right before row Unknown e h = absurd (some_none h)
+
+neither_of : (a b : Bool) → (a || b) ≡ false → (a ≡ false) × (b ≡ false)
+neither_of true b h = absurd (true≢false h)
+neither_of false b h = (refl, h)
+
+pub issue_made : (resources tasks : List (List ℕ)) (kind : Kind) (row : Row) (seat : ℕ) (set : Set) (len : ℕ) → number_in tasks (second_of row) ≡ Some seat
+    → set_in resources (field_of row 3) ≡ Some set → length_in (field_of row 4) ≡ Some len → issue_in resources tasks kind row ≡ Some (event.Issue seat (normalised kind set set len))
+issue_made resources tasks kind row seat set len a b c = rw (a, b, c) refl
+
+pub finish_made : (tasks : List (List ℕ)) (row : Row) (seat : ℕ) → number_in tasks (second_of row) ≡ Some seat → option_map event.Finish (number_in tasks (second_of row)) ≡ Some (event.Finish seat)
+finish_made tasks row seat a = rw a refl
+
+-- a record of an event whose fields are right and whose names are known spells one
+pub right_spells : (before : List Row) (row : Row) (w : Word) → is_event w ≡ true → is_bad_field before row w ≡ false → is_unknown before row w ≡ false
+    → (e : Event) × (event_by (resources_in before) (tasks_in before) row w ≡ Some e)
+right_spells before row (Issue kind) is field names =
+    let known = neither_of (is_none (number_in (tasks_in before) (second_of row))) _ names in
+    let seat = is_there (number_in (tasks_in before) (second_of row)) known.0 in
+    let set = is_there (set_in (resources_in before) (field_of row 3)) known.1 in
+    let len = is_there (length_in (field_of row 4)) field in
+    (event.Issue seat.0 (normalised kind set.0 set.0 len.0), issue_made (resources_in before) (tasks_in before) kind row seat.0 set.0 len.0 seat.1 set.1 len.1)
+right_spells before row Finish is field names = let seat = is_there (number_in (tasks_in before) (second_of row)) names in (event.Finish seat.0, finish_made (tasks_in before) row seat.0 seat.1)
+right_spells before row Version is field names = absurd (true≢false (sym is))
+right_spells before row Resource is field names = absurd (true≢false (sym is))
+right_spells before row Task is field names = absurd (true≢false (sym is))
+right_spells before row End is field names = absurd (true≢false (sym is))
+right_spells before row Unknown is field names = absurd (true≢false (sym is))
+
+-- ---- what such an event fits
+
+-- the members that a field names are resources
+gather_below : (names pieces : List (List ℕ)) (s t : Set) → all_below (length names) s ≡ true → gather names s pieces ≡ Some t → all_below (length names) t ≡ true
+unfolding gather
+gather_below names [] s t below h = ap (all_below (length names)) (sym (some_is h)) ∙ below
+gather_below names (piece ∷ pieces) s t below h =
+    let n = and_then_some (λ n. gather names (insert s n) pieces) (number_in names piece) t h in
+    gather_below names pieces (insert s n.0) t (all_below_insert (length names) s n.0 below (number_below names piece n.0 n.1)) n.2
+
+-- a choice that gave something, either way
+by_choice : {X : Type 0} (P : Type 0) (b : Bool) (o p : Option X) (x : X) → cond b o p ≡ Some x → (b ≡ true → o ≡ Some x → P) → (b ≡ false → p ≡ Some x → P) → P
+by_choice P b o p x =
+    elim b as (λ v. cond v o p ≡ Some x → (v ≡ true → o ≡ Some x → P) → (v ≡ false → p ≡ Some x → P) → P) [ true ↦ λ h yes no. yes refl h | false ↦ λ h yes no. no refl h ]
+
+pub set_below : (names : List (List ℕ)) (field : List ℕ) (s : Set) → set_in names field ≡ Some s → all_below (length names) s ≡ true
+unfolding set_in
+set_below names field s h =
+    by_choice _ (bytes_eq field (codes "-")) (Some empty) (gather names empty (slice_split (λ b. b == 43) field)) s h
+    (λ _ one. ap (all_below (length names)) (sym (some_is one)) ∙ all_below_empty (length names))
+    (λ _ pieces. gather_below names (slice_split (λ b. b == 43) field) empty s (all_below_empty (length names)) pieces)
+
+both_of : (a b : Bool) → (a && b) ≡ true → (a ≡ true) × (b ≡ true)
+both_of true b h = (refl, h)
+both_of false b h = absurd (true≢false (sym h))
+
+pub length_within : (field : List ℕ) (n : ℕ) → length_in field ≡ Some n → n ≤ LENGTH_LIMIT
+unfolding length_in
+length_within field n h =
+    let told = and_then_some (λ k. cond (nat_le k LENGTH_LIMIT) (Some k) None) (number_told field) n h in
+    by_choice (n ≤ LENGTH_LIMIT) (nat_le told.0 LENGTH_LIMIT) (Some told.0) None n told.2
+    (λ small is. let same : told.0 ≡ n = some_is is in grind (arith, nat_tests))
+    (λ _ none. absurd (some_none none))
+
+-- ---- accepted events
+
+pub no_refusal : {X : Type 0} (a b : Bool) (x y : X) → cond a (Some x) (cond b None (Some y)) ≡ None → (a ≡ false) × (b ≡ true)
+no_refusal true b x y h = absurd (some_none (sym h))
+no_refusal false true x y h = (refl, refl)
+no_refusal false false x y h = absurd (some_none (sym h))
+
+not_empty : (s : Set) → (len s == 0) ≡ false → s ≢ empty
+not_empty s h e = true≢false (sym (ap (λ t. len t == 0) e ∙ ap (λ n. n == 0) (len-empty nat_cmp)) ∙ h)
+
+has_members : (s : Set) → s ≢ empty → (len s == 0) ≡ false
+has_members s h = elim (len s == 0) as (λ b. (len s == 0) ≡ b → b ≡ false) [ true ↦ λ e. absurd (h (empty_of_len s (grind (arith, nat_tests)))) | false ↦ λ _. refl ] refl
+
+-- a request that nothing refuses is in normal form, and admitted
+pub request_right : (kind : Kind) (set : Set) (n : ℕ) → request_refusal (normalised kind set set n) ≡ None → n ≤ LENGTH_LIMIT
+    → IsNormal (normalised kind set set n) × IsTrue (is_admitted (normalised kind set set n))
+request_right Read set n h within =
+    let tests = no_refusal (len set == 0) _ EmptyRequest Undeclared h in
+    (record { sets = (not_empty set tests.0, refl); first = refl; len = within; later = refl }, tests.1)
+request_right Write set n h within =
+    let tests = no_refusal (len set == 0) _ EmptyRequest Undeclared h in
+    (record { sets = (refl, not_empty set tests.0); first = refl; len = within; later = refl }, tests.1)
+
+pub some_set : (kind : Kind) (reads writes : Set) → FitsKind kind reads writes → (len (asked_set kind reads writes) == 0) ≡ false
+some_set Read reads writes fits = has_members reads fits.0
+some_set Write reads writes fits = has_members writes fits.1
+
+-- and one that is both is refused by nothing
+pub right_request : (r : RequestFields) → IsNormal r → IsTrue (is_admitted r) → request_refusal r ≡ None
+right_request r normal admitted = let some = some_set r.kind r.reads r.writes normal.sets in rw (some, admitted) refl
+
+not_refused : (s : LockState) (e : Event) (o : Option RequestErr) → o ≡ None → refusal s e ≡ None → refusal_by s e o ≡ None
+not_refused s e None p h = ap (option_map Step) h
+not_refused s e (Some cause) p h = absurd (some_none (sym p))
+
+-- an accepted event is not refused
+pub accepted_free : (s : LockState) (e : Event) → Comes s e → refusal_in s e ≡ None
+accepted_free s (event.Issue seat r) comes = not_refused s (event.Issue seat r) (request_refusal r) (right_request r comes.normal comes.fits.admitted) comes.accepted
+accepted_free s (event.Finish seat) comes = ap (option_map Step) comes.accepted
+
+map_none : {X Y : Type 0} (f : X → Y) (o : Option X) → option_map f o ≡ None → o ≡ None
+map_none f None h = refl
+map_none f (Some x) h = absurd (some_none (sym h))
+
+refused_by_none : (s : LockState) (e : Event) (o : Option RequestErr) → refusal_by s e o ≡ None → (o ≡ None) × (refusal s e ≡ None)
+refused_by_none s e None h = (refl, map_none Step (refusal s e) h)
+refused_by_none s e (Some cause) h = absurd (some_none (sym h))
+
+pub kind_below : (q : ℕ) (kind : Kind) (set : Set) (n : ℕ) → all_below q set ≡ true → IsTrue (all_below q (normalised kind set set n).reads) × IsTrue (all_below q (normalised kind set set n).writes)
+kind_below q Read set n below = (below, all_below_empty q)
+kind_below q Write set n below = (all_below_empty q, below)
+
+-- a spelled event that is not refused comes to the state
+pub free_comes : (resources tasks : List (List ℕ)) (row : Row) (w : Word) (e : Event) (s : LockState) → event_by resources tasks row w ≡ Some e
+    → s.resources ≡ length resources → s.seats ≡ length tasks → s.issued < 2 ^ 63 → refusal_in s e ≡ None → Comes s e
+free_comes resources tasks row (Issue kind) e s h rs ts stamps free =
+    let told = issue_spelled resources tasks kind row e h in
+    let r : RequestFields = normalised kind told.set told.set told.len in
+    let none = refused_by_none s (event.Issue told.seat r) (request_refusal r) (ap (refusal_in s) (sym told.is) ∙ free) in
+    let right = request_right kind told.set told.len none.0 (length_within (field_of row 4) told.len told.length) in
+    let below = kind_below s.resources kind told.set told.len (ap (λ q. all_below q told.set) rs ∙ set_below resources (field_of row 3) told.set told.names) in
+    let seat : told.seat < s.seats = subst (λ n. told.seat < n) (sym ts) (number_below tasks (second_of row) told.seat told.task) in
+    subst (Comes s) (sym told.is) (record {
+      fits = record { seat_there = seat; reads = below.0; writes = below.1; admitted = right.1; stamps = stamps };
+      normal = right.0;
+      accepted = none.1;
+    })
+free_comes resources tasks row Finish e s h rs ts stamps free =
+    let told = map_some event.Finish (number_in tasks (second_of row)) e h in
+    let seat : told.0 < s.seats = subst (λ n. told.0 < n) (sym ts) (number_below tasks (second_of row) told.0 told.1) in
+    subst (Comes s) told.2 (record { fits = seat; normal = tt; accepted = map_none Step _ (ap (refusal_in s) told.2 ∙ free) })
+free_comes resources tasks row Version e s h rs ts stamps free = absurd (some_none h)
+free_comes resources tasks row Resource e s h rs ts stamps free = absurd (some_none h)
+free_comes resources tasks row Task e s h rs ts stamps free = absurd (some_none h)
+free_comes resources tasks row End e s h rs ts stamps free = absurd (some_none h)
+free_comes resources tasks row Unknown e s h rs ts stamps free = absurd (some_none h)
+
+-- ---- what lists of events leave of a state
+
+pub after-push : (s : LockState) (es : List Event) (e : Event) → after s (es ++ e ∷ []) ≡ next (after s es) e
+after-push s [] e = refl
+after-push s (x ∷ es) e = after-push (next s x) es e
+
+pub accepted-push : (s : LockState) (es : List Event) (e : Event) → AreAccepted s es → Comes (after s es) e → AreAccepted s (es ++ e ∷ [])
+accepted-push s [] e all comes = (comes, tt)
+accepted-push s (x ∷ es) e all comes = (all.0, accepted-push (next s x) es e all.1 comes)
+
+pub accepted-front : (s : LockState) (es more : List Event) (e : Event) → AreAccepted s (es ++ e ∷ more) → Comes (after s es) e
+accepted-front s [] more e all = all.0
+accepted-front s (x ∷ es) more e all = accepted-front (next s x) es more e all.1
+
+next-resources : (s : LockState) (e : Event) → (next s e).resources ≡ s.resources
+next-resources s (event.Issue seat r) = refl
+next-resources s (event.Finish seat) = refl
+
+next-seats : (s : LockState) (e : Event) → (next s e).seats ≡ s.seats
+next-seats s (event.Issue seat r) = refl
+next-seats s (event.Finish seat) = refl
+
+next-issued : (s : LockState) (e : Event) → (next s e).issued ≤ s.issued + 1
+next-issued s (event.Issue seat r) = omega arith
+next-issued s (event.Finish seat) = omega arith
+
+pub after-resources : (s : LockState) (es : List Event) → (after s es).resources ≡ s.resources
+after-resources s [] = refl
+after-resources s (e ∷ es) = after-resources (next s e) es ∙ next-resources s e
+
+pub after-seats : (s : LockState) (es : List Event) → (after s es).seats ≡ s.seats
+after-seats s [] = refl
+after-seats s (e ∷ es) = after-seats (next s e) es ∙ next-seats s e
+
+pub after-issued : (s : LockState) (es : List Event) → (after s es).issued ≤ s.issued + length es
+after-issued s [] = omega arith
+after-issued s (e ∷ es) = let rest = after-issued (next s e) es in let one = next-issued s e in omega arith

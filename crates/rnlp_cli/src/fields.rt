@@ -1,0 +1,60 @@
+// What the fields of an event spell.
+ghost use Rattle.std.specs.Prelude.{◌≡◌, ◌≤◌, IfSome, IsTrue, length};
+ghost use Rattle.rclaim.specs.declared.TheConstants.{LENGTH_LIMIT};
+ghost use Rattle.rnlp_cli.specs.Fields.{length_in, number_told, digit_behind, set_in};
+ghost use Rattle.rset.specs.Sets.{all_below};
+
+use rclaim::LENGTH_LIMIT;
+use rset::{NameTable, ResourceSet};
+
+/// The length that a field tells; None where it is no number, or above the limit.
+pub fn length_of(field: &[u8]) -> Option<u32>
+    ensures value { result ≡ length_in field.now }
+    ensures bound { IfSome result (λ len. len ≤ LENGTH_LIMIT) }
+{
+    let number = number_of(field)?;
+    if number > u64::from(LENGTH_LIMIT) {
+        return None;
+    }
+    Some(number as u32)
+}
+
+// The number that a field tells; None where it is none.
+fn number_of(field: &[u8]) -> Option<u64>
+    ensures { result ≡ number_told field.now }
+{
+    if field.is_empty() || field.len() > 20 {
+        return None;
+    }
+    let mut number = 0u64;
+    for digit in field {
+        number = with_digit(number, *digit)?;
+    }
+    Some(number)
+}
+
+// The number with one digit more behind it.
+fn with_digit(number: u64, digit: u8) -> Option<u64>
+    ensures { result ≡ digit_behind number digit }
+{
+    if !digit.is_ascii_digit() {
+        return None;
+    }
+    let value = u64::from(digit - b'0');
+    number.checked_mul(10)?.checked_add(value)
+}
+
+/// The set of resources that a field names; None where a piece of it is no declared name.
+pub fn set_of(names: &NameTable, field: &[u8]) -> Option<ResourceSet>
+    ensures value { result ≡ set_in names.now field.now }
+    ensures below { IfSome result (λ set. IsTrue (all_below (length names.now) set)) }
+{
+    let mut set = ResourceSet::empty();
+    if field == b"-".as_slice() {
+        return Some(set);
+    }
+    for name in field.split(|byte| *byte == b'+') {
+        set = set.with(names.number_of(name)?);
+    }
+    Some(set)
+}
