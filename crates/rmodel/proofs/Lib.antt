@@ -5,6 +5,7 @@ pub mod Settlement
 pub mod SettlingSteps
 pub mod ChangeSteps
 pub mod Soundness
+pub mod Barred
 pub mod ChangesTold
 pub mod PlainSteps
 pub mod Reached

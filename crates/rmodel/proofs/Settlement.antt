@@ -45,7 +45,7 @@ meets_gathered p of s all (x ∷ xs) =
     regroup true b c = refl
     regroup false b c = refl
 
-gathered : (p : Claimed → Bool) (of : Claimed → Set) (s : Set) (xs : List Claimed)
+pub gathered : (p : Claimed → Bool) (of : Claimed → Set) (s : Set) (xs : List Claimed)
     → meets (fold (λ a x. cond (p x) (union a (of x)) a) empty xs) s ≡ list_any (λ x. p x && meets (of x) s) xs
 gathered p of s xs = meets_gathered p of s empty xs ∙ ap (λ b. b || list_any (λ x. p x && meets (of x) s) xs) (meets_empty_left s)
 

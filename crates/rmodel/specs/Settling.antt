@@ -23,6 +23,14 @@ written_by_active xs = fold (λ all x. if x.claim.write_half && is_active x then
 unfoldable pub written_by_satisfied : List Claimed → Set
 written_by_satisfied xs = fold (λ all x. if x.claim.write_half && is_satisfied x then union all x.claim.writes else all) empty xs
 
+-- these resources, and what a claim writes if it is a write
+abbrev pub with_writes : Set → Claimed → Set
+with_writes all x = if x.claim.write_half then union all x.claim.writes else all
+
+-- what the writes of a list write, whatever their status
+unfoldable pub written : List Claimed → Set
+written xs = fold with_writes empty xs
+
 -- what is read by the unsatisfied reads that touch these resources
 unfoldable pub read_near : List Claimed → Set → Set
 read_near xs s =

@@ -1,6 +1,8 @@
 // Settles a list of claims: the reads, then the writes by rising stamp, then which reads are kept for.
-ghost use Rattle.std.specs.Prelude.{◌≡◌, ◌<◌, length, slice_index_or, vec_capacity, []};
-ghost use Rattle.rmodel.specs.Settling.{written_by_active, written_by_satisfied, read_near, read_status, is_clear, has_way, entered_status, write_status, kept_status, settle_reads, settle_rest, settle_kept, settled};
+ghost use Rattle.std.specs.Prelude.{◌≡◌, ◌<◌, true, false, length, take, slice_index_or, vec_capacity, []};
+ghost use Rattle.rset.specs.Sets.{meets};
+ghost use Rattle.rmodel.specs.WellFormed.{AreWellFormed};
+ghost use Rattle.rmodel.specs.Settling.{written_by_active, written_by_satisfied, read_near, read_status, is_clear, has_way, entered_status, write_status, kept_status, settle_reads, settle_rest, settle_kept, settled, with_writes, written};
 ghost use Rattle.rmodel.specs.declared.claimed.Claimed.{Claimed};
 ghost use Rattle.rmodel.specs.Rules.{is_earlier_write, is_held_up};
 
@@ -99,15 +101,18 @@ fn read_status(busy: ResourceSet, x: &Claimed) -> Status
     }
 }
 
-/// The status of a claim after the second pass, where the writes before it are settled.
+/// The status of a claim after the second pass, where the writes before it are settled, and `before` is what they write.
+///
+/// A write that has a place of its own among these has no way, so that the list need not be gone through for it.
 #[tactic(auto, unfolding(crate::specs::Settling::write_status))]
-fn write_status(claims: &[Claimed], x: &Claimed) -> Status
+fn write_status(claims: &[Claimed], x: &Claimed, before: ResourceSet) -> Status
+    requires { meets before x.now.claim.places ≡ true → has_way claims.now x.now.claim ≡ false }
     ensures { result ≡ write_status claims.now x.now }
 {
     if !x.claim.write_half || x.is_satisfied() {
         return x.status;
     }
-    if !x.is_active() && !has_way(claims, &x.claim) {
+    if !x.is_active() && (before.meets(x.claim.places) || !has_way(claims, &x.claim)) {
         return Status::Waiting;
     }
     if is_held_up(claims, &x.claim) {
@@ -141,22 +146,39 @@ fn settle_reads(claims: &mut [Claimed])
     }
 }
 
-/// The status of the claim at a place after the second pass, where the writes before it are settled.
-fn write_status_at(claims: &[Claimed], i: usize) -> Status
-    requires { i < length claims.now }
+/// The status of the claim at a place after the second pass, where the writes before it are settled, and `before` is
+/// what they write.
+fn write_status_at(claims: &[Claimed], i: usize, before: ResourceSet) -> Status
+    requires place { i < length claims.now }
+    requires well_formed { AreWellFormed claims.now }
+    requires before { before ≡ written (take i claims.now) }
     ensures { (d : Claimed) → result ≡ write_status claims.now (slice_index_or claims.now i d) }
 {
-    write_status(claims, &claims[i])
+    write_status(claims, &claims[i], before)
+}
+
+/// These resources, and what a claim writes if it is a write.
+fn with_writes(all: ResourceSet, x: &Claimed) -> ResourceSet
+    ensures { result ≡ with_writes all x.now }
+{
+    if x.claim.write_half {
+        all.union(x.claim.writes)
+    } else {
+        all
+    }
 }
 
 /// The second pass: the writes enter and are satisfied by rising stamp.
 fn settle_writes(claims: &mut [Claimed])
+    requires { AreWellFormed claims.old }
     ensures { claims.new ≡ settle_rest [] claims.old }
 {
+    let mut before = ResourceSet::empty();
     for i in 0..claims.len() {
-        let status = write_status_at(claims, i);
+        let status = write_status_at(claims, i, before);
         let x = &mut claims[i];
         x.status = status;
+        before = with_writes(before, &claims[i]);
     }
 }
 
@@ -174,6 +196,7 @@ fn settle_kept(claims: &mut [Claimed])
 /// Settles the claims once, pass after pass.
 #[tactic(auto, unfolding(crate::specs::Settling::settled))]
 fn settle_all(claims: &mut [Claimed])
+    requires { AreWellFormed claims.old }
     ensures { claims.new ≡ settled claims.old }
 {
     settle_reads(claims);
@@ -183,6 +206,7 @@ fn settle_all(claims: &mut [Claimed])
 
 /// Settles the claims of a list once.
 pub(crate) fn settle(claims: &mut Vec<Claimed>)
+    requires { AreWellFormed claims.old.items }
     ensures items { claims.new.items ≡ settled claims.old.items }
     ensures len { length claims.new.items ≡ length claims.old.items }
     ensures capacity { vec_capacity claims.new ≡ vec_capacity claims.old }

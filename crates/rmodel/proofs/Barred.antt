@@ -1,0 +1,109 @@
+-- A write that has a place among what earlier writes write has no way.
+use Rattle.std.proofs.Common.{◌≡◌, ℕ, ◌+◌, ◌<◌, Bool, true, false, not, ◌&&◌, ◌||◌, List, [], ◌∷◌, ◌++◌, map, length, get_or, take, drop, nat_lt, refl, sym, ap, subst, ◌∙◌, append_assoc, arith, add-one, true≢false}
+use Rattle.std.proofs.Math.ListN.{set}
+use Rattle.std.proofs.Math.Seq.{drop-cons}
+use Rattle.std.proofs.lemmas.Bool.Decides.{nat_tests}
+use Rattle.std.proofs.lemmas.List.{take_more_set, drop-set-lt, take-append-drop}
+use Rattle.std.proofs.lemmas.List.Folds.{list_all-append}
+use Rattle.std.proofs.lemmas.List.Sums.{fold-append}
+use Rattle.std.specs.List.{fold, list_all, list_any, AllByRecursion}
+use Rattle.std.specs.FinSet.{empty}
+use Rattle.rset.specs.Sets.{Set, meets}
+use Rattle.rset.proofs.SetLemmas.{meets_within_left}
+use Rattle.rclaim.specs.declared.claim.Claim.{Claim}
+use Rattle.rmodel.specs.declared.claimed.Claimed.{Claimed}
+use Rattle.rmodel.specs.Claims.{share_place, is_satisfied}
+use Rattle.rmodel.specs.Rules.{is_earlier_write}
+use Rattle.rmodel.specs.Settling.{with_status, with_writes, written, is_clear, has_way, read_near, read_status, settle_reads, written_by_active}
+use Rattle.rmodel.specs.WellFormed.{EachPair, Rises, IsClaim, AreWellFormed}
+use Rattle.rmodel.proofs.ListFacts.{zip_same, zip_append, zip_map_right}
+use Rattle.rmodel.proofs.Settlement.{gathered}
+use Rattle.rmodel.proofs.Soundness.{SameClaim, same_claims_well_formed}
+
+both_of : (a b : Bool) → (a && b) ≡ true → (a ≡ true) × (b ≡ true)
+both_of true b h = (refl, h)
+both_of false b h = absurd (true≢false (sym h))
+
+and_false : (a b : Bool) → b ≡ false → (a && b) ≡ false
+and_false true b h = h
+and_false false b h = refl
+
+-- what is asked of each claim before c, for c to have way
+clear_at : Claim → Set → Claimed → Bool
+clear_at c away v = not (is_earlier_write c v.claim && share_place v.claim c) || (is_satisfied v && not (meets v.claim.writes away))
+
+-- a write before c that writes a place of c fails it
+fails_at : (v : Claimed) (c : Claimed) → Rises v c → IsClaim v.claim → (v.claim.write_half && meets v.claim.writes c.claim.places) ≡ true → clear_at c.claim c.claim.places v ≡ false
+unfolding clear_at
+fails_at v c rises is h =
+    let parts = both_of v.claim.write_half (meets v.claim.writes c.claim.places) h in
+    let below : nat_lt v.claim.stamp c.claim.stamp ≡ true = (let less = rises.after_write parts.0 in grind (arith, nat_tests)) in
+    let shares : share_place v.claim c.claim ≡ true = meets_within_left v.claim.writes v.claim.places c.claim.places (is.writes_placed parts.0) parts.1 in
+    let writes = parts.0 in
+    let place = parts.1 in
+    rw (writes, below, shares, place) (and_false (is_satisfied v) false refl)
+
+fails_among : (done : List Claimed) (c : Claimed) → AllByRecursion (λ v. Rises v c) done → AllByRecursion (λ v. IsClaim v.claim) done
+    → list_any (λ v. v.claim.write_half && meets v.claim.writes c.claim.places) done ≡ true → list_all (clear_at c.claim c.claim.places) done ≡ false
+fails_among [] c rises are h = absurd (true≢false (sym h))
+fails_among (v ∷ done) c rises are h = at (v.claim.write_half && meets v.claim.writes c.claim.places) refl (λ later. fails_among done c rises.1 are.1 later)
+  where
+    at : (b : Bool) → (v.claim.write_half && meets v.claim.writes c.claim.places) ≡ b
+        → (list_any (λ v. v.claim.write_half && meets v.claim.writes c.claim.places) done ≡ true → list_all (clear_at c.claim c.claim.places) done ≡ false)
+        → (clear_at c.claim c.claim.places v && list_all (clear_at c.claim c.claim.places) done) ≡ false
+    at true e among = ap (λ t. t && list_all (clear_at c.claim c.claim.places) done) (fails_at v c rises.0 are.0 e)
+    at false e among =
+        and_false (clear_at c.claim c.claim.places v) _ (among (ap (λ t. t || list_any (λ v. v.claim.write_half && meets v.claim.writes c.claim.places) done) (sym e) ∙ h))
+
+-- the claims before one in a well-formed list rise to it
+rise_to : (done rest : List Claimed) (x : Claimed) → EachPair Rises (done ++ x ∷ rest) → AllByRecursion (λ v. Rises v x) done
+rise_to [] rest x h = tt
+rise_to (v ∷ done) rest x h = (here done h.0, rise_to done rest x h.1)
+  where
+    here : (ys : List Claimed) → AllByRecursion (Rises v) (ys ++ x ∷ rest) → Rises v x
+    here [] a = a.0
+    here (y ∷ ys) a = here ys a.1
+
+front : (done rest : List Claimed) → AllByRecursion (λ v. IsClaim v.claim) (done ++ rest) → AllByRecursion (λ v. IsClaim v.claim) done
+front [] rest h = tt
+front (v ∷ done) rest h = (h.0, front done rest h.1)
+
+barred_in : (done rest : List Claimed) (x : Claimed) → AreWellFormed (done ++ x ∷ rest) → meets (written done) x.claim.places ≡ true → has_way (done ++ x ∷ rest) x.claim ≡ false
+unfolding written has_way is_clear clear_at
+barred_in done rest x well h =
+    let some : list_any (λ v. v.claim.write_half && meets v.claim.writes x.claim.places) done ≡ true = sym (gathered (λ v. v.claim.write_half) (λ v. v.claim.writes) x.claim.places done) ∙ h in
+    let none : list_all (clear_at x.claim x.claim.places) done ≡ false = fails_among done x (rise_to done rest x well.rising) (front done (x ∷ rest) well.claims) some in
+    ap (λ b. b && list_all (clear_at x.claim (read_near (done ++ x ∷ rest) x.claim.places)) (done ++ x ∷ rest))
+    (list_all-append (clear_at x.claim x.claim.places) done (x ∷ rest) ∙ ap (λ b. b && list_all (clear_at x.claim x.claim.places) (x ∷ rest)) none)
+
+-- a claim at a place, between those before and behind it
+between : (xs : List Claimed) (i : ℕ) (d : Claimed) → i < length xs → take i xs ++ (get_or xs i d ∷ drop (i + 1) xs) ≡ xs
+between xs i d h = ap (λ r. take i xs ++ r) (sym (drop-cons xs i d h ∙ ap (λ n. get_or xs i d ∷ drop n xs) (sym (add-one i)))) ∙ take-append-drop i xs
+
+pub barred : (xs : List Claimed) (i : ℕ) (d : Claimed) → i < length xs → AreWellFormed xs → meets (written (take i xs)) (get_or xs i d).claim.places ≡ true → has_way xs (get_or xs i d).claim ≡ false
+barred xs i d h well m =
+    let whole = between xs i d h in
+    ap (λ all. has_way all (get_or xs i d).claim) (sym whole) ∙ barred_in (take i xs) (drop (i + 1) xs) (get_or xs i d) (subst AreWellFormed (sym whole) well) m
+
+-- a claim with another status is the same claim
+pub well_set : (xs : List Claimed) (i : ℕ) (d y : Claimed) → i < length xs → y.claim ≡ (get_or xs i d).claim → AreWellFormed xs → AreWellFormed (set xs i y)
+well_set xs i d y h same well =
+    let less : i < i + 1 = omega arith in
+    let ys : (take i xs ++ y ∷ []) ++ drop (i + 1) xs ≡ set xs i y =
+    (λ k. sym (take_more_set xs i y h) k ++ sym (drop-set-lt (i + 1) xs i y less) k) ∙ take-append-drop (i + 1) (set xs i y) in
+    let zip = zip_append SameClaim (take i xs) (take i xs) (get_or xs i d ∷ drop (i + 1) xs) (y ∷ drop (i + 1) xs)
+    (zip_same SameClaim (λ x. refl) (take i xs)) (same, zip_same SameClaim (λ x. refl) (drop (i + 1) xs)) in
+    subst AreWellFormed (sym (append_assoc (take i xs) (y ∷ []) (drop (i + 1) xs)) ∙ ys)
+    (same_claims_well_formed (take i xs ++ (get_or xs i d ∷ drop (i + 1) xs)) (take i xs ++ (y ∷ drop (i + 1) xs)) (subst AreWellFormed (sym (between xs i d h)) well) zip)
+
+-- what the writes write, with one more
+pub written_more : (xs : List Claimed) (i : ℕ) (y : Claimed) → i < length xs → written (take (i + 1) (set xs i y)) ≡ with_writes (written (take i xs)) y
+unfolding written
+written_more xs i y h = ap (fold with_writes empty) (take_more_set xs i y h) ∙ fold-append with_writes empty (take i xs) (y ∷ [])
+
+-- the first pass changes no claim
+pub well_reads : (xs : List Claimed) → AreWellFormed xs → AreWellFormed (settle_reads xs)
+unfolding settle_reads
+well_reads xs well =
+    same_claims_well_formed xs (map (λ x. with_status x (read_status (written_by_active xs) x)) xs) well
+    (zip_map_right (λ x. with_status x (read_status (written_by_active xs) x)) (λ x y. y ≡ x) SameClaim (λ x y e. ap (λ z. z.claim) e) xs xs (zip_same (λ x y. y ≡ x) (λ x. refl) xs))
