@@ -1,5 +1,5 @@
 -- How a command ended, from how its parts ended.
-use Rattle.std.proofs.Common.{◌≡◌, ℕ, ◌+◌, ◌≤◌, List, [], length, Option, Some, None, refl, sym, ap, subst, ◌∙◌, arith, ◌⊎◌, inl, inr}
+use Rattle.std.proofs.Common.{◌≡◌, ℕ, ◌+◌, ◌≤◌, List, [], ◌∷◌, ◌++◌, map, append_assoc, length, Option, Some, None, refl, sym, ap, subst, ◌∙◌, arith, ◌⊎◌, inl, inr}
 use Rattle.std.proofs.lemmas.List.{drop_all}
 use Rattle.std.proofs.lemmas.Bool.{true≢false}
 use Rattle.std.specs.Prelude.{IfSome, is_none}
@@ -8,7 +8,13 @@ use Rattle.csv.specs.declared.parser.State.TheVariants as st
 use Rattle.io_ends.specs.Ends.{Took, TookAtMost}
 use Rattle.rnlp_cli.specs.Records.{Row, AreRowsOf}
 use Rattle.rnlp_cli.specs.Faults.{first_fault}
-use Rattle.rnlp_cli.specs.Tool.{IsOutput, IsAnswer, IsRefused}
+use Rattle.std.proofs.lemmas.Grind.{flat_map-append}
+use Rattle.rnlp_cli.specs.Text.{line, lines_of}
+use Rattle.rnlp_cli.specs.Events.{opening_of}
+use Rattle.rnlp_cli.specs.Lists.{Listed, IsEventList, head_rows, end_row}
+use Rattle.rnlp_cli.specs.Report.{cap_row, ledger_row, history_rows, report_text, report_around, Keeps}
+use Rattle.rnlp_cli.specs.declared.list.EventList.{EventList}
+use Rattle.rnlp_cli.specs.Tool.{IsOutput, IsWritten, IsAnswer, IsRefused}
 use Rattle.rnlp_cli.specs.declared.list.Fault.{Fault}
 use Rattle.rnlp_cli.specs.declared.words.Command.{Command}
 use Rattle.rnlp_cli.specs.declared.words.Command.TheVariants.{Replay}
@@ -23,6 +29,41 @@ no_output bytes fault (rows, are, first) text (list, spelled, is) =
     let same : rows ≡ spelled.0 = rows_unique default_config st.StartRecord (strip_bom bytes) rows spelled.0 are spelled.1 in
     let none : first_fault rows ≡ None = ap first_fault same ∙ no_fault spelled.0 list spelled.2 in
     true≢false (ap is_none (sym none ∙ first))
+
+-- the report of a list, from its parts
+around_is : (kept : EventList) (list : Listed) → Keeps kept list → report_around kept.resources kept.tasks kept.history.items ≡ report_text list
+around_is kept list keeps =
+    (λ i. report_around (keeps.resources i) (keeps.tasks i) (keeps.history i))
+    ∙ ap (λ xs. lines_of (head ++ cap ∷ []) ++ xs) (sym (flat_map-append line history (ledgers ++ end_row ∷ [])))
+    ∙ sym (flat_map-append line (head ++ cap ∷ []) (history ++ (ledgers ++ end_row ∷ [])))
+    ∙ ap lines_of (append_assoc head (cap ∷ []) (history ++ (ledgers ++ end_row ∷ [])))
+  where
+    head : List Row
+    head = head_rows list.resources list.tasks
+
+    cap : Row
+    cap = cap_row (length list.tasks)
+
+    history : List Row
+    history = history_rows list.resources list.tasks (opening_of list.resources list.tasks) list.events
+
+    ledgers : List Row
+    ledgers = map (λ name. ledger_row name 0 0) list.resources
+
+-- the report of what was kept of the list that the bytes spell
+pub reported : (bytes : List ℕ) (kept : EventList) (before after : Option (List ℕ)) (failed same : Type 0) (s : ToolStatus)
+    → (list : Listed) × (rows : List Row) × AreRowsOf bytes rows × IsEventList rows list × Keeps kept list
+    → IsWritten (report_around kept.resources kept.tasks kept.history.items) before after failed same s → IsAnswer (Some Replay) bytes before after failed same s
+reported bytes kept before after failed same status.Done (list, rows, are, spelled, keeps) h =
+    (report_around kept.resources kept.tasks kept.history.items, (list, (rows, are, spelled), around_is kept list keeps), h)
+reported bytes kept before after failed same status.WriteFault (list, rows, are, spelled, keeps) h =
+    (h.0, report_around kept.resources kept.tasks kept.history.items, (list, (rows, are, spelled), around_is kept list keeps), h.1)
+reported bytes kept before after failed same status.NoMemory found h = h
+reported bytes kept before after failed same status.Trace found h = absurd h
+reported bytes kept before after failed same status.Words found h = absurd h
+reported bytes kept before after failed same status.ReadFault found h = absurd h
+reported bytes kept before after failed same status.Script found h = absurd h
+reported bytes kept before after failed same status.TooLong found h = absurd h
 
 pub refused : (bytes : List ℕ) (fault : Fault) (before after : Option (List ℕ)) (failed same : Type 0) (s : ToolStatus) → IsRefused fault before after failed same s
     → (rows : List Row) × AreRowsOf bytes rows × (first_fault rows ≡ Some fault) → IsAnswer (Some Replay) bytes before after failed same s

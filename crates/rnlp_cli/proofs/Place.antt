@@ -13,8 +13,9 @@ use Rattle.csv.specs.declared.reader.Trim.TheVariants as trim
 use Rattle.csv.proofs.ReadFacts.{rows-more, rows-end}
 use Rattle.rnlp_cli.specs.Records.{Row, AreRowsOf}
 use Rattle.rnlp_cli.specs.Faults.{first_fault, fault_from, code_of, told_first, has_word, is_end, resources_in, tasks_in, state_after}
-use Rattle.rnlp_cli.specs.Lists.{Listed, listed, IsEventList}
-use Rattle.rnlp_cli.specs.Reading.{HasRead, IsReady, error_at}
+use Rattle.rnlp_cli.specs.Lists.{Listed, IsEventList}
+use Rattle.rnlp_cli.specs.Report.{Keeps}
+use Rattle.rnlp_cli.specs.Reading.{HasRead, list_in, IsReady, error_at}
 use Rattle.rnlp_cli.specs.declared.list.EventList.{EventList}
 use Rattle.rnlp_cli.specs.declared.reading.RowErr.{RowErr}
 use Rattle.rnlp_cli.specs.declared.reading.RowErr.TheVariants as row
@@ -122,30 +123,30 @@ ready before reading h few =
       stamps = subst (λ n. n < 2 ^ 63) (ap (λ s. s.issued) (sym h.state)) stamps;
     }
 
--- what was read, as a list
-abbrev pub read_so_far : Reading → Listed
-read_so_far reading = record { resources = reading.resources; tasks = reading.tasks; events = reading.events.items }
-
--- records that end with `end` are those of the list that was read
+-- records that end with `end` are those of the list that they declare and spell
 pub whole : (bytes : List ℕ) (reader : Reader (Bor (List ℕ))) (was : Reading) (line : ℕ) (before : List Row) (left : List ℕ)
-    → IsAt bytes reader was line before left → length before < 2 ^ 62 → has_word is_end before ≡ true → IsEventList before (read_so_far was)
+    → IsAt bytes reader was line before left → length before < 2 ^ 62 → has_word is_end before ≡ true → IsEventList before (list_in before)
 unfolding fault_from
 whole bytes reader was line before left h few ended =
     let none : first_fault before ≡ None =
     ap first_fault (sym (append-nil before)) ∙ h.free [] ∙ ap (λ b. cond b None (Some (record { line = length before + 1; code = NoEnd }))) ended in
     let list = spells before (omega arith) none in
     let said = spelled_list before list.0 list.1 in
-    let resources : list.0.resources ≡ was.resources = sym (h.reads.resources ∙ said.0) in
-    let tasks : list.0.tasks ≡ was.tasks = sym (h.reads.tasks ∙ said.1) in
-    let events : list.0.events ≡ was.events.items = sym (h.reads.events ∙ (λ i. events_in (said.0 i) (said.1 i) before) ∙ said.2) in
-    subst (IsEventList before) (λ i. record { resources = resources i; tasks = tasks i; events = events i }) list.1
+    let events : list.0.events ≡ events_in (resources_in before) (tasks_in before) before = sym ((λ i. events_in (said.0 i) (said.1 i) before) ∙ said.2) in
+    subst (IsEventList before) (λ i. record { resources = sym said.0 i; tasks = sym said.1 i; events = events i }) list.1
 
 -- what `read_list` says at `Ok`, from what the reader's end says there
 pub list_ok : (r : Result EventList ListErr) (bytes : List ℕ) (reading : Reading) (before : List Row) → AreRowsOf bytes before → HasRead before reading
-    → (has_word is_end before ≡ true → IsEventList before (read_so_far reading))
-    → IfOk r (λ list. (reading.ended ≡ true) × (listed list ≡ read_so_far reading))
-    → IfOk r (λ list. (rows : List Row) × AreRowsOf bytes rows × IsEventList rows (listed list))
-list_ok (Ok list) bytes reading before rows read spelled h = (before, rows, subst (IsEventList before) (sym h.1) (spelled (sym read.ended ∙ h.0)))
+    → (has_word is_end before ≡ true → IsEventList before (list_in before))
+    → IfOk r (λ kept. (reading.ended ≡ true) × (kept.resources ≡ reading.resources) × (kept.tasks ≡ reading.tasks) × (kept.history.items ≡ reading.history.items))
+    → IfOk r (λ kept. (list : Listed) × (rows : List Row) × AreRowsOf bytes rows × IsEventList rows list × Keeps kept list)
+list_ok (Ok kept) bytes reading before rows read spelled h = (
+  list_in before,
+  before,
+  rows,
+  spelled (sym read.ended ∙ h.0),
+  record { resources = h.1 ∙ read.resources; tasks = h.2 ∙ read.tasks; history = h.3 ∙ read.history },
+)
 list_ok (Err e) bytes reading before rows read spelled h = tt
 
 pub err_is : {T E : Type 0} {x y : E} → ◌≡◌ {A = Result T E} (Err x) (Err y) → x ≡ y

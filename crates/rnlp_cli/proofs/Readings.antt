@@ -1,15 +1,19 @@
 -- What a reader knows after one record more.
-use Rattle.std.proofs.Common.{◌≡◌, ℕ, Bool, true, false, not, ◌||◌, cond, List, [], ◌∷◌, ◌++◌, Option, Some, None, refl, sym, ap, subst, ◌∙◌, true≢false}
+use Rattle.std.proofs.Common.{append_assoc, ◌≡◌, ℕ, Bool, true, false, not, ◌||◌, cond, List, [], ◌∷◌, ◌++◌, Option, Some, None, refl, sym, ap, subst, ◌∙◌, true≢false}
 use Rattle.std.proofs.lemmas.List.{append-nil}
 use Rattle.std.specs.Prelude.{is_some}
 use Rattle.std.specs.List.{cons_option}
 use Rattle.rclaim.specs.declared.event.Event.{Event}
 use Rattle.rmodel.specs.Machine.{Standing}
+use Rattle.rmodel.specs.State.{LockState}
 use Rattle.rmodel.specs.Steps.{after, next}
+use Rattle.std.proofs.lemmas.Grind.{flat_map-append}
+use Rattle.rnlp_cli.specs.Text.{line, lines_of}
+use Rattle.rnlp_cli.specs.Report.{history_rows, history_text, step_rows}
 use Rattle.rnlp_cli.specs.Records.{Row, word_of, second_of}
 use Rattle.rnlp_cli.specs.Events.{event_in, events_in, opening_of}
 use Rattle.rnlp_cli.specs.Faults.{names_in, resources_in, tasks_in, has_word, is_nil, is_resource, is_task, is_event, is_end, is_bad_name, is_bad_field, is_bad_order}
-use Rattle.rnlp_cli.specs.Reading.{HasRead, StepsBy, Notes, IsBadNote, standing}
+use Rattle.rnlp_cli.specs.Reading.{HasRead, StepsBy, Notes, IsBadNote, standing, state_of}
 use Rattle.rnlp_cli.specs.declared.reading.Reading.{Reading}
 use Rattle.rnlp_cli.specs.declared.record.Word.{Word}
 use Rattle.rnlp_cli.specs.declared.record.Word.TheVariants.{Version, Resource, Task, Issue, Finish, End, Unknown}
@@ -83,6 +87,29 @@ begun_more before row = sym (ap not (some_behind before row))
 state-at : (rs rs' ts ts' : List (List ℕ)) (es es' : List Event) → rs ≡ rs' → ts ≡ ts' → es ≡ es' → after (opening_of rs ts) es ≡ after (opening_of rs' ts') es'
 state-at rs rs' ts ts' es es' p q r = λ i. after (opening_of (p i) (q i)) (r i)
 
+-- the text of the history of other names and events
+same_history : (rs rs' ts ts' : List (List ℕ)) (es es' : List Event) → rs ≡ rs' → ts ≡ ts' → es ≡ es'
+    → history_text (record { resources = rs; tasks = ts; events = es }) ≡ history_text (record { resources = rs'; tasks = ts'; events = es' })
+same_history rs rs' ts ts' es es' p q r = λ i. history_text (record { resources = p i; tasks = q i; events = r i })
+
+empty_history : (rs ts : List (List ℕ)) (es : List Event) → es ≡ [] → history_text (record { resources = rs; tasks = ts; events = es }) ≡ []
+unfolding history_rows
+empty_history rs ts es none = ap (λ xs. history_text (record { resources = rs; tasks = ts; events = xs })) none
+
+-- the history of one event more
+history-push : (rs ts : List (List ℕ)) (s : LockState) (es : List Event) (e : Event) → history_rows rs ts s (es ++ e ∷ []) ≡ history_rows rs ts s es ++ step_rows rs ts (after s es) e
+unfolding history_rows
+history-push rs ts s [] e = append-nil (step_rows rs ts s e)
+history-push rs ts s (x ∷ es) e = ap (λ xs. step_rows rs ts s x ++ xs) (history-push rs ts (next s x) es e) ∙ sym (append_assoc (step_rows rs ts s x) (history_rows rs ts (next s x) es) (step_rows rs ts (after (next s x) es) e))
+
+history_more : (rs ts : List (List ℕ)) (es : List Event) (old : Reading) (e : Event) → old.resources ≡ rs → old.tasks ≡ ts → state_of old ≡ after (opening_of rs ts) es
+    → old.history.items ≡ history_text (record { resources = rs; tasks = ts; events = es })
+    → old.history.items ++ lines_of (step_rows old.resources old.tasks (state_of old) e) ≡ history_text (record { resources = rs; tasks = ts; events = es ++ e ∷ [] })
+history_more rs ts es old e p q r h =
+    (λ i. h i ++ lines_of (step_rows (p i) (q i) (r i) e))
+    ∙ sym (flat_map-append line (history_rows rs ts (opening_of rs ts) es) (step_rows rs ts (after (opening_of rs ts) es) e))
+    ∙ ap lines_of (sym (history-push rs ts (opening_of rs ts) es e))
+
 -- after a record that declares nothing and spells nothing
 read_quiet : (before : List Row) (row : Row) (old : Reading) (ended : Bool) → HasRead before old → is_resource (word_of row) ≡ false → is_task (word_of row) ≡ false → is_event (word_of row) ≡ false
     → ended ≡ (old.ended || is_end (word_of row)) → HasRead (before ++ row ∷ []) (record old { begun = true; ended = ended })
@@ -95,7 +122,7 @@ read_quiet before row old ended h no_resource no_task none is =
       begun = begun_more before row;
       resources = h.resources ∙ sym rs;
       tasks = h.tasks ∙ sym ts;
-      events = h.events ∙ sym es;
+      history = h.history ∙ same_history _ _ _ _ _ _ (sym rs) (sym ts) (sym es);
       stepped = h.stepped ∙ sym (same_word is_event before row none);
       state = h.state ∙ sym (state-at _ _ _ _ _ _ rs ts es);
       ended = is ∙ ap (λ b. b || is_end (word_of row)) h.ended ∙ sym (word-push is_end before row);
@@ -115,7 +142,7 @@ read_name before row old rs ts h none not_last early p q =
       begun = begun_more before row;
       resources = p;
       tasks = q;
-      events = h.events ∙ no_events (resources_in before) (tasks_in before) before early ∙ sym nothing;
+      history = h.history ∙ empty_history (resources_in before) (tasks_in before) _ (no_events (resources_in before) (tasks_in before) before early) ∙ sym (empty_history _ _ _ nothing);
       stepped = h.stepped ∙ early ∙ sym still;
       state = no_machine rs ts old.machine (h.stepped ∙ early) ∙ state-at rs _ ts _ [] _ p q (sym nothing);
       ended = h.ended ∙ sym (same_word is_end before row not_last);
@@ -138,7 +165,8 @@ read_event before row old new e h is spelled some steps =
       begun = steps.begun ∙ h.begun ∙ ap not (some_before before some) ∙ begun_more before row;
       resources = steps.resources ∙ h.resources ∙ sym rs;
       tasks = steps.tasks ∙ h.tasks ∙ sym ts;
-      events = steps.events ∙ ap (λ xs. xs ++ e ∷ []) h.events ∙ sym es;
+      history = steps.history ∙ history_more (resources_in before) (tasks_in before) (events_in (resources_in before) (tasks_in before) before) old e h.resources h.tasks h.state h.history
+          ∙ same_history _ _ _ _ _ _ (sym rs) (sym ts) (sym es);
       stepped = steps.stepped ∙ sym (word-push is_event before row ∙ ap (λ b. has_word is_event before || b) is ∙ or-true (has_word is_event before));
       state = steps.state ∙ ap (λ s. next s e) h.state ∙ sym (after-push (opening_of (resources_in before) (tasks_in before)) (events_in (resources_in before) (tasks_in before) before) e)
           ∙ sym (state-at _ _ _ _ _ _ rs ts es);

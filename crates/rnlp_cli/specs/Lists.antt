@@ -7,17 +7,12 @@ use Rattle.rmodel.specs.Steps.{AreAccepted}
 use Rattle.rnlp_cli.specs.Records.{Row}
 use Rattle.rnlp_cli.specs.Events.{event_in, opening_of}
 use Rattle.rnlp_cli.specs.Faults.{is_nil}
-use Rattle.rnlp_cli.specs.declared.list.EventList.{EventList}
 
 -- an event list: its resources and tasks, numbered in order, and its events
 pub record Listed : Type 0 where
   pub resources : List (List ℕ)
   pub tasks : List (List ℕ)
   pub events : List Event
-
--- what an event list says, as the reader keeps it
-abbrev pub listed : EventList → Listed
-listed list = record { resources = list.resources; tasks = list.tasks; events = list.events.items }
 
 abbrev pub version_row : Row
 version_row = codes "rnlp" ∷ codes "1" ∷ []

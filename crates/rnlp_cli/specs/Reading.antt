@@ -8,6 +8,9 @@ use Rattle.rclaim.specs.declared.event.Event.{Event}
 use Rattle.rnlp_cli.specs.Records.{Row}
 use Rattle.rnlp_cli.specs.Faults.{resources_in, tasks_in, has_word, is_event, is_end, is_nil, is_bad_name, state_after, code_of}
 use Rattle.rnlp_cli.specs.Events.{events_in, opening_of}
+use Rattle.rnlp_cli.specs.Lists.{Listed}
+use Rattle.rnlp_cli.specs.Text.{lines_of}
+use Rattle.rnlp_cli.specs.Report.{history_text, step_rows}
 use Rattle.rnlp_cli.specs.declared.list.Code.{Code}
 use Rattle.rnlp_cli.specs.declared.list.Refusal.TheVariants.{Step}
 use Rattle.rnlp_cli.specs.declared.record.Word.{Word}
@@ -26,12 +29,16 @@ standing resources tasks (Some machine) = machine.state
 abbrev pub state_of : Reading → LockState
 state_of reading = standing reading.resources reading.tasks reading.machine
 
--- the reader knows what these records declare and which events they spell, and stands where those lead to
+-- what these records declare and spell, as a list
+abbrev pub list_in : List Row → Listed
+list_in before = record { resources = resources_in before; tasks = tasks_in before; events = events_in (resources_in before) (tasks_in before) before }
+
+-- the reader knows what these records declare, has the text of the history that they spell, and stands where it leads to
 pub record HasRead (before : List Row) (reading : Reading) : Type 0 where
   pub begun : reading.begun ≡ not (is_nil before)
   pub resources : reading.resources ≡ resources_in before
   pub tasks : reading.tasks ≡ tasks_in before
-  pub events : reading.events.items ≡ events_in (resources_in before) (tasks_in before) before
+  pub history : reading.history.items ≡ history_text (list_in before)
   pub stepped : is_some reading.machine ≡ has_word is_event before
   pub state : state_of reading ≡ state_after before
   pub ended : reading.ended ≡ has_word is_end before
@@ -75,12 +82,12 @@ IsBadNote old (Issue kind) name = ⊥
 IsBadNote old Finish name = ⊥
 IsBadNote old Unknown name = ⊤
 
--- an accepted event was added, and the machine stands where it leads to
+-- the records of an accepted event were added, and the machine stands where it leads to
 pub record StepsBy (old new : Reading) (e : Event) : Type 0 where
   pub accepted : refusal (state_of old) e ≡ None
   pub stepped : is_some new.machine ≡ true
   pub state : state_of new ≡ next (state_of old) e
-  pub events : new.events.items ≡ old.events.items ++ e ∷ []
+  pub history : new.history.items ≡ old.history.items ++ lines_of (step_rows old.resources old.tasks (state_of old) e)
   pub begun : new.begun ≡ old.begun
   pub resources : new.resources ≡ old.resources
   pub tasks : new.tasks ≡ old.tasks

@@ -1,5 +1,5 @@
 -- The report of an event list, as records.
-use Rattle.std.specs.Prelude.{ℕ, Bool, List, [], ◌∷◌, ◌++◌, length, map, slice_index_or, codes, decimal, if◌then◌else◌}
+use Rattle.std.specs.Prelude.{◌≡◌, ℕ, Bool, List, [], ◌∷◌, ◌++◌, length, map, slice_index_or, codes, decimal, if◌then◌else◌}
 use Rattle.std.specs.List.{join_with_byte}
 use Rattle.std.specs.FinSet.{union}
 use Rattle.rset.specs.Sets.{Set, rising}
@@ -20,6 +20,7 @@ use Rattle.rnlp_cli.specs.Records.{Row}
 use Rattle.rnlp_cli.specs.Events.{opening_of}
 use Rattle.rnlp_cli.specs.Lists.{Listed, head_rows, end_row}
 use Rattle.rnlp_cli.specs.Text.{lines_of}
+use Rattle.rnlp_cli.specs.declared.list.EventList.{EventList}
 
 -- the name with a number
 abbrev pub name_at : List (List ℕ) → ℕ → List ℕ
@@ -63,11 +64,18 @@ grant_row resources tasks change = codes "grant" ∷ name_at tasks change.seat �
 abbrev pub change_rows : List (List ℕ) → List (List ℕ) → ChangeLists → List Row
 change_rows resources tasks changes = map (now_row tasks) changes.statuses ++ map (grant_row resources tasks) changes.grants
 
+-- the record of an event, and those of what it changes in a state
+abbrev pub step_rows : List (List ℕ) → List (List ℕ) → LockState → Event → List Row
+step_rows resources tasks s e = event_row resources tasks e ∷ change_rows resources tasks (changes_between s (next s e))
+
 -- the records of events and of what each changes, from a state on
 unfoldable pub history_rows : List (List ℕ) → List (List ℕ) → LockState → List Event → List Row
 history_rows resources tasks s [] = []
-history_rows resources tasks s (e ∷ events) =
-    (event_row resources tasks e ∷ change_rows resources tasks (changes_between s (next s e))) ++ history_rows resources tasks (next s e) events
+history_rows resources tasks s (e ∷ events) = step_rows resources tasks s e ++ history_rows resources tasks (next s e) events
+
+-- the text of the history of a list
+abbrev pub history_text : Listed → List ℕ
+history_text list = lines_of (history_rows list.resources list.tasks (opening_of list.resources list.tasks) list.events)
 
 -- how many requests may be incomplete at once
 abbrev pub cap_row : ℕ → Row
@@ -87,3 +95,14 @@ report_rows list =
 -- the one spelling of the report
 abbrev pub report_text : Listed → List ℕ
 report_text list = lines_of (report_rows list)
+
+-- the report of these resources and tasks round the text of a history
+abbrev pub report_around : List (List ℕ) → List (List ℕ) → List ℕ → List ℕ
+report_around resources tasks history =
+    lines_of (head_rows resources tasks ++ cap_row (length tasks) ∷ []) ++ (history ++ lines_of (map (λ name. ledger_row name 0 0) resources ++ end_row ∷ []))
+
+-- the reader has kept this of a list
+pub record Keeps (kept : EventList) (list : Listed) : Type 0 where
+  pub resources : kept.resources ≡ list.resources
+  pub tasks : kept.tasks ≡ list.tasks
+  pub history : kept.history.items ≡ history_text list

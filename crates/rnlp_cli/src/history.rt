@@ -1,48 +1,48 @@
 // The records of a history: its events, and what each of them changes.
-ghost use Rattle.std.specs.Prelude.{◌≡◌, ◌<◌, ◌++◌, ◌∷◌, [], length, map, OnOk, decimal};
+ghost use Rattle.std.specs.Prelude.{◌≡◌, ◌++◌, ◌∷◌, map, OnOk, decimal};
 ghost use Rattle.rclaim.specs.Requests.{asked_set};
-ghost use Rattle.rmodel.specs.Steps.{AreAccepted};
-ghost use Rattle.rnlp_cli.specs.Events.{opening_of};
 ghost use Rattle.rnlp_cli.specs.Text.{line, lines_of, behind_comma};
-ghost use Rattle.rnlp_cli.specs.Report.{name_at, event_row, now_row, grant_row, change_rows, history_rows, set_text, kind_text, status_text};
+ghost use Rattle.rnlp_cli.specs.Report.{name_at, event_row, now_row, grant_row, change_rows, set_text, kind_text, status_text};
 
-use crate::list::EventList;
 use crate::text::{push_field, push_number};
 use rclaim::{Changes, Event, GrantChange, Kind, Request, Status, StatusChange};
-use rmodel::Plain;
 use rset::{NameTable, ResourceSet};
-use std::alloc::{AllocError, Global};
+use std::alloc::AllocError;
 
-/// Appends the records of the events of a list, and of what each changes.
-pub fn push_history(alloc: Global, text: &mut Vec<u8>, list: &EventList) -> Result<(), AllocError>
-    requires names { (0 < length list.now.resources) × (0 < length list.now.tasks) }
-    requires accepted { AreAccepted (opening_of list.now.resources list.now.tasks) list.now.events.items }
+/// Appends the record of an event, and those of what it changes.
+pub fn push_step(
+    text: &mut Vec<u8>,
+    resources: &NameTable,
+    tasks: &NameTable,
+    event: &Event,
+    changes: &Changes,
+) -> Result<(), AllocError>
     ensures { OnOk result (text.new.items ≡ text.old.items
-        ++ lines_of (history_rows list.now.resources list.now.tasks (opening_of list.now.resources list.now.tasks) list.now.events.items)) }
+        ++ lines_of (event_row resources.now tasks.now event.now ∷ change_rows resources.now tasks.now changes.now)) }
 {
-    let tasks = list.tasks.len();
-    let mut machine = Plain::new(alloc, list.resources.len(), tasks, tasks)?;
-    for event in &list.events {
-        push_event(text, list, event)?;
-        let _ = machine.step(*event);
-        push_changes(text, list, machine.changes())?;
-    }
-    Ok(())
+    push_event(text, resources, tasks, event)?;
+    push_statuses(text, tasks, &changes.statuses)?;
+    push_grants(text, resources, tasks, &changes.grants)
 }
 
 // Appends the record of an event.
-fn push_event(text: &mut Vec<u8>, list: &EventList, event: &Event) -> Result<(), AllocError>
-    ensures { OnOk result (text.new.items ≡ text.old.items ++ line (event_row list.now.resources list.now.tasks event.now)) }
+fn push_event(
+    text: &mut Vec<u8>,
+    resources: &NameTable,
+    tasks: &NameTable,
+    event: &Event,
+) -> Result<(), AllocError>
+    ensures { OnOk result (text.new.items ≡ text.old.items ++ line (event_row resources.now tasks.now event.now)) }
 {
     match event {
         Event::Issue { seat, request } => {
             text.extend_from_slice(b"issue")?;
-            push_field(text, name_at(&list.tasks, *seat))?;
-            push_request(text, &list.resources, request)?;
+            push_field(text, name_at(tasks, *seat))?;
+            push_request(text, resources, request)?;
         }
         Event::Finish { seat } => {
             text.extend_from_slice(b"finish")?;
-            push_field(text, name_at(&list.tasks, *seat))?;
+            push_field(text, name_at(tasks, *seat))?;
         }
     }
     text.push(b'\n')?;
@@ -104,14 +104,6 @@ fn push_set(text: &mut Vec<u8>, resources: &NameTable, set: ResourceSet) -> Resu
     Ok(())
 }
 
-// Appends the records of the changes of a step.
-fn push_changes(text: &mut Vec<u8>, list: &EventList, changes: &Changes) -> Result<(), AllocError>
-    ensures { OnOk result (text.new.items ≡ text.old.items ++ lines_of (change_rows list.now.resources list.now.tasks changes.now)) }
-{
-    push_statuses(text, &list.tasks, &changes.statuses)?;
-    push_grants(text, list, &changes.grants)
-}
-
 // Appends the records of new statuses.
 fn push_statuses(
     text: &mut Vec<u8>,
@@ -129,13 +121,14 @@ fn push_statuses(
 // Appends the records of grants.
 fn push_grants(
     text: &mut Vec<u8>,
-    list: &EventList,
+    resources: &NameTable,
+    tasks: &NameTable,
     changes: &[GrantChange],
 ) -> Result<(), AllocError>
-    ensures { OnOk result (text.new.items ≡ text.old.items ++ lines_of (map (grant_row list.now.resources list.now.tasks) changes.now)) }
+    ensures { OnOk result (text.new.items ≡ text.old.items ++ lines_of (map (grant_row resources.now tasks.now) changes.now)) }
 {
     for change in changes {
-        push_grant(text, list, change)?;
+        push_grant(text, resources, tasks, change)?;
     }
     Ok(())
 }
@@ -167,12 +160,17 @@ fn status_word(status: Status) -> &'static [u8]
 }
 
 // Appends the record of what a request holds now.
-fn push_grant(text: &mut Vec<u8>, list: &EventList, change: &GrantChange) -> Result<(), AllocError>
-    ensures { OnOk result (text.new.items ≡ text.old.items ++ line (grant_row list.now.resources list.now.tasks change.now)) }
+fn push_grant(
+    text: &mut Vec<u8>,
+    resources: &NameTable,
+    tasks: &NameTable,
+    change: &GrantChange,
+) -> Result<(), AllocError>
+    ensures { OnOk result (text.new.items ≡ text.old.items ++ line (grant_row resources.now tasks.now change.now)) }
 {
     text.extend_from_slice(b"grant")?;
-    push_field(text, name_at(&list.tasks, change.seat))?;
-    push_set(text, &list.resources, change.reads.union(change.writes))?;
+    push_field(text, name_at(tasks, change.seat))?;
+    push_set(text, resources, change.reads.union(change.writes))?;
     text.push(b'\n')?;
     Ok(())
 }

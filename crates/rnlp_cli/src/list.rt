@@ -1,17 +1,17 @@
 // An event list, and what is wrong with a text that is none.
-use rclaim::{Event, RequestErr};
+use rclaim::RequestErr;
 use rmodel::Refused;
 use rset::NameTable;
 
-/// What an event list says.
+/// What is kept of an event list.
 #[derive(Drop)]
 pub struct EventList {
     /// The resources, numbered in the order of the list.
     pub resources: NameTable,
     /// The tasks, numbered likewise.
     pub tasks: NameTable,
-    /// The events, in order.
-    pub events: Vec<Event>,
+    /// The text of its history: the record of each event, in order, and of what it changes.
+    pub history: Vec<u8>,
 }
 
 /// Why an event is refused.

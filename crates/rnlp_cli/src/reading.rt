@@ -3,17 +3,21 @@ ghost use Rattle.std.specs.Prelude.{◌≡◌, ◌<◌, ◌≤◌, ◌++◌, ◌
 ghost use Rattle.csv.specs.Records.{fields_of};
 ghost use Rattle.rclaim.specs.Requests.{normalised};
 ghost use Rattle.rmodel.specs.Steps.{Fits, refusal, next};
+ghost use Rattle.rmodel.specs.Changes.{changes_between};
 ghost use Rattle.rnlp_cli.specs.Records.{Row, AreRowsOf, word_of};
 ghost use Rattle.rnlp_cli.specs.Events.{request_refusal};
 ghost use Rattle.rnlp_cli.specs.Faults.{first_fault, is_bad_order, is_bad_name, is_event};
-ghost use Rattle.rnlp_cli.specs.Lists.{IsEventList, listed};
+ghost use Rattle.rnlp_cli.specs.Lists.{Listed, IsEventList};
+ghost use Rattle.rnlp_cli.specs.Report.{Keeps, event_row, change_rows};
+ghost use Rattle.rnlp_cli.specs.Text.{lines_of};
 ghost use Rattle.rnlp_cli.specs.Reading.{HasRead, IsReady, Takes, Refuses, Notes, IsBadNote, StepsBy, state_of, step_code, error_at};
 
 use crate::fields::{length_of, set_of};
+use crate::history::push_step;
 use crate::list::{Code, EventList, Fault, Refusal};
 use crate::record::{Word, field_of, word_of};
 use csv::{ByteRecord, ReaderBuilder};
-use rclaim::{Event, Kind, LENGTH_LIMIT, Request, RequestErr};
+use rclaim::{Changes, Event, Kind, LENGTH_LIMIT, Request, RequestErr};
 use rmodel::{Plain, Refused, admit};
 use rset::{NameErr, NameTable, ResourceSet};
 use std::alloc::{AllocError, Global};
@@ -32,7 +36,7 @@ pub enum ListErr {
 
 /// Reads the records of a text as an event list.
 pub fn read_list(alloc: Global, bytes: &[u8]) -> Result<EventList, ListErr>
-    ensures list { IfOk result (λ list. (rows : List Row) × AreRowsOf bytes.now rows × IsEventList rows (listed list)) }
+    ensures list { IfOk result (λ kept. (list : Listed) × (rows : List Row) × AreRowsOf bytes.now rows × IsEventList rows list × Keeps kept list) }
     ensures fault { (fault : Fault) → result ≡ Err (ListErr.Bad fault) → (rows : List Row) × AreRowsOf bytes.now rows × (first_fault rows ≡ Some fault) }
 {
     let mut reader = ReaderBuilder::new()
@@ -73,7 +77,7 @@ impl RowErr {
     }
 }
 
-// What the records so far have declared, and the events that they spell.
+// What the records so far have declared, and the text of the history that they spell.
 #[derive(Drop)]
 struct Reading {
     begun: bool,
@@ -81,7 +85,7 @@ struct Reading {
     tasks: NameTable,
     // Made at the first event.
     machine: Option<Plain>,
-    events: Vec<Event>,
+    history: Vec<u8>,
     ended: bool,
 }
 
@@ -94,7 +98,7 @@ impl Reading {
             resources: NameTable::new(alloc),
             tasks: NameTable::new(alloc),
             machine: None,
-            events: Vec::new(alloc),
+            history: Vec::new(alloc),
             ended: false,
         }
     }
@@ -216,7 +220,13 @@ impl Reading {
             return Err(RowErr::Memory);
         };
         match apply(machine, event) {
-            Ok(()) => keep(&mut self.events, event),
+            Ok(()) => keep(
+                &mut self.history,
+                &self.resources,
+                &self.tasks,
+                event,
+                machine.changes(),
+            ),
             Err(cause) => Err(RowErr::Bad(Code::Refused(Refusal::Step(cause)))),
         }
     }
@@ -236,7 +246,7 @@ impl Reading {
 
     // The list, where the records had their end.
     fn finish(self, line: u64) -> Result<EventList, ListErr>
-        ensures list { IfOk result (λ list. (self.ended ≡ true) × (listed list ≡ record { resources = self.resources; tasks = self.tasks; events = self.events.items })) }
+        ensures list { IfOk result (λ list. (self.ended ≡ true) × (list.resources ≡ self.resources) × (list.tasks ≡ self.tasks) × (list.history.items ≡ self.history.items)) }
         ensures no_end { (fault : Fault) → result ≡ Err (ListErr.Bad fault) → (self.ended ≡ false) × (fault ≡ record { line = line; code = Code.NoEnd }) }
     {
         let Reading {
@@ -244,14 +254,14 @@ impl Reading {
             resources,
             tasks,
             machine: _,
-            events,
+            history,
             ended,
         } = self;
         if ended {
             Ok(EventList {
                 resources,
                 tasks,
-                events,
+                history,
             })
         } else {
             Err(ListErr::Bad(Fault {
@@ -276,18 +286,26 @@ fn request_of(kind: Kind, set: ResourceSet, len: u32) -> Result<Request, Request
 // One step of the machine.
 fn apply(machine: &mut Plain, event: &Event) -> Result<(), Refused>
     requires { Fits machine.old.state event.now }
-    ensures stepped { OnOk result ((refusal machine.old.state event.now ≡ None) × (machine.new.state ≡ next machine.old.state event.now)) }
+    ensures stepped { OnOk result ((refusal machine.old.state event.now ≡ None) × (machine.new.state ≡ next machine.old.state event.now)
+        × (machine.new.last ≡ changes_between machine.old.state (next machine.old.state event.now))) }
     ensures refused { IfErr result (λ cause. refusal machine.old.state event.now ≡ Some cause) }
 {
     machine.step(*event)
 }
 
-// Puts an event behind the others.
-fn keep(events: &mut Vec<Event>, event: &Event) -> Result<(), RowErr>
-    ensures kept { OnOk result (events.new.items ≡ events.old.items ++ event.now ∷ []) }
+// Keeps the records of an event and of what it changes.
+fn keep(
+    history: &mut Vec<u8>,
+    resources: &NameTable,
+    tasks: &NameTable,
+    event: &Event,
+    changes: &Changes,
+) -> Result<(), RowErr>
+    ensures kept { OnOk result (history.new.items ≡ history.old.items
+        ++ lines_of (event_row resources.now tasks.now event.now ∷ change_rows resources.now tasks.now changes.now)) }
     ensures memory { IfErr result (λ e. e ≡ RowErr.Memory) }
 {
-    match events.push(*event) {
+    match push_step(history, resources, tasks, event, changes) {
         Ok(()) => Ok(()),
         Err(_) => Err(RowErr::Memory),
     }

@@ -1,12 +1,8 @@
 // The report of an event list.
-ghost use Rattle.std.specs.Prelude.{◌≡◌, ◌<◌, ◌++◌, ◌∷◌, [], length, map, IfOk, OnOk};
+ghost use Rattle.std.specs.Prelude.{◌≡◌, ◌++◌, ◌∷◌, [], length, map, IfOk, OnOk};
 ghost use Rattle.rnlp_cli.specs.Text.{line, lines_of};
-ghost use Rattle.rnlp_cli.specs.Report.{ledger_row, cap_row, report_text};
-ghost use Rattle.rnlp_cli.specs.Lists.{listed};
-ghost use Rattle.rnlp_cli.specs.Events.{opening_of};
-ghost use Rattle.rmodel.specs.Steps.{AreAccepted};
+ghost use Rattle.rnlp_cli.specs.Report.{ledger_row, cap_row, report_around};
 
-use crate::history::push_history;
 use crate::list::EventList;
 use crate::text::push_line;
 use itoa::Buffer;
@@ -15,16 +11,14 @@ use std::alloc::{AllocError, Global};
 
 /// The text of the report of a list.
 pub fn report_of(alloc: Global, list: &EventList) -> Result<Vec<u8>, AllocError>
-    requires names { (0 < length list.now.resources) × (0 < length list.now.tasks) }
-    requires accepted { AreAccepted (opening_of list.now.resources list.now.tasks) list.now.events.items }
-    ensures { IfOk result (λ text. text.items ≡ report_text (listed list.now)) }
+    ensures { IfOk result (λ text. text.items ≡ report_around list.now.resources list.now.tasks list.now.history.items) }
 {
     let mut text = Vec::new(alloc);
     push_line(&mut text, b"rnlp", &[b"1".as_slice()])?;
     push_names(&mut text, b"resource", &list.resources)?;
     push_names(&mut text, b"task", &list.tasks)?;
     push_cap(&mut text, list.tasks.len())?;
-    push_history(alloc, &mut text, list)?;
+    text.extend_from_slice(&list.history)?;
     push_ledgers(&mut text, &list.resources)?;
     push_line(&mut text, b"end", &[])?;
     Ok(text)

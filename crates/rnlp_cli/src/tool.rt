@@ -3,10 +3,7 @@ ghost use Rattle.std.specs.Prelude.{◌≡◌, ◌≢◌, ◌≤◌, ◌<◌, �
 ghost use Rattle.io_ends.specs.Faults.{Rose};
 ghost use Rattle.io_ends.specs.Ends.{Appends, AppendsPrefix, Took, TookAtMost};
 ghost use Rattle.rnlp_cli.specs.Words.{command_in};
-ghost use Rattle.rnlp_cli.specs.Report.{report_text};
-ghost use Rattle.rnlp_cli.specs.Events.{opening_of};
-ghost use Rattle.rnlp_cli.specs.Lists.{listed};
-ghost use Rattle.rmodel.specs.Steps.{AreAccepted};
+ghost use Rattle.rnlp_cli.specs.Report.{report_around};
 ghost use Rattle.rnlp_cli.specs.Tool.{IsOutput, IsFault, IsRead, IsSilent, IsAnswer, IsWritten, IsRefused, LineWritten};
 
 use crate::list::{EventList, Fault};
@@ -99,9 +96,7 @@ fn replay<K: Sink>(alloc: Global, bytes: &[u8], sink: &mut K) -> ToolStatus
 
 // Writes the report of a list.
 fn report<K: Sink>(alloc: Global, list: &EventList, sink: &mut K) -> ToolStatus
-    requires names { (0 < length list.now.resources) × (0 < length list.now.tasks) }
-    requires accepted { AreAccepted (opening_of list.now.resources list.now.tasks) list.now.events.items }
-    ensures { IsWritten (report_text (listed list.now)) (K.written sink.old) (K.written sink.new) (Rose (K.faults sink.old) (K.faults sink.new)) (sink.new ≡ sink.old) result }
+    ensures { IsWritten (report_around list.now.resources list.now.tasks list.now.history.items) (K.written sink.old) (K.written sink.new) (Rose (K.faults sink.old) (K.faults sink.new)) (sink.new ≡ sink.old) result }
 {
     let Ok(text) = report_of(alloc, list) else {
         return ToolStatus::NoMemory;

@@ -5,4 +5,4 @@ use Rattle.rnlp_cli.proofs.history.push_grants.Given as goal
 
 -- the records of the grants so far were written
 abbrev pub invariant-loop-change : goal.invariant-loop-change
-invariant-loop-change l = l.text.items ≡ l.fn.text.items ++ lines_of (map (grant_row l.list.resources l.list.tasks) (take l.change-index l.changes))
+invariant-loop-change l = l.text.items ≡ l.fn.text.items ++ lines_of (map (grant_row l.resources l.tasks) (take l.change-index l.changes))
