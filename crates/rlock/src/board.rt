@@ -8,10 +8,13 @@ use std::snapshot::Snapshot;
 /// What a gate is made with: the number of passes, and the state.
 #[derive(Drop)]
 pub struct Setup<S> {
+    /// How many passes it hands out.
     pub passes: u64,
+    /// The state as it is put behind the gate.
     pub first: Snapshot<S>,
 }
 
+/// The rule of the gate, as the table keeps it between any two of its steps.
 pub struct Ruled;
 
 impl<S: Kept> TableRule<Option<S>, View<S::Opening, S::Entry>, Setup<S>> for Ruled {
@@ -23,6 +26,7 @@ impl<S: Kept> TableRule<Option<S>, View<S::Opening, S::Entry>, Setup<S>> for Rul
     ghost first = { λ key. first_view key.passes (S.opening key.first.value) };
 }
 
+/// The table of a gate: the slot of the state, the two words, and the views.
 pub type Board<S> = Table<
     Option<S>,
     View<<S as Kept>::Opening, <S as Kept>::Entry>,
@@ -31,4 +35,5 @@ pub type Board<S> = Table<
     Global,
 >;
 
+/// A seat at that table, with the view that a pass has.
 pub type Place<S> = Seat<Option<S>, View<<S as Kept>::Opening, <S as Kept>::Entry>>;
