@@ -13,14 +13,14 @@ pub one_settlement : OneSettlement
 one_settlement s well = record { settles = settles_settled s well; only = λ u to_u. only_one s u (settled s) to_u (settles_settled s well) }
 
 pub one_settlement_a_step : OneSettlementAStep
-one_settlement_a_step resources seats cap events event accepted comes =
-    let s = after (opening resources seats cap) events in
-    let reached = reached_after (opening resources seats cap) events (reached_opening resources seats cap) accepted in
+one_settlement_a_step groups seats cap events event accepted comes =
+    let s = after (opening groups seats cap) events in
+    let reached = reached_after (opening groups seats cap) events (reached_opening groups seats cap) accepted in
     one_settlement (changed s event).claims (sound_changed s event reached.sound comes.normal comes.accepted).well_formed
 
 pub settling_is_exclusive : SettlingIsExclusive
 settling_is_exclusive = exclusive_settled
 
 pub writes_are_exclusive : WritesAreExclusive
-writes_are_exclusive resources seats cap events accepted seat other differ =
-    exclusive (after (opening resources seats cap) events) seat other (reached_after (opening resources seats cap) events (reached_opening resources seats cap) accepted) differ
+writes_are_exclusive groups seats cap events accepted seat other differ =
+    exclusive (after (opening groups seats cap) events) seat other (reached_after (opening groups seats cap) events (reached_opening groups seats cap) accepted) differ

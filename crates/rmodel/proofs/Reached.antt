@@ -3,6 +3,7 @@ use Rattle.std.proofs.Common.{◌≡◌, ℕ, ◌<◌, ◌==◌, Bool, true, fal
 use Rattle.std.proofs.lemmas.Bool.{true≢false, or_cases, or_left, or_right, and_parts, and_from, lt-ltb}
 use Rattle.std.specs.List.{AllZip}
 use Rattle.rset.specs.Sets.{Set, meets}
+use Rattle.rexpand.specs.Groups.{ReadGroups}
 use Rattle.rset.proofs.SetLemmas.{meets_symmetric, meets_empty_right, meets_within_left, meets_within_right}
 use Rattle.rclaim.specs.Events.{IsNormalEvent}
 use Rattle.rclaim.specs.declared.claim.Claim.{Claim}
@@ -208,14 +209,14 @@ exclusive_settled s t had settles = record {
 
 entered_changed : (s : LockState) (e : Event) → IsNormalEvent e → EachPair Entered s.claims → EachPair Entered (changed s e).claims
 entered_changed s (Issue seat r) normal pairs =
-    let one = one_claim s.issued seat r normal in
+    let one = one_claim s.groups.groups s.issued seat r normal in
     subst (λ (cs : List Claim). EachPair Entered (s.claims ++ map waiting cs)) (sym one.alone)
     (pairs_append Entered s.claims (waiting one.claim) pairs (all_from (λ x. Entered x (waiting one.claim)) s.claims (λ x there w w' share active. absurd (true≢false (sym active)))))
 entered_changed s (Finish seat) normal pairs = pairs_filter Entered (λ x. not (x.claim.seat == seat)) s.claims pairs
 
 apart_changed : (s : LockState) (e : Event) → IsNormalEvent e → EachPair Apart s.claims → EachPair Apart (changed s e).claims
 apart_changed s (Issue seat r) normal pairs =
-    let one = one_claim s.issued seat r normal in
+    let one = one_claim s.groups.groups s.issued seat r normal in
     subst (λ (cs : List Claim). EachPair Apart (s.claims ++ map waiting cs)) (sym one.alone)
     (pairs_append Apart s.claims (waiting one.claim) pairs (all_from (λ x. Apart x (waiting one.claim)) s.claims (λ x there sat sat'. absurd (true≢false (sym sat')))))
 apart_changed s (Finish seat) normal pairs = pairs_filter Apart (λ x. not (x.claim.seat == seat)) s.claims pairs
@@ -236,5 +237,5 @@ pub reached_after : (s : LockState) (es : List Event) → IsReached s → AreAcc
 reached_after s [] reached accepted = reached
 reached_after s (e ∷ es) reached accepted = reached_after (next s e) es (reached_next s e reached accepted.0) accepted.1
 
-pub reached_opening : (resources seats cap : ℕ) → IsReached (opening resources seats cap)
-reached_opening resources seats cap = record { sound = sound_opening resources seats cap; entered = tt; apart = tt }
+pub reached_opening : (groups : ReadGroups) (seats cap : ℕ) → IsReached (opening groups seats cap)
+reached_opening groups seats cap = record { sound = sound_opening groups seats cap; entered = tt; apart = tt }

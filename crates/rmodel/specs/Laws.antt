@@ -1,6 +1,7 @@
 -- The laws, for every list of accepted events.
 use Rattle.std.specs.Prelude.{◌≡◌, ◌≢◌, ℕ, false, List}
 use Rattle.rset.specs.Sets.{meets}
+use Rattle.rexpand.specs.Groups.{ReadGroups}
 use Rattle.rclaim.specs.declared.event.Event.{Event}
 use Rattle.rmodel.specs.declared.claimed.Claimed.{Claimed}
 use Rattle.rmodel.specs.Holds.{holds_of}
@@ -22,8 +23,8 @@ OneSettlement = (s : List Claimed) → AreWellFormed s → SettlesOnlyTo s (sett
 -- one settlement: the list that an event leaves, after any list of accepted events, settles in one way
 abbrev pub OneSettlementAStep : Type 0
 OneSettlementAStep =
-    (resources seats cap : ℕ) (events : List Event) (event : Event) → AreAccepted (opening resources seats cap) events → Comes (after (opening resources seats cap) events) event
-    → SettlesOnlyTo (changed (after (opening resources seats cap) events) event).claims (settled (changed (after (opening resources seats cap) events) event).claims)
+    (groups : ReadGroups) (seats cap : ℕ) (events : List Event) (event : Event) → AreAccepted (opening groups seats cap) events → Comes (after (opening groups seats cap) events) event
+    → SettlesOnlyTo (changed (after (opening groups seats cap) events) event).claims (settled (changed (after (opening groups seats cap) events) event).claims)
 
 -- writes are exclusive: of exclusive claims, what they settle to are exclusive claims
 abbrev pub SettlingIsExclusive : Type 0
@@ -37,5 +38,5 @@ pub record IsExclusive (s : LockState) (seat other : ℕ) : Type 0 where
 -- writes are exclusive: after any list of accepted events, what one request holds for writing no other request holds
 abbrev pub WritesAreExclusive : Type 0
 WritesAreExclusive =
-    (resources seats cap : ℕ) (events : List Event) → AreAccepted (opening resources seats cap) events
-    → (seat other : ℕ) → seat ≢ other → IsExclusive (after (opening resources seats cap) events) seat other
+    (groups : ReadGroups) (seats cap : ℕ) (events : List Event) → AreAccepted (opening groups seats cap) events
+    → (seat other : ℕ) → seat ≢ other → IsExclusive (after (opening groups seats cap) events) seat other
