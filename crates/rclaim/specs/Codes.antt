@@ -4,7 +4,7 @@ use Rattle.std.specs.Coded.{Coded, code_by, coded_ℕ, coded_bool, coded×}
 use Rattle.std.specs.FinSet as set
 use Rattle.rset.specs.Sets.{Set}
 use Rattle.rclaim.specs.declared.request.Kind.{Kind}
-use Rattle.rclaim.specs.declared.request.Kind.TheVariants.{Read, Write, Mixed}
+use Rattle.rclaim.specs.declared.request.Kind.TheVariants.{Read, Write, Mixed, Upgrade, Nested}
 use Rattle.rclaim.specs.declared.claim.Status.{Status}
 use Rattle.rclaim.specs.declared.claim.Status.TheVariants.{Waiting, Entitled, Satisfied}
 use Rattle.rclaim.specs.declared.changes.StatusChange.{StatusChange}
@@ -18,14 +18,18 @@ abbrev pub kind_number : Kind → ℕ
 kind_number Read = 0
 kind_number Write = 1
 kind_number Mixed = 2
+kind_number Upgrade = 3
+kind_number Nested = 4
 
 abbrev pub kind_of : ℕ → Kind
-kind_of n = if n == 0 then Read else (if n == 1 then Write else Mixed)
+kind_of n = if n == 0 then Read else (if n == 1 then Write else (if n == 2 then Mixed else (if n == 3 then Upgrade else Nested)))
 
 pub kind_of-kind_number : (k : Kind) → kind_of (kind_number k) ≡ k
 kind_of-kind_number Read = refl
 kind_of-kind_number Write = refl
 kind_of-kind_number Mixed = refl
+kind_of-kind_number Upgrade = refl
+kind_of-kind_number Nested = refl
 
 abbrev pub kind_code : Coded Kind
 kind_code = code_by ℕ coded_ℕ kind_number kind_of kind_of-kind_number

@@ -23,5 +23,5 @@ pub const LENGTH_LIMIT: u32 = 1_000_000;
 /// How many status changes a list of changes has room for: two claims for each seat.
 pub const STATUS_ROOM: usize = 2 * rset::SEATS as usize;
 
-/// How many grants a list of changes has room for: one for each seat.
-pub const GRANT_ROOM: usize = rset::SEATS as usize;
+/// How many grants a list of changes has room for: one for each claim.
+pub const GRANT_ROOM: usize = STATUS_ROOM;

@@ -1,6 +1,6 @@
 // What a task asks for, in normal form.
-ghost use Rattle.std.specs.Prelude.{◌≡◌, ◌≤◌, ◌↔◌, IfOk, IfErr};
-ghost use Rattle.rclaim.specs.Requests.{IsNormal, asked_set, normalised};
+ghost use Rattle.std.specs.Prelude.{◌≡◌, ◌≢◌, ◌≤◌, ◌↔◌, ◌&&◌, nat_lt, false, IfOk, IfErr};
+ghost use Rattle.rclaim.specs.Requests.{IsNormal, asked_set, first_fits, is_part, normalised};
 ghost use Rattle.std.specs.FinSet as set;
 
 use crate::LENGTH_LIMIT;
@@ -18,6 +18,10 @@ pub enum Kind {
     Write,
     /// It reads a set of resources, which may be empty, and writes another.
     Mixed,
+    /// It reads a set of resources, and may rise to write them.
+    Upgrade,
+    /// It reads and writes as a mixed request, but holds only what it asks for part by part.
+    Nested,
 }
 
 /// Why a request is refused. As a number it is the one that users are told.
@@ -60,6 +64,23 @@ impl Model for Request {
     ghost inverse = { λ r. record { kind = r.kind; reads = r.reads; writes = r.writes; first = r.first; len = r.len; later = r.later } };
 }
 
+// Whether a set is a part of another that is not empty.
+fn is_part(part: ResourceSet, whole: ResourceSet) -> bool
+    ensures { result ≡ is_part part whole }
+{
+    part.len() > 0 && part.within(whole)
+}
+
+// Whether the first part is one that a request of this kind may have.
+fn first_fits(kind: Kind, reads: ResourceSet, writes: ResourceSet, first: ResourceSet) -> bool
+    ensures { result ≡ first_fits kind reads writes first }
+{
+    match kind {
+        Kind::Nested => is_part(first, reads.union(writes)),
+        Kind::Read | Kind::Write | Kind::Mixed | Kind::Upgrade => true,
+    }
+}
+
 impl Clone for Request {
     fn clone(&self) -> Result<Self, AllocError> {
         Ok(*self)
@@ -69,14 +90,17 @@ impl Clone for Request {
 impl Copy for Request {}
 
 impl Request {
-    /// A request in normal form. A read takes `reads` and ignores `writes`, a write takes `writes` and ignores `reads`.
-    /// A mixed request takes both; a resource that is in both is written only.
-    /// All ignore `first`, the first part, and `later`, the length of a later section.
-    /// `len` is the length of its section, in units that the caller chooses.
+    /// A request in normal form. A read and an upgrade take `reads` and ignore `writes`, a write takes `writes` and
+    /// ignores `reads`. A mixed and a nested request take both; a resource that is in both is written only.
+    /// `first` is the part that a nested request asks for at once; every other kind ignores it.
+    /// `len` is the length of its section, in units that the caller chooses, and `later` that of the section in which
+    /// an upgrade writes; every other kind ignores `later`.
     ///
     /// # Errors
     ///
-    /// `EmptyRequest` where the set that the kind is about is empty: of a read what it reads, else what it writes.
+    /// In this order: `EmptyRequest` where the set that the kind is about is empty, which is what a read or an upgrade
+    /// reads and what any other kind writes; `FirstOutside` where the first part of a nested request is empty or not
+    /// within what it reads and writes.
     pub fn new(
         kind: Kind,
         reads: ResourceSet,
@@ -88,26 +112,37 @@ impl Request {
         requires len { len ≤ LENGTH_LIMIT }
         requires later { later ≤ LENGTH_LIMIT }
         ensures empty { (result ≡ Err RequestErr.EmptyRequest) ↔ (asked_set kind reads writes ≡ set.empty) }
-        ensures only { IfErr result (λ cause. cause ≡ RequestErr.EmptyRequest) }
-        ensures made { IfOk result (λ r. r ≡ normalised kind reads writes len) }
+        ensures outside { (result ≡ Err RequestErr.FirstOutside)
+            ↔ ((asked_set kind reads writes ≢ set.empty) × (first_fits kind reads writes first ≡ false)) }
+        ensures only { IfErr result (λ cause. cause ≢ RequestErr.Undeclared) }
+        ensures made { IfOk result (λ r. r ≡ normalised kind reads writes first len later) }
         ensures normal { IfOk result IsNormal }
     {
         let none = ResourceSet::empty();
+        let fits = first_fits(kind, reads, writes, first);
         let (reads, writes, about) = match kind {
-            Kind::Read => (reads, none, reads),
+            Kind::Read | Kind::Upgrade => (reads, none, reads),
             Kind::Write => (none, writes, writes),
-            Kind::Mixed => (reads.minus(writes), writes, writes),
+            Kind::Mixed | Kind::Nested => (reads.minus(writes), writes, writes),
         };
         if about.is_empty() {
             return Err(RequestErr::EmptyRequest);
         }
+        if !fits {
+            return Err(RequestErr::FirstOutside);
+        }
+        let (first, later) = match kind {
+            Kind::Nested => (first, 0),
+            Kind::Upgrade => (none, later),
+            Kind::Read | Kind::Write | Kind::Mixed => (none, 0),
+        };
         Ok(Request {
             kind,
             reads,
             writes,
-            first: none,
+            first,
             len,
-            later: 0,
+            later,
         })
     }
 
@@ -135,7 +170,7 @@ impl Request {
         self.writes
     }
 
-    /// The part that is asked for at once; empty where a request asks for everything at once.
+    /// The part that a nested request asks for at once; empty where a request asks for everything at once.
     pub fn first(&self) -> ResourceSet
         ensures { result ≡ self.now.first }
     {
@@ -150,7 +185,7 @@ impl Request {
         self.len
     }
 
-    /// The length of a later section; 0 where there is none.
+    /// The length of the section in which an upgrade writes; 0 for every other kind.
     pub fn later(&self) -> u32
         ensures value { result ≡ self.now.later }
         ensures bound { result ≤ LENGTH_LIMIT }

@@ -33,8 +33,14 @@ fn requests_are_told_as_made(rt: HostRuntime) -> Result<(), Fail> {
     let mixed = Request::new(Kind::Mixed, both, ResourceSet::one(5), none, 7, 0)?;
     assert_eq!(rt; mixed.reads().len(), 1);
     assert!(rt; mixed.reads().has(0));
+    let upgrade = Request::new(Kind::Upgrade, both, none, none, 7, 9)?;
+    assert_eq!(rt; upgrade.later(), 9);
+    let nested = Request::new(Kind::Nested, none, both, ResourceSet::one(5), 7, 0)?;
+    assert!(rt; nested.first().has(5));
     let refused = Request::new(Kind::Read, none, both, none, 7, 0).is_err();
     assert!(rt; refused);
+    let outside = Request::new(Kind::Nested, none, both, ResourceSet::one(1), 7, 0).is_err();
+    assert!(rt; outside);
     Ok(())
 }
 
