@@ -12,4 +12,9 @@ pub mod Reached
 pub mod Exclusive
 pub mod LawProofs
 pub mod Histories
+pub mod SecondList
+pub mod Stable
+pub mod Earliest
+pub mod Somebody
+pub mod OneWrite
 mod WorkedCase
