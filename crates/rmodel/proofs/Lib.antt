@@ -1,4 +1,5 @@
 pub mod ListFacts
+pub mod SecondList
 pub mod Alike
 pub mod OneSettlement
 pub mod Settlement
@@ -8,13 +9,13 @@ pub mod Soundness
 pub mod Barred
 pub mod ChangesTold
 pub mod PlainSteps
+pub mod Stable
 pub mod Reached
 pub mod Exclusive
-pub mod LawProofs
-pub mod Histories
-pub mod SecondList
-pub mod Stable
 pub mod Earliest
 pub mod Somebody
+pub mod Something
 pub mod OneWrite
+pub mod LawProofs
+pub mod Histories
 mod WorkedCase

@@ -35,8 +35,8 @@ still_kept_out s t settles c = some_second (SettlesAt s t) _ _ stays s t settles
         (and_from y.claim.write_half (is_active y) write (at.entitlement write ∙ or_left (is_active x) (may_enter t y.claim) first.1))
         (ap (λ k. conflicts k c) at.same ∙ parts.1)
 
-pub stable : (s t : List Claimed) → Settles s t → Settles t t
-stable s t settles = second_itself (SettlesAt s t) (SettlesAt t t)
+pub stable_settled : (s t : List Claimed) → Settles s t → Settles t t
+stable_settled s t settles = second_itself (SettlesAt s t) (SettlesAt t t)
     (λ x y at. record {
       same = refl;
       reads = λ r. kept_out_again _ _ (is_kept_out s y.claim) (is_kept_out t y.claim) (at.reads r) (still_kept_out s t settles y.claim);

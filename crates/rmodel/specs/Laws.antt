@@ -7,7 +7,7 @@ use Rattle.rclaim.specs.declared.claim.Claim.{Claim}
 use Rattle.rclaim.specs.declared.event.Event.{Event}
 use Rattle.rmodel.specs.declared.claimed.Claimed.{Claimed}
 use Rattle.rmodel.specs.Claims.{share_place, conflicts, is_active, is_satisfied}
-use Rattle.rmodel.specs.Holds.{holds_of}
+use Rattle.rmodel.specs.Holds.{holds_of, is_nothing, has_request}
 use Rattle.rmodel.specs.Rules.{is_earlier_write, Settles}
 use Rattle.rmodel.specs.Settling.{settled}
 use Rattle.rmodel.specs.State.{LockState, opening}
@@ -48,6 +48,12 @@ WritesAreExclusive =
 abbrev pub SettledIsStable : Type 0
 SettledIsStable = (s t : List Claimed) → Settles s t → Settles t t
 
+-- settled is stable: after any list of accepted events, settling once more changes nothing
+abbrev pub SettledIsStableAStep : Type 0
+SettledIsStableAStep =
+    (resources seats cap : ℕ) (events : List Event) → AreAccepted (opening resources seats cap) events
+    → Settles (after (opening resources seats cap) events).claims (after (opening resources seats cap) events).claims
+
 -- some write of smaller stamp shares a place with c
 abbrev pub shares_with_earlier : List Claimed → Claim → Bool
 shares_with_earlier xs c = list_any (λ v. is_earlier_write c v.claim && share_place v.claim c) xs
@@ -60,9 +66,26 @@ EarliestAreEntitled xs = AllByRecursion (λ x. x.claim.write_half ≡ true → s
 abbrev pub EarliestIsEntitled : Type 0
 EarliestIsEntitled = (s t : List Claimed) → Settles s t → EarliestAreEntitled t
 
+-- the earliest write is entitled: so it is after any list of accepted events
+abbrev pub EarliestIsEntitledAStep : Type 0
+EarliestIsEntitledAStep =
+    (resources seats cap : ℕ) (events : List Event) → AreAccepted (opening resources seats cap) events
+    → EarliestAreEntitled (after (opening resources seats cap) events).claims
+
 -- somebody holds: of the claims that well-formed ones settle to, if there are any, some is satisfied
 abbrev pub SomebodyHolds : Type 0
 SomebodyHolds = (s t : List Claimed) → AreWellFormed s → Settles s t → t ≢ [] → list_any is_satisfied t ≡ true
+
+-- while a seat has an incomplete request, some claim is satisfied; and the seat of each satisfied claim holds something
+pub record IsHeld (s : LockState) : Type 0 where
+  pub somebody : (seat : ℕ) → has_request s.claims seat ≡ true → list_any is_satisfied s.claims ≡ true
+  pub something : AllByRecursion (λ x. is_satisfied x ≡ true → is_nothing (holds_of s.claims x.claim.seat) ≡ false) s.claims
+
+-- somebody holds: after any list of accepted events
+abbrev pub SomebodyHoldsAStep : Type 0
+SomebodyHoldsAStep =
+    (resources seats cap : ℕ) (events : List Event) → AreAccepted (opening resources seats cap) events
+    → IsHeld (after (opening resources seats cap) events)
 
 -- a claim is one that these groups admit: what a read claim reads is declared, and the places of a write claim are expanded by the groups
 pub record IsAdmittedBy (groups : List Set) (c : Claim) : Type 0 where
