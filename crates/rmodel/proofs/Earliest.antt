@@ -7,14 +7,7 @@ use Rattle.rmodel.specs.declared.claimed.Claimed.{Claimed}
 use Rattle.rmodel.specs.Claims.{share_place, is_active}
 use Rattle.rmodel.specs.Rules.{is_earlier_write, makes_way, may_enter, SettlesAt, Settles}
 use Rattle.rmodel.specs.Laws.{shares_with_earlier, EarliestAreEntitled}
-use Rattle.rmodel.proofs.SecondList.{each_second}
-
--- all pass where none passes another test that bars it
-all_of_none : {X : Type 0} (p q : X → Bool) → ((x : X) → p x ≡ false → q x ≡ true) → (xs : List X) → list_any p xs ≡ false → list_all q xs ≡ true
-all_of_none p q gives [] none = refl
-all_of_none p q gives (x ∷ xs) none =
-    let parts = or_parts (p x) (list_any p xs) none in
-    and_from (q x) (list_all q xs) (gives x parts.0) (all_of_none p q gives xs parts.1)
+use Rattle.rmodel.proofs.ListFacts.{all_of_none, each_second}
 
 -- nothing bars such a write
 pub enters_first : (t : List Claimed) (c : Claim) → shares_with_earlier t c ≡ false → may_enter t c ≡ true

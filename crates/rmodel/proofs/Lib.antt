@@ -1,5 +1,4 @@
 pub mod ListFacts
-pub mod SecondList
 pub mod Alike
 pub mod OneSettlement
 pub mod Settlement

@@ -15,7 +15,7 @@ use Rattle.rmodel.specs.Claims.{conflicts, share_place, is_active}
 use Rattle.rmodel.specs.Rules.{Settles}
 use Rattle.rmodel.specs.Laws.{IsAdmittedBy, AreAdmittedBy, keeps_out, AreKeptOutByOne}
 use Rattle.rmodel.specs.WellFormed.{EachPair, IsClaim, Entered, AreExclusive}
-use Rattle.rmodel.proofs.ListFacts.{contrary, false_from, all_at, all_from, all_of_zip}
+use Rattle.rmodel.proofs.ListFacts.{contrary, false_from, all_at, all_from, all_of_zip, pairs_with}
 use Rattle.rmodel.proofs.Settlement.{conflict_of_read}
 use Rattle.rmodel.proofs.Soundness.{SameClaim, same_claims}
 use Rattle.rmodel.proofs.Reached.{conflicts_symmetric, exclusive_settled}
@@ -37,12 +37,6 @@ module _ {X : Type 0} (p : X → Bool) where
 
   pub one_counts : (xs : List X) → EachPair (λ x y. p x ≡ true → p y ≡ false) xs → count_by p xs ≤ 1
   one_counts xs pairs = subst (λ (n : ℕ). n ≤ 1) (length-filter p xs) (one_passes xs pairs)
-
--- what holds of each pair, with what holds of each element
-pairs_with : {X : Type 0} (P : X → Type 0) (Q R : X → X → Type 0) → ((x y : X) → P x → P y → Q x y → R x y) → (xs : List X) → AllByRecursion P xs → EachPair Q xs → EachPair R xs
-pairs_with P Q R gives [] all pairs = tt
-pairs_with P Q R gives (x ∷ xs) all pairs =
-    (all_from (R x) xs (λ y there. gives x y all.0 (all_at P xs y all.1 there) (all_at (Q x) xs y pairs.0 there)), pairs_with P Q R gives xs all.1 pairs.1)
 
 -- ---- a read claim and the writes that conflict with it
 

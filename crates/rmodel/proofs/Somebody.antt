@@ -8,10 +8,9 @@ use Rattle.rmodel.specs.Claims.{share_place, conflicts, is_active, is_satisfied}
 use Rattle.rmodel.specs.Rules.{is_earlier_write, is_kept_out, is_held_up, SettlesAt, Settles}
 use Rattle.rmodel.specs.Laws.{shares_with_earlier}
 use Rattle.rmodel.specs.WellFormed.{EachPair, Rises, AreWellFormed}
-use Rattle.rmodel.proofs.ListFacts.{Among, contrary, false_from, passing, any_among, none_among, all_at, all_from, zip_among, zip_weaker}
+use Rattle.rmodel.proofs.ListFacts.{Among, contrary, false_from, passing, any_among, none_among, none_from, all_at, each_second, some_second}
 use Rattle.rmodel.proofs.OneSettlement.{both_cases}
 use Rattle.rmodel.proofs.Soundness.{same_claims, same_claims_well_formed}
-use Rattle.rmodel.proofs.SecondList.{each_second, some_second}
 use Rattle.rmodel.proofs.Earliest.{earliest}
 
 abbrev is_write : Claimed → Bool
@@ -23,9 +22,6 @@ record FirstWrite (xs : List Claimed) : Type 0 where
   there : Among first xs
   is_write : first.claim.write_half ≡ true
   none_earlier : list_any (λ v. is_earlier_write first.claim v.claim) xs ≡ false
-
-none_of_each : {X : Type 0} (p : X → Bool) (xs : List X) → ((x : X) → Among x xs → p x ≡ false) → list_any p xs ≡ false
-none_of_each p xs each = false_from (list_any p xs) (λ some. let found = passing p xs some in contrary (p found.0) found.2 (each found.0 found.1))
 
 first_write : (xs : List Claimed) → EachPair Rises xs → list_any is_write xs ≡ true → FirstWrite xs
 first_write [] rising some = absurd (true≢false (sym some))
@@ -42,7 +38,7 @@ first_write (x ∷ xs) rising some = at x.claim.write_half refl (first_write xs 
       first = x;
       there = inl refl;
       is_write = w;
-      none_earlier = none_of_each (λ v. is_earlier_write x.claim v.claim) (x ∷ xs) each;
+      none_earlier = none_from (λ v. is_earlier_write x.claim v.claim) (x ∷ xs) each;
     }
       where
         each : (v : Claimed) → Among v (x ∷ xs) → is_earlier_write x.claim v.claim ≡ false
@@ -96,7 +92,7 @@ module _ (s t : List Claimed) (well : AreWellFormed s) (settles : Settles s t) w
       (λ free. any_among is_satisfied t w.first w.there (all_at _ t w.first or_held_up w.there w.is_write active free))
     where
       alone : shares_with_earlier t w.first.claim ≡ false
-      alone = none_of_each (λ v. is_earlier_write w.first.claim v.claim && share_place v.claim w.first.claim) t
+      alone = none_from (λ v. is_earlier_write w.first.claim v.claim && share_place v.claim w.first.claim) t
           (λ v there. ap (λ b. b && share_place v.claim w.first.claim) (none_among (λ v. is_earlier_write w.first.claim v.claim) t v w.none_earlier there))
 
       active : is_active w.first ≡ true

@@ -5,7 +5,7 @@ use Rattle.rclaim.specs.declared.claim.Claim.{Claim}
 use Rattle.rmodel.specs.declared.claimed.Claimed.{Claimed}
 use Rattle.rmodel.specs.Claims.{conflicts, is_active}
 use Rattle.rmodel.specs.Rules.{is_kept_out, may_enter, SettlesAt, Settles}
-use Rattle.rmodel.proofs.SecondList.{second_itself, some_second}
+use Rattle.rmodel.proofs.ListFacts.{second_itself, some_second}
 
 -- what follows from what was or from a test follows from what is or from that test
 asked_again : (was is test : Bool) → is ≡ (was || test) → is ≡ (is || test)
