@@ -1,12 +1,12 @@
 -- With a read claim, one entitled or satisfied write at most conflicts: what it reads is shared, so two such writes would share a place.
-use Rattle.std.proofs.Common.{◌≡◌, ◌≤◌, ℕ, zero, Bool, true, false, ◌&&◌, cond, length, filter, List, [], ◌∷◌, refl, sym, ap, subst, ◌∙◌, arith}
+use Rattle.std.proofs.Common.{◌≡◌, ◌≤◌, ℕ, Bool, true, false, ◌&&◌, cond, length, filter, List, [], ◌∷◌, refl, sym, ap, subst, ◌∙◌, arith}
 use Rattle.std.proofs.lemmas.Bool.{and_parts}
 use Rattle.std.proofs.lemmas.List.Sums.{length-filter}
 use Rattle.std.specs.List.{count_by, AllByRecursion}
 use Rattle.std.specs.FinSet.{is_subset}
 use Rattle.rset.specs.Sets.{Set, meets}
 use Rattle.rset.proofs.SetLemmas.{meets_common, meets_symmetric, meets_within_left, meets_within_right, within_transitive}
-use Rattle.rexpand.specs.Groups.{shared_with, is_declared, places_of}
+use Rattle.rexpand.specs.Groups.{shared_with, places_of}
 use Rattle.rexpand.proofs.PlaceLemmas.{shared_within_places}
 use Rattle.rexpand.proofs.DeclaredLemmas.{declared_within_shared}
 use Rattle.rclaim.specs.declared.claim.Claim.{Claim}

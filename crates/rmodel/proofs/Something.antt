@@ -1,7 +1,6 @@
 -- After accepted events some claim is satisfied while there is a request, and the seat of a satisfied claim holds something.
-use Rattle.std.proofs.Common.{◌≡◌, ◌≢◌, ℕ, ◌==◌, Bool, true, false, ◌&&◌, cond, List, [], refl, ap, ◌∙◌}
+use Rattle.std.proofs.Common.{◌≡◌, ◌≢◌, ◌==◌, Bool, true, false, ◌&&◌, cond, List, refl, ap, ◌∙◌}
 use Rattle.std.proofs.lemmas.Bool.{eqb-true, eq-eqb, and_from, true_from_ne_false}
-use Rattle.std.specs.List.{list_any}
 use Rattle.std.specs.FinSet.{empty, len, union, empty_of_len}
 use Rattle.rset.specs.Sets.{Set, meets}
 use Rattle.rset.proofs.SetLemmas.{meets_empty_left, meets_itself}
