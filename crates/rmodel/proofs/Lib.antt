@@ -9,6 +9,7 @@ pub mod Barred
 pub mod ChangesTold
 pub mod PlainSteps
 pub mod Stable
+pub mod Admitted
 pub mod Reached
 pub mod Exclusive
 pub mod Earliest

@@ -13,11 +13,11 @@ use Rattle.rclaim.specs.declared.claim.Claim.{Claim}
 use Rattle.rmodel.specs.declared.claimed.Claimed.{Claimed}
 use Rattle.rmodel.specs.Claims.{conflicts, share_place, is_active}
 use Rattle.rmodel.specs.Rules.{Settles}
-use Rattle.rmodel.specs.Laws.{IsAdmittedBy, AreAdmittedBy, keeps_out, AreKeptOutByOne}
-use Rattle.rmodel.specs.WellFormed.{EachPair, IsClaim, Entered, AreExclusive}
-use Rattle.rmodel.proofs.ListFacts.{contrary, false_from, all_at, all_from, all_of_zip, pairs_with}
+use Rattle.rmodel.specs.Laws.{keeps_out, AreKeptOutByOne}
+use Rattle.rmodel.specs.WellFormed.{EachPair, IsClaim, Entered, AreExclusive, IsAdmittedBy, AreAdmittedBy}
+use Rattle.rmodel.proofs.ListFacts.{contrary, false_from, all_at, all_from, pairs_with}
 use Rattle.rmodel.proofs.Settlement.{conflict_of_read}
-use Rattle.rmodel.proofs.Soundness.{SameClaim, same_claims}
+use Rattle.rmodel.proofs.Admitted.{admitted_settled}
 use Rattle.rmodel.proofs.Reached.{conflicts_symmetric, exclusive_settled}
 
 -- ---- at most one of a list
@@ -83,12 +83,6 @@ one_write groups xs exclusive admitted =
       is_claim = all_at (λ x. IsClaim x.claim) xs x exclusive.well_formed.claims there;
       admitted = all_at (λ x. IsAdmittedBy groups x.claim) xs x admitted there;
     })
-
--- claims of the same requests are admitted alike
-pub admitted_settled : (groups : List Set) (s t : List Claimed) → AreAdmittedBy groups s → Settles s t → AreAdmittedBy groups t
-admitted_settled groups s t admitted settles =
-    all_of_zip (λ x. IsAdmittedBy groups x.claim) SameClaim (λ y. IsAdmittedBy groups y.claim) (λ x y is same. subst (λ (c : Claim). IsAdmittedBy groups c) (sym same) is)
-    s t admitted (same_claims s t settles)
 
 pub one_write_settled : (groups : List Set) (s t : List Claimed) → AreExclusive s → AreAdmittedBy groups s → Settles s t → AreKeptOutByOne t
 one_write_settled groups s t exclusive admitted settles = one_write groups t (exclusive_settled s t exclusive settles) (admitted_settled groups s t admitted settles)

@@ -20,7 +20,7 @@ is_write x = x.claim.write_half
 record FirstWrite (xs : List Claimed) : Type 0 where
   first : Claimed
   there : Among first xs
-  is_write : first.claim.write_half ≡ true
+  writes : first.claim.write_half ≡ true
   none_earlier : list_any (λ v. is_earlier_write first.claim v.claim) xs ≡ false
 
 first_write : (xs : List Claimed) → EachPair Rises xs → list_any is_write xs ≡ true → FirstWrite xs
@@ -37,7 +37,7 @@ first_write (x ∷ xs) rising some = at x.claim.write_half refl (first_write xs 
     at true w behind = record {
       first = x;
       there = inl refl;
-      is_write = w;
+      writes = w;
       none_earlier = none_from (λ v. is_earlier_write x.claim v.claim) (x ∷ xs) each;
     }
       where
@@ -49,7 +49,7 @@ first_write (x ∷ xs) rising some = at x.claim.write_half refl (first_write xs 
         record {
           first = rest.first;
           there = inr rest.there;
-          is_write = rest.is_write;
+          writes = rest.writes;
           none_earlier = ap (λ b. (b && nat_lt x.claim.stamp rest.first.claim.stamp) || list_any (λ v. is_earlier_write rest.first.claim v.claim) xs) r ∙ rest.none_earlier;
         }
 
@@ -89,17 +89,14 @@ module _ (s t : List Claimed) (well : AreWellFormed s) (settles : Settles s t) w
       (λ held.
       let found = passing (λ v. is_satisfied v && (not v.claim.write_half || is_earlier_write w.first.claim v.claim) && conflicts v.claim w.first.claim) t held in
       any_among is_satisfied t found.0 found.1 (and_parts (is_satisfied found.0) _ (and_parts (is_satisfied found.0 && _) (conflicts found.0.claim w.first.claim) found.2).0).0)
-      (λ free. any_among is_satisfied t w.first w.there (all_at _ t w.first or_held_up w.there w.is_write active free))
+      (λ free. any_among is_satisfied t w.first w.there (all_at _ t w.first or_held_up w.there w.writes active free))
     where
       alone : shares_with_earlier t w.first.claim ≡ false
       alone = none_from (λ v. is_earlier_write w.first.claim v.claim && share_place v.claim w.first.claim) t
           (λ v there. ap (λ b. b && share_place v.claim w.first.claim) (none_among (λ v. is_earlier_write w.first.claim v.claim) t v w.none_earlier there))
 
       active : is_active w.first ≡ true
-      active = all_at _ t w.first (earliest s t settles) w.there w.is_write alone
+      active = all_at _ t w.first (earliest s t settles) w.there w.writes alone
 
-  pub some_holds : t ≢ [] → list_any is_satisfied t ≡ true
-  some_holds filled = both_cases (list_any is_write t) (λ some. first_holds (first_write t well_after.rising some)) (reads_hold filled)
-
-pub some_satisfied : (s t : List Claimed) → AreWellFormed s → Settles s t → t ≢ [] → list_any is_satisfied t ≡ true
-some_satisfied s t well settles filled = some_holds s t well settles filled
+  pub some_satisfied : t ≢ [] → list_any is_satisfied t ≡ true
+  some_satisfied filled = both_cases (list_any is_write t) (λ some. first_holds (first_write t well_after.rising some)) (reads_hold filled)

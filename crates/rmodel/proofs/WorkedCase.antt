@@ -7,6 +7,8 @@ use Rattle.std.specs.FinSet.{empty, insert, is_subset, contains, len-insert, len
 use Rattle.std.specs.Cmp.{nat_cmp_total}
 use Rattle.rset.specs.Sets.{Set, meets}
 use Rattle.rset.proofs.SetLemmas.{meets_insert_right, meets_empty_left, meets_empty_right, contains_insert, contains_empty, union_empty_left, empty_within, within_empty, within_reflexive}
+use Rattle.rexpand.specs.Groups.{no_groups}
+use Rattle.rexpand.proofs.PlaceLemmas.{places_without_groups}
 use Rattle.rclaim.specs.Requests.{RequestFields, normalised}
 use Rattle.rclaim.specs.declared.request.Kind.TheVariants.{Read, Write}
 use Rattle.rclaim.specs.declared.claim.Status.{Status}
@@ -70,13 +72,13 @@ abbrev t3 : RequestFields
 t3 = normalised Write empty b 1
 
 abbrev of_t1 : Status → Claimed
-of_t1 status = record { claim = claim_of true 0 0 t1; status = status }
+of_t1 status = record { claim = claim_of [] true 0 0 t1; status = status }
 
 abbrev of_t2 : Status → Claimed
-of_t2 status = record { claim = claim_of false 1 1 t2; status = status }
+of_t2 status = record { claim = claim_of [] false 1 1 t2; status = status }
 
 abbrev of_t3 : Status → Claimed
-of_t3 status = record { claim = claim_of true 2 2 t3; status = status }
+of_t3 status = record { claim = claim_of [] true 2 2 t3; status = status }
 
 -- the rules at a write, and at a read
 write_at : (s t : List Claimed) (x y : Claimed) → y.claim ≡ x.claim → y.claim.write_half ≡ true → is_active y ≡ (is_active x || may_enter t y.claim)
@@ -89,7 +91,7 @@ read_at : (s t : List Claimed) (x y : Claimed) → y.claim ≡ x.claim → y.cla
 read_at s t x y same r sat active =
     record { same = same; reads = λ _. sat; entitlement = λ w. absurd (true≢false (sym w ∙ r)); satisfaction = λ w. absurd (true≢false (sym w ∙ r)); kept_reads = λ _. active }
 
-ruleset sets = (ab_a, a_ab, ab_b, b_ab, a_b, b_a, meets_empty_left, meets_empty_right, union_empty_left)
+ruleset sets = (ab_a, a_ab, ab_b, b_ab, a_b, b_a, meets_empty_left, meets_empty_right, union_empty_left, places_without_groups)
 
 first : Settles (of_t1 Waiting ∷ []) (of_t1 Satisfied ∷ [])
 first = (write_at _ _ (of_t1 Waiting) (of_t1 Satisfied) refl refl refl refl, tt)
@@ -143,16 +145,16 @@ t3_normal : IsNormal t3
 t3_normal = record { sets = (refl, has_member b 1 (simp (contains_insert, contains_empty))); first = refl; len = omega arith; later = refl }
 
 abbrev s1 : LockState
-s1 = record { resources = 2; seats = 3; cap = 3; issued = 1; claims = of_t1 Satisfied ∷ [] }
+s1 = record { groups = no_groups 2; seats = 3; cap = 3; issued = 1; claims = of_t1 Satisfied ∷ [] }
 
 abbrev s2 : LockState
-s2 = record { resources = 2; seats = 3; cap = 3; issued = 2; claims = of_t1 Satisfied ∷ of_t2 Entitled ∷ [] }
+s2 = record { groups = no_groups 2; seats = 3; cap = 3; issued = 2; claims = of_t1 Satisfied ∷ of_t2 Entitled ∷ [] }
 
 abbrev s3 : LockState
-s3 = record { resources = 2; seats = 3; cap = 3; issued = 3; claims = of_t1 Satisfied ∷ of_t2 Entitled ∷ of_t3 Waiting ∷ [] }
+s3 = record { groups = no_groups 2; seats = 3; cap = 3; issued = 3; claims = of_t1 Satisfied ∷ of_t2 Entitled ∷ of_t3 Waiting ∷ [] }
 
-after_first : Outcome (opening 2 3 3) (Issue 0 t1) (of_t1 Satisfied ∷ [])
-after_first = outcome (opening 2 3 3) (Issue 0 t1) _ (sound_opening 2 3 3) t1_normal refl first
+after_first : Outcome (opening (no_groups 2) 3 3) (Issue 0 t1) (of_t1 Satisfied ∷ [])
+after_first = outcome (opening (no_groups 2) 3 3) (Issue 0 t1) _ (sound_opening (no_groups 2) 3 3) t1_normal refl first
 
 after_second : Outcome s1 (Issue 1 t2) (of_t1 Satisfied ∷ of_t2 Entitled ∷ [])
 after_second = outcome s1 (Issue 1 t2) _ after_first.sound t2_normal refl second
@@ -178,7 +180,7 @@ busy = refl
 full : refusal (record s3 { seats = 4 }) (Issue 3 t3) ≡ Some Full
 full = refl
 
-worked : (after (opening 2 3 3) (Issue 0 t1 ∷ Issue 1 t2 ∷ Issue 2 t3 ∷ Finish 0 ∷ [])).claims ≡ of_t2 Satisfied ∷ of_t3 Satisfied ∷ []
+worked : (after (opening (no_groups 2) 3 3) (Issue 0 t1 ∷ Issue 1 t2 ∷ Issue 2 t3 ∷ Finish 0 ∷ [])).claims ≡ of_t2 Satisfied ∷ of_t3 Satisfied ∷ []
 worked =
     ap (λ (s : LockState). (after s (Issue 1 t2 ∷ Issue 2 t3 ∷ Finish 0 ∷ [])).claims) after_first.is
     ∙ ap (λ (s : LockState). (after s (Issue 2 t3 ∷ Finish 0 ∷ [])).claims) after_second.is
@@ -186,7 +188,7 @@ worked =
     ∙ ap (λ (s : LockState). s.claims) after_fourth.is
 
 abbrev s4 : LockState
-s4 = record { resources = 2; seats = 3; cap = 3; issued = 3; claims = of_t2 Satisfied ∷ of_t3 Satisfied ∷ [] }
+s4 = record { groups = no_groups 2; seats = 3; cap = 3; issued = 3; claims = of_t2 Satisfied ∷ of_t3 Satisfied ∷ [] }
 
 some_a : is_subset a (empty {R = nat_cmp}) ≡ false
 some_a = false_from (is_subset a empty) (λ h. has_member a 0 (simp (contains_insert, contains_empty)) (empty_within a h))

@@ -2,7 +2,7 @@
 use Rattle.std.specs.Prelude.{◌≡◌, ◌≢◌, ◌≤◌, ℕ, Bool, true, false, ◌&&◌, List, []}
 use Rattle.std.specs.List.{list_any, count_by, AllByRecursion}
 use Rattle.rset.specs.Sets.{Set, meets}
-use Rattle.rexpand.specs.Groups.{is_declared, places_of}
+use Rattle.rexpand.specs.Groups.{ReadGroups}
 use Rattle.rclaim.specs.declared.claim.Claim.{Claim}
 use Rattle.rclaim.specs.declared.event.Event.{Event}
 use Rattle.rmodel.specs.declared.claimed.Claimed.{Claimed}
@@ -12,7 +12,7 @@ use Rattle.rmodel.specs.Rules.{is_earlier_write, Settles}
 use Rattle.rmodel.specs.Settling.{settled}
 use Rattle.rmodel.specs.State.{LockState, opening}
 use Rattle.rmodel.specs.Steps.{changed, after, Comes, AreAccepted}
-use Rattle.rmodel.specs.WellFormed.{AreWellFormed, AreExclusive}
+use Rattle.rmodel.specs.WellFormed.{AreWellFormed, AreExclusive, AreAdmittedBy}
 
 -- a list of claims settles to another, and to no third one
 pub record SettlesOnlyTo (s t : List Claimed) : Type 0 where
@@ -26,8 +26,8 @@ OneSettlement = (s : List Claimed) → AreWellFormed s → SettlesOnlyTo s (sett
 -- one settlement: the list that an event leaves, after any list of accepted events, settles in one way
 abbrev pub OneSettlementAStep : Type 0
 OneSettlementAStep =
-    (resources seats cap : ℕ) (events : List Event) (event : Event) → AreAccepted (opening resources seats cap) events → Comes (after (opening resources seats cap) events) event
-    → SettlesOnlyTo (changed (after (opening resources seats cap) events) event).claims (settled (changed (after (opening resources seats cap) events) event).claims)
+    (groups : ReadGroups) (seats cap : ℕ) (events : List Event) (event : Event) → AreAccepted (opening groups seats cap) events → Comes (after (opening groups seats cap) events) event
+    → SettlesOnlyTo (changed (after (opening groups seats cap) events) event).claims (settled (changed (after (opening groups seats cap) events) event).claims)
 
 -- writes are exclusive: of exclusive claims, what they settle to are exclusive claims
 abbrev pub SettlingIsExclusive : Type 0
@@ -41,18 +41,18 @@ pub record IsExclusive (s : LockState) (seat other : ℕ) : Type 0 where
 -- writes are exclusive: after any list of accepted events, what one request holds for writing no other request holds
 abbrev pub WritesAreExclusive : Type 0
 WritesAreExclusive =
-    (resources seats cap : ℕ) (events : List Event) → AreAccepted (opening resources seats cap) events
-    → (seat other : ℕ) → seat ≢ other → IsExclusive (after (opening resources seats cap) events) seat other
+    (groups : ReadGroups) (seats cap : ℕ) (events : List Event) → AreAccepted (opening groups seats cap) events
+    → (seat other : ℕ) → seat ≢ other → IsExclusive (after (opening groups seats cap) events) seat other
 
 -- settled is stable: whatever claims settle to settles to itself
 abbrev pub SettledIsStable : Type 0
 SettledIsStable = (s t : List Claimed) → Settles s t → Settles t t
 
--- settled is stable: after any list of accepted events, settling once more changes nothing
+-- settled is stable: after any list of accepted events the claims settle to themselves
 abbrev pub SettledIsStableAStep : Type 0
 SettledIsStableAStep =
-    (resources seats cap : ℕ) (events : List Event) → AreAccepted (opening resources seats cap) events
-    → Settles (after (opening resources seats cap) events).claims (after (opening resources seats cap) events).claims
+    (groups : ReadGroups) (seats cap : ℕ) (events : List Event) → AreAccepted (opening groups seats cap) events
+    → Settles (after (opening groups seats cap) events).claims (after (opening groups seats cap) events).claims
 
 -- some write of smaller stamp shares a place with c
 abbrev pub shares_with_earlier : List Claimed → Claim → Bool
@@ -69,8 +69,8 @@ EarliestIsEntitled = (s t : List Claimed) → Settles s t → EarliestAreEntitle
 -- the earliest write is entitled: so it is after any list of accepted events
 abbrev pub EarliestIsEntitledAStep : Type 0
 EarliestIsEntitledAStep =
-    (resources seats cap : ℕ) (events : List Event) → AreAccepted (opening resources seats cap) events
-    → EarliestAreEntitled (after (opening resources seats cap) events).claims
+    (groups : ReadGroups) (seats cap : ℕ) (events : List Event) → AreAccepted (opening groups seats cap) events
+    → EarliestAreEntitled (after (opening groups seats cap) events).claims
 
 -- somebody holds: of the claims that well-formed ones settle to, if there are any, some is satisfied
 abbrev pub SomebodyHolds : Type 0
@@ -84,17 +84,8 @@ pub record IsHeld (s : LockState) : Type 0 where
 -- somebody holds: after any list of accepted events
 abbrev pub SomebodyHoldsAStep : Type 0
 SomebodyHoldsAStep =
-    (resources seats cap : ℕ) (events : List Event) → AreAccepted (opening resources seats cap) events
-    → IsHeld (after (opening resources seats cap) events)
-
--- a claim is one that these groups admit: what a read claim reads is declared, and the places of a write claim are expanded by the groups
-pub record IsAdmittedBy (groups : List Set) (c : Claim) : Type 0 where
-  pub declared : c.write_half ≡ false → is_declared groups c.reads ≡ true
-  pub expanded : c.write_half ≡ true → c.places ≡ places_of groups c.reads c.writes
-
--- the claims of a list are such
-abbrev pub AreAdmittedBy : List Set → List Claimed → Type 0
-AreAdmittedBy groups xs = AllByRecursion (λ x. IsAdmittedBy groups x.claim) xs
+    (groups : ReadGroups) (seats cap : ℕ) (events : List Event) → AreAccepted (opening groups seats cap) events
+    → IsHeld (after (opening groups seats cap) events)
 
 -- an entitled or satisfied write that conflicts with c
 abbrev pub keeps_out : Claim → Claimed → Bool
@@ -107,3 +98,9 @@ AreKeptOutByOne xs = AllByRecursion (λ r. r.claim.write_half ≡ false → coun
 -- one write at most keeps a read waiting: so it is in what exclusive claims settle to, if groups admit them
 abbrev pub OneWriteAtMost : Type 0
 OneWriteAtMost = (groups : List Set) (s t : List Claimed) → AreExclusive s → AreAdmittedBy groups s → Settles s t → AreKeptOutByOne t
+
+-- one write at most keeps a read waiting: so it is after any list of accepted events
+abbrev pub OneWriteAtMostAStep : Type 0
+OneWriteAtMostAStep =
+    (groups : ReadGroups) (seats cap : ℕ) (events : List Event) → AreAccepted (opening groups seats cap) events
+    → AreKeptOutByOne (after (opening groups seats cap) events).claims
