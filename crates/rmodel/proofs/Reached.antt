@@ -16,16 +16,20 @@ use Rattle.rmodel.specs.Claims.{conflicts, touches, share_place, is_satisfied, i
 use Rattle.rmodel.specs.Rules.{is_earlier_write, is_kept_out, makes_way, may_enter, is_held_up, SettlesAt, Settles}
 use Rattle.rmodel.specs.State.{LockState, opening}
 use Rattle.rmodel.specs.Steps.{changed, next, after, Comes, AreAccepted}
-use Rattle.rmodel.specs.WellFormed.{EachPair, Rises, IsClaim, AreWellFormed, IsSound, Entered, Apart, AreExclusive}
+use Rattle.rmodel.specs.WellFormed.{EachPair, Rises, IsClaim, AreWellFormed, IsSound, Entered, Apart, AreExclusive, AreAdmittedBy}
 use Rattle.rmodel.proofs.ListFacts.{Among, contrary, false_from, none_among, all_among, all_from, zip_all, zip_among, pairs_append, pairs_filter, pairs_of_zip, pairs_both}
 use Rattle.rmodel.proofs.OneSettlement.{both_cases}
 use Rattle.rmodel.proofs.Settlement.{settles_settled, conflict_of_read}
+use Rattle.rmodel.proofs.Stable.{stable_settled}
+use Rattle.rmodel.proofs.Admitted.{admitted_settled, admitted_changed}
 use Rattle.rmodel.proofs.Soundness.{same_claims, same_claims_well_formed, one_claim, sound_changed, sound_settled, sound_opening}
 
 pub record IsReached (s : LockState) : Type 0 where
   pub sound : IsSound s
   pub entered : EachPair Entered s.claims
   pub apart : EachPair Apart s.claims
+  pub stable : Settles s.claims s.claims
+  pub admitted : AreAdmittedBy s.groups.groups s.claims
 
 -- ---- conflicts
 
@@ -231,6 +235,8 @@ reached_next s e reached comes =
       sound = sound_settled (changed s e) mid;
       entered = entered_settled (changed s e).claims (next s e).claims settles mid.well_formed entered apart;
       apart = apart_settled (changed s e).claims (next s e).claims settles mid.well_formed entered apart;
+      stable = stable_settled (changed s e).claims (next s e).claims settles;
+      admitted = admitted_settled (changed s e).groups.groups (changed s e).claims (next s e).claims (admitted_changed s e comes.fits reached.admitted) settles;
     }
 
 pub reached_after : (s : LockState) (es : List Event) → IsReached s → AreAccepted s es → IsReached (after s es)
@@ -238,4 +244,4 @@ reached_after s [] reached accepted = reached
 reached_after s (e ∷ es) reached accepted = reached_after (next s e) es (reached_next s e reached accepted.0) accepted.1
 
 pub reached_opening : (groups : ReadGroups) (seats cap : ℕ) → IsReached (opening groups seats cap)
-reached_opening groups seats cap = record { sound = sound_opening groups seats cap; entered = tt; apart = tt }
+reached_opening groups seats cap = record { sound = sound_opening groups seats cap; entered = tt; apart = tt; stable = tt; admitted = tt }

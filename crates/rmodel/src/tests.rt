@@ -8,7 +8,13 @@ use rset::{RESOURCES, ResourceSet};
 use std::test::Fail;
 
 // Issues a request about these resources, once all conditions of a step are tested.
-fn issue<M: Machine>(machine: &mut M, seat: u8, kind: Kind, reads: ResourceSet, writes: ResourceSet) -> Result<(), Fail>
+fn issue<M: Machine>(
+    machine: &mut M,
+    seat: u8,
+    kind: Kind,
+    reads: ResourceSet,
+    writes: ResourceSet,
+) -> Result<(), Fail>
     requires { (M.state machine.old).groups.q ≡ RESOURCES }
     ensures { (M.state machine.new).groups.q ≡ RESOURCES }
 {
