@@ -4,6 +4,7 @@ pub mod OneSettlement
 pub mod Settlement
 pub mod SettlingSteps
 pub mod ChangeSteps
+pub mod NewClaims
 pub mod Soundness
 pub mod Barred
 pub mod ChangesTold

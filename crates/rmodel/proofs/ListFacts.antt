@@ -212,6 +212,12 @@ module _ {X : Type 0} (R : X → X → Type 0) where
   pairs_append [] y pairs each = (tt, tt)
   pairs_append (x ∷ xs) y pairs each = (all_append (R x) xs (y ∷ []) pairs.0 (each.0, tt), pairs_append xs y pairs.1 each.1)
 
+  -- two lists behind one another, of which each of the first stands so to each of the second
+  pub pairs_append_all : (xs ys : List X) → EachPair R xs → EachPair R ys → ((x y : X) → Among x xs → Among y ys → R x y) → EachPair R (xs ++ ys)
+  pairs_append_all [] ys a b each = b
+  pairs_append_all (x ∷ xs) ys a b each =
+      (all_append (R x) xs ys a.0 (all_from (R x) ys (λ y there. each x y (inl refl) there)), pairs_append_all xs ys a.1 b (λ z y in_xs in_ys. each z y (inr in_xs) in_ys))
+
   pub pairs_filter : (p : X → Bool) (xs : List X) → EachPair R xs → EachPair R (filter p xs)
   pairs_filter p [] pairs = tt
   pairs_filter p (x ∷ xs) pairs = at (p x) (pairs_filter p xs pairs.1)
@@ -242,6 +248,10 @@ pub pairs_with : {X : Type 0} (P : X → Type 0) (Q R : X → X → Type 0) → 
 pairs_with P Q R gives [] all pairs = tt
 pairs_with P Q R gives (x ∷ xs) all pairs =
     (all_from (R x) xs (λ y there. gives x y all.0 (all_at P xs y all.1 there) (all_at (Q x) xs y pairs.0 there)), pairs_with P Q R gives xs all.1 pairs.1)
+
+pub all_map : {X Y : Type 0} (f : X → Y) (P : Y → Type 0) (xs : List X) → ((x : X) → Among x xs → P (f x)) → AllByRecursion P (map f xs)
+all_map f P [] each = tt
+all_map f P (x ∷ xs) each = (each x (inl refl), all_map f P xs (λ y there. each y (inr there)))
 
 pub all_filter : {X : Type 0} (P : X → Type 0) (p : X → Bool) (xs : List X) → AllByRecursion P xs → AllByRecursion P (filter p xs)
 all_filter P p xs all = all_from P (filter p xs) (λ x there. all_at P xs x all (among_filter p xs x there).0)

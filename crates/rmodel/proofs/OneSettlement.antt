@@ -23,8 +23,8 @@ status_told Satisfied Waiting s t = absurd (true≢false t)
 status_told Satisfied Entitled s t = absurd (true≢false s)
 status_told Satisfied Satisfied s t = refl
 
-told : (y z : Claimed) → y.claim ≡ z.claim → y.status ≡ z.status → y ≡ z
-told y z c e = (λ i. record { claim = c i; status = e i })
+told : (y z : Claimed) → y.claim ≡ z.claim → y.asked ≡ z.asked → y.granted ≡ z.granted → y.status ≡ z.status → y ≡ z
+told y z c a g e = (λ i. record { claim = c i; status = e i; asked = a i; granted = g i })
 
 pub both_cases : {P : Type 0} (b : Bool) → (b ≡ true → P) → (b ≡ false → P) → P
 both_cases true yes' no' = yes' refl
@@ -103,7 +103,7 @@ module _ (s t u : List Claimed) (to_t : Settles s t) (to_u : Settles s u) where
       own m = lt-ltb m (suc m) (omega arith)
 
   one_outcome : (x y z : Claimed) → SettlesAt s t x y → SettlesAt s u x z → SameSatisfied y z → y ≡ z
-  one_outcome x y z a b same = told y z same.claim (status_told y.status z.status same.satisfied (both_cases z.claim.write_half
+  one_outcome x y z a b same = told y z same.claim (a.asked ∙ sym b.asked) (a.granted ∙ sym b.granted) (status_told y.status z.status same.satisfied (both_cases z.claim.write_half
       (λ w. active_alike x y z a b (same_satisfied_alike z.claim.stamp t u same_satisfied) w)
       (λ r.
       a.kept_reads (ap (λ c. c.write_half) same.claim ∙ r)

@@ -171,6 +171,8 @@ third_pass busy x = with_status x (kept_status busy x)
 -- what the second pass makes of a claim, in the list that it leaves
 record Enters (w : List Claimed) (x y : Claimed) : Type 0 where
   same : y.claim ≡ x.claim
+  asked : y.asked ≡ x.asked
+  granted : y.granted ≡ x.granted
   reads : x.claim.write_half ≡ false → y.status ≡ x.status
   active : x.claim.write_half ≡ true → is_active y ≡ (is_active x || may_enter w x.claim)
   satisfied : x.claim.write_half ≡ true → is_satisfied y ≡ (is_satisfied x || (is_active y && not (is_held_up w x.claim)))
@@ -264,6 +266,8 @@ enters_from : (xs w : List Claimed) (x : Claimed) → AllByRecursion ReadsOnly x
 unfolding write_status
 enters_from xs w x only alike = record {
   same = refl;
+  asked = refl;
+  granted = refl;
   reads = second_read x.claim.write_half (has_way xs x.claim) (is_held_up xs x.claim) x.status;
   active = λ is.
       second_active x.claim.write_half (has_way xs x.claim) (is_held_up xs x.claim) x.status is
@@ -352,6 +356,8 @@ module _ (s : List Claimed) (well : AreWellFormed s) where
       let final : is_satisfied z ≡ is_satisfied y = third_satisfied y.claim.write_half (meets kept y.claim.reads) y.status in
       record {
         same = one;
+        asked = e.asked;
+        granted = e.granted;
         reads = λ r.
             final
             ∙ ap satisfied_by (e.reads (to_x false r))

@@ -41,7 +41,7 @@ settle_none done = append-nil done
 -- a pass that gives each claim the status f of it, as far as the place i, goes on by one
 pub map_step : (f : Claimed → Status) (xs ys : List Claimed) (i : ℕ) (x : Claimed) (status : Status)
     → i < length xs → ys ≡ map (λ y. with_status y (f y)) (take i xs) ++ drop i xs → x ≡ get_or ys i x → status ≡ f x
-    → set ys i (record { claim = (get_or ys i x).claim; status = status }) ≡ map (λ y. with_status y (f y)) (take (i + 1) xs) ++ drop (i + 1) xs
+    → set ys i (record (get_or ys i x) { status = status }) ≡ map (λ y. with_status y (f y)) (take (i + 1) xs) ++ drop (i + 1) xs
 map_step f xs ys i x status h so_far read is =
     ap (λ (z : Claimed). set ys i (with_status z status)) (sym read)
     ∙ ap (λ (v : Status). set ys i (with_status x v)) is
@@ -49,7 +49,7 @@ map_step f xs ys i x status h so_far read is =
 
 -- the same for the pass over the writes
 pub write_step : (xs : List Claimed) (i : ℕ) (x : Claimed) (status : Status) → i < length xs → status ≡ write_status xs (get_or xs i x)
-    → let ys = set xs i (record { claim = (get_or xs i x).claim; status = status }) in
+    → let ys = set xs i (record (get_or xs i x) { status = status }) in
     take (i + 1) ys ++ settle_rest (take (i + 1) ys) (drop (i + 1) ys) ≡ take i xs ++ settle_rest (take i xs) (drop i xs)
 write_step xs i x status h is =
     ap (λ (v : Status). let ys = set xs i (with_status (get_or xs i x) v) in take (i + 1) ys ++ settle_rest (take (i + 1) ys) (drop (i + 1) ys)) is

@@ -39,6 +39,8 @@ pub stable_settled : (s t : List Claimed) → Settles s t → Settles t t
 stable_settled s t settles = second_itself (SettlesAt s t) (SettlesAt t t)
     (λ x y at. record {
       same = refl;
+      asked = refl;
+      granted = refl;
       reads = λ r. kept_out_again _ _ (is_kept_out s y.claim) (is_kept_out t y.claim) (at.reads r) (still_kept_out s t settles y.claim);
       entitlement = λ w. asked_again _ _ _ (at.entitlement w);
       satisfaction = λ w. asked_again _ _ _ (at.satisfaction w);

@@ -2,6 +2,7 @@
 use Rattle.std.specs.Prelude.{ℕ, Bool, not, ◌&&◌, ◌==◌, Option, Some, None, unwrap_or, List, [], ◌∷◌, ◌++◌, find, if◌then◌else◌}
 use Rattle.std.specs.List.{filter_map}
 use Rattle.std.specs.Option.{option_map, option_to_list}
+use Rattle.std.specs.FinSet.{empty}
 use Rattle.rclaim.specs.Changes.{ChangeLists}
 use Rattle.rclaim.specs.Codes.{number_of}
 use Rattle.rclaim.specs.declared.changes.StatusChange.{StatusChange}
@@ -29,9 +30,9 @@ claim_at xs seat write_half = find (is_claim_of seat write_half) xs
 abbrev pub status_in : List Claimed → ℕ → Bool → Option Status
 status_in xs seat write_half = option_map (λ x. x.status) (claim_at xs seat write_half)
 
--- a claim as it was in a list; a new claim was waiting
+-- a claim as it was in a list; a new claim was waiting, with nothing granted
 abbrev pub was_in : List Claimed → Claim → Claimed
-was_in xs c = unwrap_or (claim_at xs c.seat c.write_half) (waiting c)
+was_in xs c = unwrap_or (claim_at xs c.seat c.write_half) (waiting empty c)
 
 -- the change of status of a claim, if there is one
 abbrev pub status_change : Claimed → Claimed → Option StatusChange

@@ -1,28 +1,31 @@
 -- Claims: what a request claims, its places, and when two claims conflict.
-use Rattle.std.specs.Prelude.{◌≡◌, ℕ, Bool, true, false, ◌||◌, List, [], ◌∷◌}
+use Rattle.std.specs.Prelude.{◌≡◌, ℕ, Bool, true, false, not, ◌&&◌, ◌||◌, List, [], ◌∷◌}
+use Rattle.std.specs.FinSet.{empty, intersection}
 use Rattle.rset.specs.Sets.{Set, meets}
 use Rattle.rexpand.specs.Groups.{places_of, is_declared}
 use Rattle.rclaim.specs.Requests.{RequestFields}
 use Rattle.rclaim.specs.declared.request.Kind.{Kind}
-use Rattle.rclaim.specs.declared.request.Kind.TheVariants.{Read, Write, Mixed}
+use Rattle.rclaim.specs.declared.request.Kind.TheVariants.{Read, Write, Mixed, Upgrade, Nested}
 use Rattle.rclaim.specs.declared.claim.Claim.{Claim}
 use Rattle.rclaim.specs.declared.claim.Status.{Status}
 use Rattle.rclaim.specs.declared.claim.Status.TheVariants.{Waiting, Entitled, Satisfied}
 use Rattle.rmodel.specs.declared.claimed.Claimed.{Claimed}
 
--- a request of this kind is admitted, where its set must be declared, if that is so: that of a read must
-abbrev pub admitted_by : List Set → Kind → Set → Bool
-admitted_by groups Read reads = is_declared groups reads
-admitted_by groups Write reads = true
-admitted_by groups Mixed reads = true
+-- the set of a read and of an upgrade must be declared
+abbrev pub needs_declared : Kind → Bool
+needs_declared Read = true
+needs_declared Write = false
+needs_declared Mixed = false
+needs_declared Upgrade = true
+needs_declared Nested = false
 
--- a request is admitted: what it reads, if it is a read, is declared
+-- a request is admitted: its set is declared where it must be
 abbrev pub is_admitted : List Set → RequestFields → Bool
-is_admitted groups r = admitted_by groups r.kind r.reads
+is_admitted groups r = not (needs_declared r.kind) || is_declared groups r.reads
 
--- a read of a set that is not declared
+-- the set of a request must be declared, and is not
 abbrev pub IsUndeclared : List Set → RequestFields → Type 0
-IsUndeclared groups r = (r.kind ≡ Read) × (is_declared groups r.reads ≡ false)
+IsUndeclared groups r = (needs_declared r.kind ≡ true) × (is_declared groups r.reads ≡ false)
 
 -- the places of a claim: those of a read claim are what it reads,
 -- those of a write claim are what it reads and what is shared with each resource that it writes
@@ -30,20 +33,43 @@ abbrev pub claim_places : List Set → Bool → Set → Set → Set
 claim_places groups false reads writes = reads
 claim_places groups true reads writes = places_of groups reads writes
 
--- the read claim, or the write claim, of a request, at a stamp and a seat
-abbrev pub claim_of : List Set → Bool → ℕ → ℕ → RequestFields → Claim
-claim_of groups write_half stamp seat r =
-    record { stamp = stamp; seat = seat; kind = r.kind; write_half = write_half; reads = r.reads; writes = r.writes; places = claim_places groups write_half r.reads r.writes }
+-- a read claim, or a write claim, of a request of this kind, at a stamp and a seat
+abbrev pub claim_of : List Set → Bool → ℕ → ℕ → Kind → Set → Set → Claim
+claim_of groups write_half stamp seat kind reads writes =
+    record { stamp = stamp; seat = seat; kind = kind; write_half = write_half; reads = reads; writes = writes; places = claim_places groups write_half reads writes }
 
--- the claims of a request of this kind: a read makes a read claim, a write and a mixed request make a write claim
-abbrev pub claims_by : List Set → Kind → ℕ → ℕ → RequestFields → List Claim
-claims_by groups Read stamp seat r = claim_of groups false stamp seat r ∷ []
-claims_by groups Write stamp seat r = claim_of groups true stamp seat r ∷ []
-claims_by groups Mixed stamp seat r = claim_of groups true stamp seat r ∷ []
+-- the claims of a request of this kind that reads and writes this: a read makes a read claim; a write, a mixed and a nested request make a write claim;
+-- an upgrade makes a read claim that reads its set, and a write claim that writes it
+abbrev pub claims_by : List Set → Kind → ℕ → ℕ → Set → Set → List Claim
+claims_by groups Read stamp seat reads writes = claim_of groups false stamp seat Read reads writes ∷ []
+claims_by groups Write stamp seat reads writes = claim_of groups true stamp seat Write reads writes ∷ []
+claims_by groups Mixed stamp seat reads writes = claim_of groups true stamp seat Mixed reads writes ∷ []
+claims_by groups Upgrade stamp seat reads writes = claim_of groups false stamp seat Upgrade reads empty ∷ claim_of groups true stamp seat Upgrade empty reads ∷ []
+claims_by groups Nested stamp seat reads writes = claim_of groups true stamp seat Nested reads writes ∷ []
 
 -- the claims of a request
 abbrev pub claims_of : List Set → ℕ → ℕ → RequestFields → List Claim
-claims_of groups stamp seat r = claims_by groups r.kind stamp seat r
+claims_of groups stamp seat r = claims_by groups r.kind stamp seat r.reads r.writes
+
+-- a kind is that of a nested request
+abbrev pub is_nested : Kind → Bool
+is_nested Read = false
+is_nested Write = false
+is_nested Mixed = false
+is_nested Upgrade = false
+is_nested Nested = true
+
+-- a kind is that of an upgrade
+abbrev pub is_upgrade : Kind → Bool
+is_upgrade Read = false
+is_upgrade Write = false
+is_upgrade Mixed = false
+is_upgrade Upgrade = true
+is_upgrade Nested = false
+
+-- a claim is the read half of an upgrade: it stands in the list until the upgrade rises
+abbrev pub is_read_half : Claim → Bool
+is_read_half c = is_upgrade c.kind && not c.write_half
 
 -- a claim reads or writes one of these resources
 abbrev pub touches : Claim → Set → Bool
@@ -52,6 +78,11 @@ touches c s = meets c.reads s || meets c.writes s
 -- two claims conflict where what one writes meets what the other reads or writes
 abbrev pub conflicts : Claim → Claim → Bool
 conflicts a b = touches b a.writes || touches a b.writes
+
+-- a claim conflicts with an asker on a part of what that reads and writes, where it writes some of the part,
+-- or reads or writes some of the part that the asker writes
+abbrev pub conflicts_on : Claim → Claim → Set → Bool
+conflicts_on c asker part = meets c.writes part || touches c (intersection part asker.writes)
 
 -- two claims share a place
 abbrev pub share_place : Claim → Claim → Bool
@@ -77,6 +108,6 @@ is_satisfied x = satisfied_by x.status
 abbrev pub is_active : Claimed → Bool
 is_active x = active_by x.status
 
--- a claim that waits
-abbrev pub waiting : Claim → Claimed
-waiting c = record { claim = c; status = Waiting }
+-- a claim that waits, asks for this part, and was granted nothing
+abbrev pub waiting : Set → Claim → Claimed
+waiting first c = record { claim = c; status = Waiting; asked = first; granted = empty }

@@ -20,7 +20,11 @@ claim_code =
     (λ _. refl)
 
 abbrev pub claimed_code : Coded Claimed
-claimed_code = code_by (Claim × Status) (coded× claim_code status_code) (λ x. (x.claim, x.status)) (λ p. record { claim = p.0; status = p.1 }) (λ _. refl)
+claimed_code =
+    code_by (Claim × (Status × (Set × Set))) (coded× claim_code (coded× status_code (coded× set_code set_code)))
+    (λ x. (x.claim, (x.status, (x.asked, x.granted))))
+    (λ p. record { claim = p.0; status = p.1.0; asked = p.1.1.0; granted = p.1.1.1 })
+    (λ _. refl)
 
 abbrev pub state_code : Coded LockState
 state_code =

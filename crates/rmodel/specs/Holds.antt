@@ -1,10 +1,12 @@
 -- What requests hold.
-use Rattle.std.specs.Prelude.{ℕ, Bool, ◌&&◌, ◌==◌, List, fold, if◌then◌else◌}
+use Rattle.std.specs.Prelude.{ℕ, Bool, ◌&&◌, ◌==◌, nat_lt, List, fold, if◌then◌else◌}
 use Rattle.std.specs.List.{list_any}
-use Rattle.std.specs.FinSet.{empty, union, len, is_subset}
+use Rattle.std.specs.FinSet.{empty, union, intersection, len, is_subset}
+use Rattle.rset.specs.Sets.{Set}
+use Rattle.rclaim.specs.Requests.{is_part}
 use Rattle.rmodel.specs.declared.claimed.Claimed.{Claimed}
 use Rattle.rmodel.specs.declared.granted.Granted.{Granted}
-use Rattle.rmodel.specs.Claims.{is_satisfied}
+use Rattle.rmodel.specs.Claims.{is_satisfied, is_nested, is_read_half}
 
 -- nothing is held
 abbrev pub nothing : Granted
@@ -22,9 +24,11 @@ is_nothing g = (len g.reads == 0) && (len g.writes == 0)
 abbrev pub is_within : Granted → Granted → Bool
 is_within a b = is_subset a.reads b.reads && is_subset a.writes b.writes
 
--- what a claim holds: a satisfied one what it reads and writes
+-- what a claim holds: that of a nested request what it was granted, another what it reads and writes once it is satisfied
 abbrev pub held_by : Claimed → Granted
-held_by x = if is_satisfied x then record { reads = x.claim.reads; writes = x.claim.writes } else nothing
+held_by x =
+    if is_nested x.claim.kind then record { reads = intersection x.granted x.claim.reads; writes = intersection x.granted x.claim.writes }
+    else (if is_satisfied x then record { reads = x.claim.reads; writes = x.claim.writes } else nothing)
 
 -- what the request of a seat holds: what its claims hold
 unfoldable pub holds_of : List Claimed → ℕ → Granted
@@ -33,3 +37,19 @@ holds_of xs seat = fold (λ all x. if x.claim.seat == seat then both all (held_b
 -- a seat has an incomplete request
 abbrev pub has_request : List Claimed → ℕ → Bool
 has_request xs seat = list_any (λ x. x.claim.seat == seat) xs
+
+-- an ask of the request of a seat is pending
+abbrev pub has_ask : List Claimed → ℕ → Bool
+has_ask xs seat = list_any (λ x. (x.claim.seat == seat) && nat_lt 0 (len x.asked)) xs
+
+-- the request of a seat is an upgrade that has not risen
+abbrev pub may_rise : List Claimed → ℕ → Bool
+may_rise xs seat = list_any (λ x. (x.claim.seat == seat) && is_read_half x.claim) xs
+
+-- the request of a seat is nested
+abbrev pub may_ask : List Claimed → ℕ → Bool
+may_ask xs seat = list_any (λ x. (x.claim.seat == seat) && is_nested x.claim.kind) xs
+
+-- a set is a part, not empty, of what the request of a seat reads and writes
+abbrev pub is_part_of : List Claimed → ℕ → Set → Bool
+is_part_of xs seat part = list_any (λ x. (x.claim.seat == seat) && is_part part (union x.claim.reads x.claim.writes)) xs

@@ -1,6 +1,7 @@
 -- How the plain machine keeps its lock state, and what it keeps true.
 use Rattle.std.specs.Prelude.{◌≤◌, vec_capacity}
 use Rattle.rset.specs.declared.TheConstants.{SEATS}
+use Rattle.rclaim.specs.declared.TheConstants.{STATUS_ROOM}
 use Rattle.rmodel.specs.declared.plain.Plain.TheInside.{Inside}
 use Rattle.rmodel.specs.State.{LockState}
 use Rattle.rmodel.specs.Machine.{Standing}
@@ -18,5 +19,6 @@ standing_of a = record { state = state_of a; last = a.changes }
 pub record IsKept (a : Inside) : Type 0 where
   pub sound : IsSound (state_of a)
   pub cap : a.cap ≤ SEATS
-  pub claims_room : SEATS ≤ vec_capacity a.claims
-  pub before_room : SEATS ≤ vec_capacity a.before
+  pub seats : a.seats ≤ SEATS
+  pub claims_room : STATUS_ROOM ≤ vec_capacity a.claims
+  pub before_room : STATUS_ROOM ≤ vec_capacity a.before

@@ -37,6 +37,8 @@ is_kept xs c = list_any (λ v. v.claim.write_half && is_satisfied v && conflicts
 -- the rules at one claim: x as it is in s, y as it is in t
 pub record SettlesAt (s t : List Claimed) (x y : Claimed) : Type 0 where
   pub same : y.claim ≡ x.claim
+  pub asked : y.asked ≡ x.asked
+  pub granted : y.granted ≡ x.granted
   -- a read is satisfied in t exactly where it was in s, or no entitled or satisfied write of s conflicts with it
   pub reads : y.claim.write_half ≡ false → is_satisfied y ≡ (is_satisfied x || not (is_kept_out s y.claim))
   -- a write is entitled or satisfied in t exactly where it was in s, or each write of t of smaller stamp that shares a place with it makes way

@@ -13,7 +13,7 @@ use Rattle.rmodel.specs.Rules.{is_earlier_write, is_held_up}
 
 -- a claim with another status
 abbrev pub with_status : Claimed → Status → Claimed
-with_status x status = record { claim = x.claim; status = status }
+with_status x status = record x { status = status }
 
 -- what the entitled and satisfied writes write
 unfoldable pub written_by_active : List Claimed → Set

@@ -1,13 +1,14 @@
 -- Well-formed lists of claims: stamps rise, and each claim is one of a request.
-use Rattle.std.specs.Prelude.{◌≡◌, ◌≢◌, ◌<◌, ◌≤◌, true, false, length, List, [], ◌∷◌}
+use Rattle.std.specs.Prelude.{◌≡◌, ◌≢◌, ◌<◌, ◌≤◌, true, false, List, [], ◌∷◌}
 use Rattle.std.specs.List.{AllByRecursion}
-use Rattle.std.specs.FinSet.{empty, is_subset}
+use Rattle.std.specs.FinSet.{empty, union, is_subset}
 use Rattle.rclaim.specs.declared.claim.Claim.{Claim}
 use Rattle.rmodel.specs.declared.claimed.Claimed.{Claimed}
 use Rattle.rset.specs.Sets.{Set, meets}
 use Rattle.rexpand.specs.Groups.{is_declared, places_of}
-use Rattle.rmodel.specs.Claims.{share_place, conflicts, is_active, is_satisfied}
+use Rattle.rmodel.specs.Claims.{share_place, conflicts, is_active, is_satisfied, is_nested, is_read_half, is_upgrade}
 use Rattle.rmodel.specs.State.{LockState}
+use Rattle.rmodel.specs.Steps.{incomplete_of}
 
 -- each element stands in this relation to each that comes after it
 abbrev pub EachPair : {X : Type 0} → (X → X → Type 0) → List X → Type 0
@@ -59,13 +60,34 @@ pub record IsAdmittedBy (groups : List Set) (c : Claim) : Type 0 where
 abbrev pub AreAdmittedBy : List Set → List Claimed → Type 0
 AreAdmittedBy groups xs = AllByRecursion (λ x. IsAdmittedBy groups x.claim) xs
 
--- the request of one claim is at another seat than that of the other
-abbrev pub SeatsDiffer : Claimed → Claimed → Type 0
-SeatsDiffer x y = x.claim.seat ≢ y.claim.seat
+-- the first claim is the read half of an upgrade and the second its write half
+pub record AreHalves (x y : Claim) : Type 0 where
+  pub stamp : x.stamp ≡ y.stamp
+  pub reads : is_read_half x ≡ true
+  pub upgrade : is_upgrade y.kind ≡ true
+  pub writes : y.write_half ≡ true
+  pub same : y.writes ≡ x.reads
 
--- a lock state is sound: its claims are well formed, with stamps that were given out, at most one for each seat, and no more than the cap
+-- two claims of one seat are the halves of its upgrade
+abbrev pub Distinct : Claimed → Claimed → Type 0
+Distinct x y = x.claim.seat ≡ y.claim.seat → AreHalves x.claim y.claim
+
+-- what a claim asks for and was granted: parts of what a nested request reads and writes, and nothing for another;
+-- a nested request always asks for something or was granted something, and nothing is granted to a claim that waits
+pub record HasParts (x : Claimed) : Type 0 where
+  pub of_others : is_nested x.claim.kind ≡ false → (x.asked ≡ empty) × (x.granted ≡ empty)
+  pub writes : is_nested x.claim.kind ≡ true → x.claim.write_half ≡ true
+  pub some : is_nested x.claim.kind ≡ true → union x.granted x.asked ≢ empty
+  pub asked : is_subset x.asked (union x.claim.reads x.claim.writes) ≡ true
+  pub granted : is_subset x.granted (union x.claim.reads x.claim.writes) ≡ true
+  pub waits : is_active x ≡ false → x.granted ≡ empty
+
+-- a lock state is sound: its claims are well formed, with stamps that were given out, of seats that there are, each seat with those of one request at most,
+-- and no more requests than the cap
 pub record IsSound (s : LockState) : Type 0 where
   pub well_formed : AreWellFormed s.claims
   pub given_out : AllByRecursion (λ x. x.claim.stamp < s.issued) s.claims
-  pub one_each : EachPair SeatsDiffer s.claims
-  pub within_cap : length s.claims ≤ s.cap
+  pub seated : AllByRecursion (λ x. x.claim.seat < s.seats) s.claims
+  pub one_each : EachPair Distinct s.claims
+  pub parts : AllByRecursion HasParts s.claims
+  pub within_cap : incomplete_of s ≤ s.cap

@@ -1,27 +1,31 @@
 // A claim of the lock state, with how far it has come.
 ghost use Rattle.std.specs.Prelude.{◌≡◌};
-ghost use Rattle.rmodel.specs.Claims.{is_active, is_satisfied, conflicts, touches, share_place, waiting};
+ghost use Rattle.rmodel.specs.Claims.{is_active, is_satisfied, is_nested, is_read_half, conflicts, conflicts_on, touches, share_place, waiting};
 ghost use Rattle.rmodel.specs.Holds.{held_by};
 
 use crate::Granted;
-use rclaim::{Claim, Status};
+use rclaim::{Claim, Kind, Status};
 use rset::ResourceSet;
 
-/// A claim and its status.
+/// A claim, its status, and for a nested request what it asks for and what it was granted.
 #[derive(Clone, Copy)]
 pub(crate) struct Claimed {
     pub(crate) claim: Claim,
     pub(crate) status: Status,
+    pub(crate) asked: ResourceSet,
+    pub(crate) granted: ResourceSet,
 }
 
 impl Claimed {
-    /// A claim that waits.
-    pub(crate) fn waiting(claim: Claim) -> Claimed
-        ensures { result ≡ waiting claim }
+    /// A claim that waits, asks for this part, and was granted nothing.
+    pub(crate) fn waiting(first: ResourceSet, claim: Claim) -> Claimed
+        ensures { result ≡ waiting first claim }
     {
         Claimed {
             claim,
             status: Status::Waiting,
+            asked: first,
+            granted: ResourceSet::empty(),
         }
     }
 
@@ -29,7 +33,12 @@ impl Claimed {
     pub(crate) fn held(&self) -> Granted
         ensures { result ≡ held_by self.now }
     {
-        if self.is_satisfied() {
+        if is_nested(self.claim.kind) {
+            Granted {
+                reads: self.granted.meet(self.claim.reads),
+                writes: self.granted.meet(self.claim.writes),
+            }
+        } else if self.is_satisfied() {
             Granted {
                 reads: self.claim.reads,
                 writes: self.claim.writes,
@@ -54,6 +63,20 @@ impl Claimed {
     }
 }
 
+/// Whether a request of this kind is nested.
+pub(crate) fn is_nested(kind: Kind) -> bool
+    ensures { result ≡ is_nested kind }
+{
+    matches!(kind, Kind::Nested)
+}
+
+/// Whether the claim is the read half of an upgrade.
+pub(crate) fn is_read_half(claim: &Claim) -> bool
+    ensures { result ≡ is_read_half claim.now }
+{
+    matches!(claim.kind, Kind::Upgrade) && !claim.write_half
+}
+
 /// Whether the claim reads or writes one of these resources.
 pub(crate) fn touches(claim: &Claim, resources: ResourceSet) -> bool
     ensures { result ≡ touches claim.now resources }
@@ -66,6 +89,13 @@ pub(crate) fn conflicts(a: &Claim, b: &Claim) -> bool
     ensures { result ≡ conflicts a.now b.now }
 {
     touches(b, a.writes) || touches(a, b.writes)
+}
+
+/// Whether the claim conflicts with an asker on a part of what that reads and writes.
+pub(crate) fn conflicts_on(claim: &Claim, asker: &Claim, part: ResourceSet) -> bool
+    ensures { result ≡ conflicts_on claim.now asker.now part }
+{
+    claim.writes.meets(part) || touches(claim, part.meet(asker.writes))
 }
 
 /// Whether the claims share a place.

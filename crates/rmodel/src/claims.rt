@@ -1,44 +1,50 @@
 // From requests to claims.
-ghost use Rattle.std.specs.Prelude.{◌≡◌, ◌↔◌, IsTrue, IsOk, IsErrOf, [], ◌∷◌};
+ghost use Rattle.std.specs.Prelude.{◌≡◌, ◌≤◌, ◌+◌, ◌++◌, ◌↔◌, IsTrue, IsOk, IsErrOf, length, map, vec_capacity};
 ghost use Rattle.rset.specs.Sets.{all_below};
 ghost use Rattle.rclaim.specs.Requests.{IsNormal};
-ghost use Rattle.rmodel.specs.Claims.{is_admitted, IsUndeclared, claims_of};
+ghost use Rattle.rmodel.specs.Claims.{is_admitted, IsUndeclared, needs_declared, claim_of, claims_of, waiting};
 
+use crate::claimed::Claimed;
 use rclaim::{Claim, Kind, Request, RequestErr};
 use rexpand::Groups;
+use rset::ResourceSet;
 
-/// Admits a request under read groups, or not. A read is admitted where its set is declared: it has one member, or it
-/// lies inside one group. Every other request is admitted.
+/// Whether the set of a request of this kind must be declared.
+fn needs_declared(kind: Kind) -> bool
+    ensures { result ≡ needs_declared kind }
+{
+    matches!(kind, Kind::Read | Kind::Upgrade)
+}
+
+/// Admits a request under read groups, or not. A read and an upgrade are admitted where their set is declared: it has
+/// one member, or it lies inside one group. Every other request is admitted.
 ///
 /// # Errors
 ///
-/// `Undeclared` exactly where the set of a read is not declared.
+/// `Undeclared` exactly where the set of a read or of an upgrade is not declared.
 pub fn admit(groups: &Groups, request: &Request) -> Result<(), RequestErr>
     ensures admitted { IsOk result ↔ IsTrue (is_admitted groups.now.groups request.now) }
     ensures undeclared { IsErrOf result RequestErr.Undeclared ↔ IsUndeclared groups.now.groups request.now }
 {
-    match request.kind() {
-        Kind::Read => {
-            if groups.declared(request.reads()) {
-                Ok(())
-            } else {
-                Err(RequestErr::Undeclared)
-            }
-        }
-        Kind::Write | Kind::Mixed => Ok(()),
+    if needs_declared(request.kind()) && !groups.declared(request.reads()) {
+        return Err(RequestErr::Undeclared);
     }
+    Ok(())
 }
 
-/// The claim of a request.
-pub(crate) fn claim_of(groups: &Groups, stamp: u64, seat: u8, request: &Request) -> Claim
-    requires { IsTrue (all_below groups.now.q request.now.writes) }
-    ensures value { claims_of groups.now.groups stamp seat request.now ≡ result ∷ [] }
-    ensures normal { IsNormal request.now }
+// A read claim, or a write claim, at a stamp and a seat.
+fn claim_of(
+    groups: &Groups,
+    write_half: bool,
+    stamp: u64,
+    seat: u8,
+    kind: Kind,
+    reads: ResourceSet,
+    writes: ResourceSet,
+) -> Claim
+    requires { IsTrue (all_below groups.now.q writes) }
+    ensures { result ≡ claim_of groups.now.groups write_half stamp seat kind reads writes }
 {
-    let kind = request.kind();
-    let reads = request.reads();
-    let writes = request.writes();
-    let write_half = !matches!(kind, Kind::Read);
     let places = if write_half {
         groups.places(reads, writes)
     } else {
@@ -52,5 +58,37 @@ pub(crate) fn claim_of(groups: &Groups, stamp: u64, seat: u8, request: &Request)
         reads,
         writes,
         places,
+    }
+}
+
+/// Adds the claims of a request, waiting, behind the others.
+pub(crate) fn push_claims(claims: &mut Vec<Claimed>, groups: &Groups, stamp: u64, seat: u8, request: &Request)
+    requires reads { IsTrue (all_below groups.now.q request.now.reads) }
+    requires writes { IsTrue (all_below groups.now.q request.now.writes) }
+    requires room { length claims.old.items + length (claims_of groups.now.groups stamp seat request.now) ≤ vec_capacity claims.old }
+    ensures items { claims.new.items ≡ claims.old.items ++ map (waiting request.now.first) (claims_of groups.now.groups stamp seat request.now) }
+    ensures capacity { vec_capacity claims.new ≡ vec_capacity claims.old }
+    ensures normal { IsNormal request.now }
+{
+    let kind = request.kind();
+    let reads = request.reads();
+    let writes = request.writes();
+    let first = request.first();
+    let none = ResourceSet::empty();
+    match kind {
+        Kind::Read => {
+            let claim = claim_of(groups, false, stamp, seat, kind, reads, writes);
+            claims.push_reserved(Claimed::waiting(first, claim));
+        }
+        Kind::Write | Kind::Mixed | Kind::Nested => {
+            let claim = claim_of(groups, true, stamp, seat, kind, reads, writes);
+            claims.push_reserved(Claimed::waiting(first, claim));
+        }
+        Kind::Upgrade => {
+            let read_half = claim_of(groups, false, stamp, seat, kind, reads, none);
+            let write_half = claim_of(groups, true, stamp, seat, kind, none, reads);
+            claims.push_reserved(Claimed::waiting(first, read_half));
+            claims.push_reserved(Claimed::waiting(first, write_half));
+        }
     }
 }

@@ -7,6 +7,7 @@
 
 mod claimed;
 mod claims;
+mod give;
 mod granted;
 pub mod laws;
 mod list;

@@ -1,11 +1,15 @@
 // What a list of claims tells, and changes of one.
-ghost use Rattle.std.specs.Prelude.{◌≡◌, ◌==◌, ◌≤◌, not, length, vec_capacity, vec_len, filter};
-ghost use Rattle.rmodel.specs.Holds.{holds_of, has_request};
+ghost use Rattle.std.specs.Prelude.{◌≡◌, ◌==◌, ◌≤◌, ◌&&◌, not, length, map, vec_capacity, vec_len, filter};
+ghost use Rattle.std.specs.List.{count_by};
+ghost use Rattle.rmodel.specs.Claims.{is_read_half};
+ghost use Rattle.rmodel.specs.Holds.{holds_of, has_request, has_ask, may_rise, may_ask, is_part_of};
+ghost use Rattle.rmodel.specs.Steps.{asking, is_not_holding};
 ghost use Rattle.rmodel.specs.Changes.{status_in};
 
 use crate::Granted;
-use crate::claimed::Claimed;
+use crate::claimed::{Claimed, is_nested, is_read_half};
 use rclaim::Status;
+use rset::ResourceSet;
 
 /// Whether the seat has an incomplete request.
 pub(crate) fn has_request(claims: &[Claimed], seat: u8) -> bool
@@ -36,6 +40,75 @@ pub(crate) fn status_in(claims: &[Claimed], seat: u8, write_half: bool) -> Optio
         .iter()
         .find(|x| x.claim.seat == seat && x.claim.write_half == write_half)
         .map(|x| x.status)
+}
+
+/// The number of incomplete requests: each has one claim that is no read half.
+pub(crate) fn incomplete(claims: &[Claimed]) -> usize
+    ensures { result ≡ count_by (λ x. not (is_read_half x.claim)) claims.now }
+{
+    claims.iter().filter(|x| !is_read_half(&x.claim)).count()
+}
+
+/// Whether the seat holds nothing, or an ask of it is pending.
+pub(crate) fn is_not_holding(claims: &[Claimed], seat: u8) -> bool
+    ensures { result ≡ is_not_holding claims.now seat }
+{
+    holds_of(claims, seat).is_nothing() || has_ask(claims, seat)
+}
+
+/// Whether an ask of the seat's request is pending.
+pub(crate) fn has_ask(claims: &[Claimed], seat: u8) -> bool
+    ensures { result ≡ has_ask claims.now seat }
+{
+    claims
+        .iter()
+        .any(|x| x.claim.seat == seat && x.asked.len() > 0)
+}
+
+/// Whether the seat's request is an upgrade that has not risen.
+pub(crate) fn may_rise(claims: &[Claimed], seat: u8) -> bool
+    ensures { result ≡ may_rise claims.now seat }
+{
+    claims
+        .iter()
+        .any(|x| x.claim.seat == seat && is_read_half(&x.claim))
+}
+
+/// Whether the seat's request is nested.
+pub(crate) fn may_ask(claims: &[Claimed], seat: u8) -> bool
+    ensures { result ≡ may_ask claims.now seat }
+{
+    claims
+        .iter()
+        .any(|x| x.claim.seat == seat && is_nested(x.claim.kind))
+}
+
+/// Whether the set is a part, not empty, of what the seat's request reads and writes.
+pub(crate) fn is_part_of(claims: &[Claimed], seat: u8, part: ResourceSet) -> bool
+    ensures { result ≡ is_part_of claims.now seat part }
+{
+    claims.iter().any(|x| {
+        x.claim.seat == seat && part.len() > 0 && part.within(x.claim.reads.union(x.claim.writes))
+    })
+}
+
+/// Lets the request of the seat ask for a part.
+pub(crate) fn ask(claims: &mut [Claimed], seat: u8, part: ResourceSet)
+    ensures { claims.new ≡ map (asking seat part) claims.old }
+{
+    for x in claims.iter_mut() {
+        if x.claim.seat == seat {
+            x.asked = part;
+        }
+    }
+}
+
+/// Removes the read half of the seat's upgrade.
+pub(crate) fn remove_read_half(claims: &mut Vec<Claimed>, seat: u8)
+    ensures items { claims.new.items ≡ filter (λ x. not ((x.claim.seat == seat) && not x.claim.write_half)) claims.old.items }
+    ensures capacity { vec_capacity claims.new ≡ vec_capacity claims.old }
+{
+    claims.retain(|x| !(x.claim.seat == seat && !x.claim.write_half));
 }
 
 /// Removes the claims of the seat.

@@ -4,9 +4,9 @@ ghost use Rattle.rset.specs.declared.TheConstants.{SEATS};
 ghost use Rattle.rclaim.specs.Changes.{ChangeLists, no_changes};
 ghost use Rattle.rclaim.specs.Events.{IsNormalEvent};
 ghost use Rattle.rmodel.specs.Changes.{changes_between, status_in};
-ghost use Rattle.rmodel.specs.Holds.{holds_of, has_request, is_nothing};
+ghost use Rattle.rmodel.specs.Holds.{holds_of, has_request};
 ghost use Rattle.rmodel.specs.State.{LockState, opening};
-ghost use Rattle.rmodel.specs.Steps.{Fits, Accepts, Steps, refusal, next, incomplete_of};
+ghost use Rattle.rmodel.specs.Steps.{Fits, Accepts, Steps, refusal, next, incomplete_of, is_not_holding};
 
 use crate::{Granted, Refused};
 use rclaim::{Changes, Event, Status};
@@ -56,9 +56,9 @@ pub trait Machine {
     fn granted(&self, seat: u8) -> Granted
         ensures { result ≡ holds_of (state self.now).claims seat };
 
-    /// Whether the seat has a request that holds nothing.
+    /// Whether the seat has a request that holds nothing, or of which an ask is pending.
     fn pending(&self, seat: u8) -> bool
-        ensures { result ≡ (has_request (state self.now).claims seat && is_nothing (holds_of (state self.now).claims seat)) };
+        ensures { result ≡ (has_request (state self.now).claims seat && is_not_holding (state self.now).claims seat) };
 
     /// Whether the seat has no incomplete request.
     fn idle(&self, seat: u8) -> bool

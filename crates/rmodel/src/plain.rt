@@ -2,21 +2,27 @@
 ghost use Rattle.std.specs.Prelude.{◌≡◌};
 ghost use Rattle.rclaim.specs.Events.{IsNormalEvent};
 ghost use Rattle.rmodel.specs.Changes.{status_changes, grant_changes};
-ghost use Rattle.rmodel.specs.Steps.{Fits, Accepts, refusal, changed};
+ghost use Rattle.rmodel.specs.Steps.{Fits, Accepts, refusal, changed, given};
 ghost use Rattle.rmodel.specs.Settling.{settled};
 ghost use Rattle.rmodel.specs.WellFormed.{IsSound};
 
 use crate::claimed::Claimed;
-use crate::claims::claim_of;
-use crate::list::{copy_into, has_request, holds_of, remove_seat, status_in};
+use crate::claims::push_claims;
+use crate::give::give;
+use crate::list::{
+    ask, copy_into, has_request, holds_of, incomplete, is_not_holding, is_part_of, may_ask,
+    may_rise, remove_read_half, remove_seat, status_in,
+};
 use crate::settle::settle;
 use crate::tell::tell_changes;
 use crate::{Granted, Machine, Refused};
-use rclaim::{Changes, Event, Status};
+use rclaim::{Changes, Event, STATUS_ROOM, Status};
 use rexpand::Groups;
-use rset::SEATS;
 use std::alloc::{AllocError, Global};
 use std::marker::Model;
+
+// The most claims that there are at once: two for each seat.
+const CLAIMS: usize = STATUS_ROOM;
 
 /// A machine over a plain list of claims. All its room is made when it is made.
 #[derive(Drop)]
@@ -51,8 +57,8 @@ impl Machine for Plain {
 
     fn new(alloc: Global, groups: Groups, seats: u8, cap: u8) -> Result<Plain, AllocError> {
         Ok(Plain {
-            claims: Vec::with_capacity(alloc, SEATS as usize)?,
-            before: Vec::with_capacity(alloc, SEATS as usize)?,
+            claims: Vec::with_capacity(alloc, CLAIMS)?,
+            before: Vec::with_capacity(alloc, CLAIMS)?,
             changes: Changes::new(alloc)?,
             groups,
             issued: 0,
@@ -79,7 +85,7 @@ impl Machine for Plain {
     }
 
     fn pending(&self, seat: u8) -> bool {
-        has_request(&self.claims, seat) && holds_of(&self.claims, seat).is_nothing()
+        has_request(&self.claims, seat) && is_not_holding(&self.claims, seat)
     }
 
     fn idle(&self, seat: u8) -> bool {
@@ -91,7 +97,7 @@ impl Machine for Plain {
     }
 
     fn incomplete(&self) -> u8 {
-        self.claims.len() as u8
+        incomplete(&self.claims) as u8
     }
 
     fn issued(&self) -> u64 {
@@ -121,11 +127,26 @@ impl Plain {
                 if has_request(&self.claims, *seat) {
                     return Some(Refused::SeatBusy);
                 }
-                (self.claims.len() == self.cap as usize).then_some(Refused::Full)
+                (incomplete(&self.claims) == self.cap as usize).then_some(Refused::Full)
             }
-            Event::Finish { seat } => holds_of(&self.claims, *seat)
-                .is_nothing()
-                .then_some(Refused::NotHolding),
+            Event::Finish { seat } => {
+                is_not_holding(&self.claims, *seat).then_some(Refused::NotHolding)
+            }
+            Event::Rise { seat } => {
+                if is_not_holding(&self.claims, *seat) {
+                    return Some(Refused::NotHolding);
+                }
+                (!may_rise(&self.claims, *seat)).then_some(Refused::NotUpgradeable)
+            }
+            Event::Ask { seat, set } => {
+                if is_not_holding(&self.claims, *seat) {
+                    return Some(Refused::NotHolding);
+                }
+                if !may_ask(&self.claims, *seat) {
+                    return Some(Refused::NotNested);
+                }
+                (!is_part_of(&self.claims, *seat, *set)).then_some(Refused::AskOutside)
+            }
         }
     }
 
@@ -139,22 +160,24 @@ impl Plain {
     {
         match event {
             Event::Issue { seat, request } => {
-                let claim = claim_of(&self.groups, self.issued, *seat, request);
-                self.claims.push_reserved(Claimed::waiting(claim));
+                push_claims(&mut self.claims, &self.groups, self.issued, *seat, request);
                 self.issued += 1;
             }
             Event::Finish { seat } => remove_seat(&mut self.claims, *seat),
+            Event::Rise { seat } => remove_read_half(&mut self.claims, *seat),
+            Event::Ask { seat, set } => ask(&mut self.claims, *seat, *set),
         }
     }
 
-    // Settles the claims once, and tells the changes.
+    // Settles the claims once, grants what is asked for, and tells the changes.
     fn settle(&mut self)
-        ensures state { self.new.state ≡ record self.old.state { claims = settled self.old.state.claims } }
+        ensures state { self.new.state ≡ record self.old.state { claims = given (settled self.old.state.claims) } }
         ensures statuses { self.new.last.statuses ≡ status_changes self.old.state.claims self.new.state.claims }
         ensures grants { self.new.last.grants ≡ grant_changes self.old.state.claims self.new.state.claims }
     {
         copy_into(&mut self.before, &self.claims);
         settle(&mut self.claims);
+        give(&mut self.claims);
         tell_changes(&self.before, &self.claims, &mut self.changes);
     }
 }

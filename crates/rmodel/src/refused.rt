@@ -10,7 +10,16 @@ pub enum Refused {
     /// As many requests are incomplete as may be.
     #[error("as many requests are incomplete as may be")]
     Full = 2,
-    /// The seat holds nothing.
-    #[error("the seat holds nothing")]
+    /// The seat holds nothing, or an ask of it is pending.
+    #[error("the seat holds nothing, or an ask of it is pending")]
     NotHolding = 3,
+    /// The seat's request is no upgrade, or it has risen.
+    #[error("the seat's request is no upgrade, or it has risen")]
+    NotUpgradeable = 4,
+    /// The seat's request is not nested.
+    #[error("the seat's request is not nested")]
+    NotNested = 5,
+    /// What is asked for is empty, or not within what the request reads and writes.
+    #[error("what is asked for is empty, or not within what the request reads and writes")]
+    AskOutside = 6,
 }

@@ -14,7 +14,7 @@ pub loop-i-preserved : goal.loop-i-preserved
 loop-i-preserved c =
     let xs = c.loop-i.claims in
     let d = c.index-claims-i.result in
-    let y : Claimed = record { claim = (get_or xs c.loop-i.i d).claim; status = c.write_status_at-status.result } in
+    let y : Claimed = record (get_or xs c.loop-i.i d) { status = c.write_status_at-status.result } in
     let within : c.loop-i.i < length xs = omega arith in (
       write_step xs c.loop-i.i d c.write_status_at-status.result within (c.write_status_at-status.ensures d) ∙ c.loop-i.invariant.0,
       well_set xs c.loop-i.i d y within refl c.loop-i.invariant.1,

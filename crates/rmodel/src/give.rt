@@ -1,0 +1,61 @@
+// What is asked for is granted, where it comes to a claim.
+ghost use Rattle.std.specs.Prelude.{◌≡◌, ◌<◌, length, slice_index_or, vec_capacity};
+ghost use Rattle.rmodel.specs.declared.claimed.Claimed.{Claimed};
+ghost use Rattle.rmodel.specs.Steps.{is_kept_from, gets_asked, with_asked, given};
+
+use crate::claimed::{Claimed, conflicts_on};
+use rclaim::Claim;
+use rset::ResourceSet;
+
+/// Whether some satisfied claim conflicts with the claim on this part.
+fn is_kept_from(claims: &[Claimed], claim: &Claim, part: ResourceSet) -> bool
+    ensures { result ≡ is_kept_from claims.now claim.now part }
+{
+    claims
+        .iter()
+        .any(|v| v.is_satisfied() && conflicts_on(&v.claim, claim, part))
+}
+
+/// Whether what the claim asks for comes to it.
+fn gets_asked(claims: &[Claimed], x: &Claimed) -> bool
+    ensures { result ≡ gets_asked claims.now x.now }
+{
+    x.is_satisfied() || x.is_active() && !is_kept_from(claims, &x.claim, x.asked)
+}
+
+/// The claim at a place with what it asks for granted, if that comes to it.
+fn with_asked_at(claims: &[Claimed], i: usize) -> Claimed
+    requires { i < length claims.now }
+    ensures { (d : Claimed) → result ≡ with_asked claims.now (slice_index_or claims.now i d) }
+{
+    let x = claims[i];
+    if gets_asked(claims, &x) {
+        Claimed {
+            asked: ResourceSet::empty(),
+            granted: x.granted.union(x.asked),
+            ..x
+        }
+    } else {
+        x
+    }
+}
+
+/// Grants what is asked for, where it comes to a claim.
+fn give_all(claims: &mut [Claimed])
+    ensures { claims.new ≡ given claims.old }
+{
+    for i in 0..claims.len() {
+        if claims[i].asked.len() > 0 {
+            claims[i] = with_asked_at(claims, i);
+        }
+    }
+}
+
+/// Grants what is asked for, where it comes to a claim of the list.
+pub(crate) fn give(claims: &mut Vec<Claimed>)
+    ensures items { claims.new.items ≡ given claims.old.items }
+    ensures len { length claims.new.items ≡ length claims.old.items }
+    ensures capacity { vec_capacity claims.new ≡ vec_capacity claims.old }
+{
+    give_all(claims);
+}
