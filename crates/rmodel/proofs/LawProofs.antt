@@ -1,13 +1,15 @@
 -- The laws.
 use Rattle.rmodel.specs.Laws.{OneSettlement, OneSettlementAStep, SettlingIsExclusive, WritesAreExclusive}
-use Rattle.rmodel.specs.Laws.{SettledIsStable, SettledIsStableAStep, EarliestIsEntitled, EarliestIsEntitledAStep, SomebodyHolds, SomebodyHoldsAStep, OneWriteAtMost, OneWriteAtMostAStep}
+use Rattle.rmodel.specs.Laws.{SettledIsStable, SettledIsStableAStep, EarliestIsEntitled, EarliestIsEntitledAStep, SomebodyHolds, SomebodyHoldsAStep, OneWriteAtMost, OneWriteAtMostAStep, TakingTurns, TakingTurnsAStep}
 use Rattle.rmodel.specs.State.{opening}
 use Rattle.rmodel.specs.Settling.{settled}
 use Rattle.rmodel.specs.Steps.{changed, after}
 use Rattle.rmodel.proofs.OneSettlement.{only_one}
 use Rattle.rmodel.proofs.Settlement.{settles_settled}
 use Rattle.rmodel.proofs.Soundness.{sound_changed}
-use Rattle.rmodel.proofs.Reached.{exclusive_settled, reached_after, reached_opening}
+use Rattle.rmodel.proofs.Keeping.{exclusive_settled}
+use Rattle.rmodel.proofs.Reached.{reached_after, reached_opening}
+use Rattle.rmodel.proofs.Turns.{halves_take_turns, halves_take_turns_settled}
 use Rattle.rmodel.proofs.Exclusive.{exclusive}
 use Rattle.rmodel.proofs.Stable.{stable_settled}
 use Rattle.rmodel.proofs.Earliest.{earliest}
@@ -22,7 +24,7 @@ pub one_settlement_a_step : OneSettlementAStep
 one_settlement_a_step groups seats cap events event accepted comes =
     let s = after (opening groups seats cap) events in
     let reached = reached_after (opening groups seats cap) events (reached_opening groups seats cap) accepted in
-    one_settlement (changed s event).claims (sound_changed s event reached.sound comes.normal comes.accepted).well_formed
+    one_settlement (changed s event).claims (sound_changed s event reached.sound comes).well_formed
 
 pub settling_is_exclusive : SettlingIsExclusive
 settling_is_exclusive = exclusive_settled
@@ -60,3 +62,15 @@ one_write_at_most_a_step groups seats cap events accepted =
     let s = after (opening groups seats cap) events in
     let reached = reached_after (opening groups seats cap) events (reached_opening groups seats cap) accepted in
     one_write s.groups.groups s.claims (record { well_formed = reached.sound.well_formed; entered = reached.entered; apart = reached.apart }) reached.admitted
+
+pub taking_turns : TakingTurns
+taking_turns = halves_take_turns_settled
+
+pub taking_turns_a_step : TakingTurnsAStep
+taking_turns_a_step groups seats cap events accepted =
+    let s = after (opening groups seats cap) events in
+    let reached = reached_after (opening groups seats cap) events (reached_opening groups seats cap) accepted in
+    record {
+      halves = reached.sound.one_each;
+      turns = halves_take_turns s.claims (record { well_formed = reached.sound.well_formed; entered = reached.entered; apart = reached.apart }) reached.sound.one_each reached.turns;
+    }

@@ -11,12 +11,16 @@ pub mod ChangesTold
 pub mod PlainSteps
 pub mod Stable
 pub mod Admitted
+pub mod Keeping
+pub mod OneWrite
+pub mod Turns
+pub mod EarlyGrants
+pub mod Standing
 pub mod Reached
 pub mod Exclusive
 pub mod Earliest
 pub mod Somebody
 pub mod Something
-pub mod OneWrite
 pub mod LawProofs
 pub mod Histories
 mod WorkedCase

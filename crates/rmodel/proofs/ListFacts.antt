@@ -161,6 +161,13 @@ module _ {X Y : Type 0} where
   zip_among R (x ∷ xs) (y ∷ ys) zip =
       ((zip.0, inl refl, inl refl), zip_weaker (λ a b. R a b × Among a xs × Among b ys) (λ a b. R a b × Among a (x ∷ xs) × Among b (y ∷ ys)) (λ a b h. (h.0, inr h.1, inr h.2)) xs ys (zip_among R xs ys zip.1))
 
+  -- what stands beside an element of the first list
+  pub zip_partner : (R : X → Y → Type 0) (xs : List X) (ys : List Y) (x : X) → AllZip R xs ys → Among x xs → (y : Y) × Among y ys × R x y
+  zip_partner R [] ys x zip there = absurd there
+  zip_partner R (z ∷ xs) [] x zip there = absurd zip
+  zip_partner R (z ∷ xs) (y ∷ ys) x zip (inl same) = (y, inl refl, subst (λ (w : X). R w y) (sym same) zip.0)
+  zip_partner R (z ∷ xs) (y ∷ ys) x zip (inr later) = let found = zip_partner R xs ys x zip.1 later in (found.0, inr found.1, found.2)
+
   -- a family of relations at once
   pub zip_each : {N : Type 0} (R : N → X → Y → Type 0) (xs : List X) (ys : List Y) → ((n : N) → AllZip (R n) xs ys) → N → AllZip (λ x y. (n : N) → R n x y) xs ys
   zip_each R [] [] zip n = tt
@@ -233,6 +240,16 @@ module _ {X : Type 0} (R : X → X → Type 0) where
   pair_among (z ∷ zs) x y pairs (inl a) (inr b) = inr (inl (subst (λ (w : X). R w y) (sym a) (all_at (R z) zs y pairs.0 b)))
   pair_among (z ∷ zs) x y pairs (inr a) (inl b) = inr (inr (subst (λ (w : X). R w x) (sym b) (all_at (R z) zs x pairs.0 a)))
   pair_among (z ∷ zs) x y pairs (inr a) (inr b) = pair_among zs x y pairs.1 a b
+
+-- what any two elements of which this holds stand in
+pub pairs_from_all : {X : Type 0} (P : X → Type 0) (R : X → X → Type 0) → ((x y : X) → P x → P y → R x y) → (xs : List X) → AllByRecursion P xs → EachPair R xs
+pairs_from_all P R gives [] all = tt
+pairs_from_all P R gives (x ∷ xs) all = (all_from (R x) xs (λ y there. gives x y all.0 (all_at P xs y all.1 there)), pairs_from_all P R gives xs all.1)
+
+-- a list beside itself
+pub all_of_itself : {X : Type 0} (R : X → X → Type 0) (xs : List X) → AllZip R xs xs → AllByRecursion (λ x. R x x) xs
+all_of_itself R [] zip = tt
+all_of_itself R (x ∷ xs) zip = (zip.0, all_of_itself R xs zip.1)
 
 -- two facts of each pair at once
 pub pairs_both : {X : Type 0} (P Q R : X → X → Type 0) → ((x y : X) → P x y → Q x y → R x y) → (xs : List X) → EachPair P xs → EachPair Q xs → EachPair R xs

@@ -15,10 +15,10 @@ use Rattle.rmodel.specs.Claims.{conflicts, share_place, is_active}
 use Rattle.rmodel.specs.Rules.{Settles}
 use Rattle.rmodel.specs.Laws.{keeps_out, AreKeptOutByOne}
 use Rattle.rmodel.specs.WellFormed.{EachPair, IsClaim, Entered, AreExclusive, IsAdmittedBy, AreAdmittedBy}
-use Rattle.rmodel.proofs.ListFacts.{contrary, false_from, all_at, all_from, pairs_with}
+use Rattle.rmodel.proofs.ListFacts.{Among, contrary, false_from, all_at, all_from, pairs_with}
 use Rattle.rmodel.proofs.Settlement.{conflict_of_read}
 use Rattle.rmodel.proofs.Admitted.{admitted_settled}
-use Rattle.rmodel.proofs.Reached.{conflicts_symmetric, exclusive_settled}
+use Rattle.rmodel.proofs.Keeping.{conflicts_symmetric, exclusive_settled}
 
 -- ---- at most one of a list
 
@@ -71,18 +71,22 @@ module _ (groups : List Set) (r : Claim) (fit : IsFit groups r) (is_read : r.wri
       let shared : share_place v.claim w.claim ≡ true = meets_within_left v.claim.writes v.claim.places w.claim.places (fit_v.is_claim.writes_placed first_v.0) written in
       contrary (meets v.claim.writes w.claim.places) written (entered first_v.0 first_w.0 shared first_w.1).1)
 
--- claims that are exclusive and admitted
-pub one_write : (groups : List Set) (xs : List Claimed) → AreExclusive xs → AreAdmittedBy groups xs → AreKeptOutByOne xs
-one_write groups xs exclusive admitted =
-    all_from (λ r. r.claim.write_half ≡ false → count_by (keeps_out r.claim) xs ≤ 1) xs (λ r there is_read.
-    one_counts (keeps_out r.claim) xs
-    (pairs_with (λ x. IsFit groups x.claim) Entered _ (not_both groups r.claim (all_at _ xs r fit there) is_read) xs fit exclusive.entered))
+-- of claims that are exclusive and admitted, no two writes keep a read claim out
+pub one_keeps : (groups : List Set) (xs : List Claimed) → AreExclusive xs → AreAdmittedBy groups xs → (r : Claimed) → Among r xs → r.claim.write_half ≡ false
+    → EachPair (λ v w. keeps_out r.claim v ≡ true → keeps_out r.claim w ≡ false) xs
+one_keeps groups xs exclusive admitted r there is_read =
+    pairs_with (λ x. IsFit groups x.claim) Entered _ (not_both groups r.claim (all_at _ xs r fit there) is_read) xs fit exclusive.entered
   where
     fit : AllByRecursion (λ x. IsFit groups x.claim) xs
     fit = all_from _ xs (λ x there. record {
       is_claim = all_at (λ x. IsClaim x.claim) xs x exclusive.well_formed.claims there;
       admitted = all_at (λ x. IsAdmittedBy groups x.claim) xs x admitted there;
     })
+
+pub one_write : (groups : List Set) (xs : List Claimed) → AreExclusive xs → AreAdmittedBy groups xs → AreKeptOutByOne xs
+one_write groups xs exclusive admitted =
+    all_from (λ r. r.claim.write_half ≡ false → count_by (keeps_out r.claim) xs ≤ 1) xs
+    (λ r there is_read. one_counts (keeps_out r.claim) xs (one_keeps groups xs exclusive admitted r there is_read))
 
 pub one_write_settled : (groups : List Set) (s t : List Claimed) → AreExclusive s → AreAdmittedBy groups s → Settles s t → AreKeptOutByOne t
 one_write_settled groups s t exclusive admitted settles = one_write groups t (exclusive_settled s t exclusive settles) (admitted_settled groups s t admitted settles)

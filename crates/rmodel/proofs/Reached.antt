@@ -1,28 +1,31 @@
 -- What holds of each lock state that a list of accepted events leads to.
-use Rattle.std.proofs.Common.{◌≡◌, ℕ, ◌<◌, ◌==◌, Bool, true, false, not, ◌&&◌, ◌||◌, nat_lt, List, [], ◌∷◌, ◌++◌, map, refl, sym, ap, subst, ◌∙◌, inl, inr}
-use Rattle.std.proofs.lemmas.Bool.{true≢false, or_cases, or_left, or_right, and_parts, and_from, lt-ltb}
-use Rattle.std.specs.List.{AllZip}
-use Rattle.rset.specs.Sets.{Set, meets}
+use Rattle.std.proofs.Common.{◌≡◌, ℕ, ◌==◌, Bool, true, false, not, ◌&&◌, ◌||◌, cond, List, [], ◌∷◌, ◌++◌, map, refl, sym, ap, subst, ◌∙◌, inl, inr}
+use Rattle.std.proofs.lemmas.Bool.{true≢false, or_left, or_parts, and_parts}
+use Rattle.std.specs.List.{AllZip, AllByRecursion}
+use Rattle.std.specs.FinSet.{empty, union}
+use Rattle.rset.specs.Sets.{Set}
 use Rattle.rexpand.specs.Groups.{ReadGroups}
-use Rattle.rset.proofs.SetLemmas.{meets_symmetric, meets_empty_right, meets_within_left, meets_within_right}
-use Rattle.rclaim.specs.Events.{IsNormalEvent}
-use Rattle.rclaim.specs.declared.claim.Claim.{Claim}
-use Rattle.rclaim.specs.declared.claim.Status.{Status}
-use Rattle.rclaim.specs.declared.claim.Status.TheVariants.{Waiting, Entitled, Satisfied}
+use Rattle.rclaim.specs.Requests.{RequestFields}
 use Rattle.rclaim.specs.declared.event.Event.{Event}
-use Rattle.rclaim.specs.declared.event.Event.TheVariants.{Issue, Finish}
+use Rattle.rclaim.specs.declared.event.Event.TheVariants.{Issue, Finish, Rise, Ask}
 use Rattle.rmodel.specs.declared.claimed.Claimed.{Claimed}
-use Rattle.rmodel.specs.Claims.{conflicts, touches, share_place, is_satisfied, is_active, satisfied_by, active_by, waiting}
-use Rattle.rmodel.specs.Rules.{is_earlier_write, is_kept_out, makes_way, may_enter, is_held_up, SettlesAt, Settles}
+use Rattle.rmodel.specs.Claims.{claims_of, conflicts_on, is_satisfied, is_active, satisfied_by, active_by, waiting}
+use Rattle.rmodel.specs.Rules.{Settles}
+use Rattle.rmodel.specs.Settling.{settled}
 use Rattle.rmodel.specs.State.{LockState, opening}
-use Rattle.rmodel.specs.Steps.{changed, next, after, Comes, AreAccepted}
-use Rattle.rmodel.specs.WellFormed.{EachPair, Rises, IsClaim, AreWellFormed, IsSound, Entered, Apart, AreExclusive, AreAdmittedBy}
-use Rattle.rmodel.proofs.ListFacts.{Among, contrary, false_from, none_among, all_among, all_from, zip_all, zip_among, pairs_append, pairs_filter, pairs_of_zip, pairs_both}
+use Rattle.rmodel.specs.Steps.{changed, next, after, asking, is_kept_from, gets_asked, with_asked, given, Comes, AreAccepted}
+use Rattle.rmodel.specs.WellFormed.{EachPair, IsSound, Entered, Apart, AreAdmittedBy, AreExclusive, TakeTurns, IsFreeOf, AreFree}
+use Rattle.rmodel.proofs.ListFacts.{Among, contrary, none_among, all_at, all_map, zip_among, zip_weaker, zip_map_right, zip_same, pairs_append_all, pairs_filter, pairs_from_all, pairs_of_zip}
+use Rattle.rmodel.proofs.NewClaims.{IsNew, new_claims}
 use Rattle.rmodel.proofs.OneSettlement.{both_cases}
-use Rattle.rmodel.proofs.Settlement.{settles_settled, conflict_of_read}
+use Rattle.rmodel.proofs.Settlement.{settles_settled}
 use Rattle.rmodel.proofs.Stable.{stable_settled}
-use Rattle.rmodel.proofs.Admitted.{admitted_settled, admitted_changed}
-use Rattle.rmodel.proofs.Soundness.{same_claims, same_claims_well_formed, one_claim, sound_changed, sound_settled, sound_opening}
+use Rattle.rmodel.proofs.Admitted.{admitted_settled, admitted_changed, admitted_given}
+use Rattle.rmodel.proofs.Keeping.{entered_settled, apart_settled, not_false}
+use Rattle.rmodel.proofs.Turns.{turns_settled}
+use Rattle.rmodel.proofs.EarlyGrants.{free_settled, none_on_both, none_on_nothing}
+use Rattle.rmodel.proofs.Standing.{SameStanding, settles_standing, entered_standing, apart_standing, turns_standing, asking_standing, given_standing}
+use Rattle.rmodel.proofs.Soundness.{sound_changed, sound_settled, sound_next, sound_opening}
 
 pub record IsReached (s : LockState) : Type 0 where
   pub sound : IsSound s
@@ -30,213 +33,156 @@ pub record IsReached (s : LockState) : Type 0 where
   pub apart : EachPair Apart s.claims
   pub stable : Settles s.claims s.claims
   pub admitted : AreAdmittedBy s.groups.groups s.claims
-
--- ---- conflicts
-
-or_swap : (a b : Bool) → (a || b) ≡ (b || a)
-or_swap true true = refl
-or_swap true false = refl
-or_swap false true = refl
-or_swap false false = refl
-
-pub conflicts_symmetric : (a b : Claim) → conflicts a b ≡ conflicts b a
-conflicts_symmetric a b = or_swap (touches b a.writes) (touches a b.writes)
-
--- what a write touches meets its places
-touches_places : (a : Claim) (s : Set) → IsClaim a → a.write_half ≡ true → touches a s ≡ true → meets a.places s ≡ true
-touches_places a s is w t =
-    elim (or_cases (meets a.reads s) (meets a.writes s) t) [
-      | inl r ↦ meets_within_left a.reads a.places s (is.reads_placed w) r
-      | inr r ↦ meets_within_left a.writes a.places s (is.writes_placed w) r
-    ]
-
--- two writes that conflict share a place
-conflict_shares : (a b : Claim) → IsClaim a → IsClaim b → a.write_half ≡ true → b.write_half ≡ true → conflicts a b ≡ true → share_place a b ≡ true
-conflict_shares a b is_a is_b wa wb h =
-    elim (or_cases (touches b a.writes) (touches a b.writes) h) [
-      | inl t ↦ meets_symmetric a.places b.places ∙ meets_within_right b.places a.writes a.places (is_a.writes_placed wa) (touches_places b a.writes is_b wb t)
-      | inr t ↦ meets_within_right a.places b.writes b.places (is_b.writes_placed wb) (touches_places a b.writes is_a wa t)
-    ]
-
--- two reads do not conflict
-reads_apart : (a b : Claim) → IsClaim a → IsClaim b → a.write_half ≡ false → b.write_half ≡ false → conflicts a b ≡ false
-reads_apart a b is_a is_b ra rb =
-    conflict_of_read a b (is_a.read_only ra) ∙ ap (meets a.reads) (is_b.read_only rb) ∙ meets_empty_right a.reads
-
-active_of_satisfied : (a : Status) → satisfied_by a ≡ true → active_by a ≡ true
-active_of_satisfied Waiting h = absurd (true≢false (sym h))
-active_of_satisfied Entitled h = refl
-active_of_satisfied Satisfied h = refl
-
-not_false : (b : Bool) → not b ≡ true → b ≡ false
-not_false true h = sym h
-not_false false h = refl
-
--- ---- one settlement keeps them
-
-module _ (s t : List Claimed) where
-  -- a claim before and after the settlement
-  record Moves (x y : Claimed) : Type 0 where
-    by_rule : SettlesAt s t x y
-    in_s : Among x s
-    in_t : Among y t
-    is_claim : IsClaim y.claim
-
-  -- a pair of claims before the settlement
-  record Before (x x' : Claimed) : Type 0 where
-    rises : Rises x x'
-    entered : Entered x x'
-    apart : Apart x x'
-
-  entered_after : (x x' y y' : Claimed) → Before x x' → Moves x y → Moves x' y' → Entered y y'
-  entered_after x x' y y' b m m' w w' share active =
-      elim (or_cases (is_active x') (may_enter t y'.claim) (sym (m'.by_rule.entitlement w') ∙ active)) [
-        | inl was ↦
-            let had = b.entered (ap (λ c. c.write_half) (sym m.by_rule.same) ∙ w) (ap (λ c. c.write_half) (sym m'.by_rule.same) ∙ w')
-            ((λ i. share_place (sym m.by_rule.same i) (sym m'.by_rule.same i)) ∙ share) was in (
-              m.by_rule.satisfaction w ∙ ap (λ a. a || (is_active y && not (is_held_up t y.claim))) had.0,
-              (λ i. meets (m.by_rule.same i).writes (m'.by_rule.same i).places) ∙ had.1,
-            )
-        | inr enters ↦
-            let way = all_among (λ v. not (is_earlier_write y'.claim v.claim && share_place v.claim y'.claim) || makes_way t y'.claim v) t y enters m.in_t in
-            let stamps : x.claim.stamp < x'.claim.stamp = b.rises.after_write (ap (λ c. c.write_half) (sym m.by_rule.same) ∙ w) in
-            let below : y.claim.stamp < y'.claim.stamp =
-            subst (λ (c : Claim). c.stamp < y'.claim.stamp) (sym m.by_rule.same) (subst (λ (c : Claim). x.claim.stamp < c.stamp) (sym m'.by_rule.same) stamps) in
-            let earlier : (is_earlier_write y'.claim y.claim && share_place y.claim y'.claim) ≡ true =
-            and_from (is_earlier_write y'.claim y.claim) (share_place y.claim y'.claim)
-            (and_from y.claim.write_half (nat_lt y.claim.stamp y'.claim.stamp) w (lt-ltb y.claim.stamp y'.claim.stamp below)) share in
-            let made : makes_way t y'.claim y ≡ true = ap (λ e. not e || makes_way t y'.claim y) (sym earlier) ∙ way in
-            let parts = and_parts (is_satisfied y && not (meets y.claim.writes y'.claim.places)) _ made in
-            let first = and_parts (is_satisfied y) (not (meets y.claim.writes y'.claim.places)) parts.0 in
-            (first.0, not_false (meets y.claim.writes y'.claim.places) first.1)
-      ]
-
-  -- a write that is newly satisfied conflicts with no satisfied read and no earlier satisfied write
-  newly_apart : (x y z : Claimed) → Moves x y → Among z t → y.claim.write_half ≡ true → is_satisfied y ≡ true → is_satisfied x ≡ false → is_satisfied z ≡ true
-      → (not z.claim.write_half || is_earlier_write y.claim z.claim) ≡ true → conflicts z.claim y.claim ≡ false
-  newly_apart x y z m in_t w sat was sat_z counts =
-      let new : (is_active y && not (is_held_up t y.claim)) ≡ true = ap (λ a. a || (is_active y && not (is_held_up t y.claim))) (sym was) ∙ sym (m.by_rule.satisfaction w) ∙ sat in
-      let free : is_held_up t y.claim ≡ false = not_false (is_held_up t y.claim) (and_parts (is_active y) (not (is_held_up t y.claim)) new).1 in
-      let none = none_among (λ v. is_satisfied v && (not v.claim.write_half || is_earlier_write y.claim v.claim) && conflicts v.claim y.claim) t z free in_t in
-      sym (ap (λ a. a && conflicts z.claim y.claim) (and_from (is_satisfied z) (not z.claim.write_half || is_earlier_write y.claim z.claim) sat_z counts)) ∙ none
-
-  -- a read that is newly satisfied conflicts with no write that was active
-  read_apart : (x y z : Claimed) → Moves x y → Among z s → y.claim.write_half ≡ false → is_satisfied y ≡ true → is_satisfied x ≡ false → z.claim.write_half ≡ true → is_active z ≡ true
-      → conflicts z.claim y.claim ≡ false
-  read_apart x y z m in_s r sat was w act =
-      let free : is_kept_out s y.claim ≡ false
-      = not_false (is_kept_out s y.claim) (ap (λ a. a || not (is_kept_out s y.claim)) (sym was) ∙ sym (m.by_rule.reads r) ∙ sat) in
-      let none = none_among (λ v. v.claim.write_half && is_active v && conflicts v.claim y.claim) s z free in_s in
-      sym (ap (λ a. a && conflicts z.claim y.claim) (and_from z.claim.write_half (is_active z) w act)) ∙ none
-
-  -- two claims that both were satisfied
-  still_apart : (x x' y y' : Claimed) → Before x x' → Moves x y → Moves x' y' → is_satisfied x ≡ true → is_satisfied x' ≡ true → conflicts y.claim y'.claim ≡ false
-  still_apart x x' y y' b m m' was was' = (λ i. conflicts (m.by_rule.same i) (m'.by_rule.same i)) ∙ b.apart was was'
-
-  write_and_read : (x x' y y' : Claimed) → Before x x' → Moves x y → Moves x' y' → y.claim.write_half ≡ true → y'.claim.write_half ≡ false → is_satisfied y ≡ true → is_satisfied y' ≡ true
-      → conflicts y.claim y'.claim ≡ false
-  write_and_read x x' y y' b m m' w r sat sat' =
-      both_cases (is_satisfied x)
-      (λ was. both_cases (is_satisfied x')
-      (λ was'. still_apart x x' y y' b m m' was was')
-      (λ new'. ap (λ c. conflicts c y'.claim) m.by_rule.same
-      ∙ read_apart x' y' x m' m.in_s r sat' new' (ap (λ c. c.write_half) (sym m.by_rule.same) ∙ w) (active_of_satisfied x.status was)))
-      (λ new. conflicts_symmetric y.claim y'.claim
-      ∙ newly_apart x y y' m m'.in_t w sat new sat' (or_left (not y'.claim.write_half) _ (ap not r)))
-
-  read_and_write : (x x' y y' : Claimed) → Before x x' → Moves x y → Moves x' y' → y.claim.write_half ≡ false → y'.claim.write_half ≡ true → is_satisfied y ≡ true → is_satisfied y' ≡ true
-      → conflicts y.claim y'.claim ≡ false
-  read_and_write x x' y y' b m m' r w sat sat' =
-      both_cases (is_satisfied x')
-      (λ was'. both_cases (is_satisfied x)
-      (λ was. still_apart x x' y y' b m m' was was')
-      (λ new. conflicts_symmetric y.claim y'.claim
-      ∙ ap (λ c. conflicts c y.claim) m'.by_rule.same
-      ∙ read_apart x y x' m m'.in_s r sat new (ap (λ c. c.write_half) (sym m'.by_rule.same) ∙ w) (active_of_satisfied x'.status was')))
-      (λ new'. newly_apart x' y' y m' m.in_t w sat' new' sat (or_left (not y.claim.write_half) _ (ap not r)))
-
-  write_and_write : (x x' y y' : Claimed) → Before x x' → Moves x y → Moves x' y' → y.claim.write_half ≡ true → y'.claim.write_half ≡ true → is_satisfied y ≡ true → is_satisfied y' ≡ true
-      → conflicts y.claim y'.claim ≡ false
-  write_and_write x x' y y' b m m' w w' sat sat' =
-      let wx : x.claim.write_half ≡ true = ap (λ c. c.write_half) (sym m.by_rule.same) ∙ w in
-      let wx' : x'.claim.write_half ≡ true = ap (λ c. c.write_half) (sym m'.by_rule.same) ∙ w' in
-      both_cases (is_satisfied x')
-      (λ was'. both_cases (is_satisfied x)
-      (λ was. still_apart x x' y y' b m m' was was')
-      (λ new. false_from (conflicts y.claim y'.claim) (λ h.
-      let share : share_place x.claim x'.claim ≡ true
-      = (λ i. share_place (sym m.by_rule.same i) (sym m'.by_rule.same i)) ∙ conflict_shares y.claim y'.claim m.is_claim m'.is_claim w w' h in
-      contrary (is_satisfied x) (b.entered wx wx' share (active_of_satisfied x'.status was')).0 new)))
-      (λ new'.
-      let below : y.claim.stamp < y'.claim.stamp =
-      subst (λ (c : Claim). c.stamp < y'.claim.stamp) (sym m.by_rule.same) (subst (λ (c : Claim). x.claim.stamp < c.stamp) (sym m'.by_rule.same) (b.rises.after_write wx)) in
-      newly_apart x' y' y m' m.in_t w' sat' new' sat
-      (or_right (not y.claim.write_half) _ (and_from y.claim.write_half (nat_lt y.claim.stamp y'.claim.stamp) w (lt-ltb y.claim.stamp y'.claim.stamp below))))
-
-  apart_after : (x x' y y' : Claimed) → Before x x' → Moves x y → Moves x' y' → Apart y y'
-  apart_after x x' y y' b m m' sat sat' =
-      both_cases y.claim.write_half
-      (λ w. both_cases y'.claim.write_half
-      (λ w'. write_and_write x x' y y' b m m' w w' sat sat')
-      (λ r'. write_and_read x x' y y' b m m' w r' sat sat'))
-      (λ r. both_cases y'.claim.write_half
-      (λ w'. read_and_write x x' y y' b m m' r w' sat sat')
-      (λ r'. reads_apart y.claim y'.claim m.is_claim m'.is_claim r r'))
-
-  module _ (settles : Settles s t) (well : AreWellFormed s) (entered : EachPair Entered s) (apart : EachPair Apart s) where
-    moves : AllZip Moves s t
-    moves =
-        zip_all (λ x. IsClaim x.claim) (λ x y. SettlesAt s t x y × Among x s × Among y t) Moves
-        (λ x y is h. record { by_rule = h.0; in_s = h.1; in_t = h.2; is_claim = subst (λ (c : Claim). IsClaim c) (sym h.0.same) is })
-        s t well.claims (zip_among (SettlesAt s t) s t settles)
-
-    before : EachPair Before s
-    before =
-        pairs_both Rises (λ x y. Entered x y × Apart x y) Before (λ x y r h. record { rises = r; entered = h.0; apart = h.1 }) s well.rising
-        (pairs_both Entered Apart (λ x y. Entered x y × Apart x y) (λ x y e a. (e, a)) s entered apart)
-
-    pub entered_settled : EachPair Entered t
-    entered_settled = pairs_of_zip Before Moves Entered entered_after s t before moves
-
-    pub apart_settled : EachPair Apart t
-    apart_settled = pairs_of_zip Before Moves Apart apart_after s t before moves
-
--- a list of exclusive claims settles to one
-pub exclusive_settled : (s t : List Claimed) → AreExclusive s → Settles s t → AreExclusive t
-exclusive_settled s t had settles = record {
-  well_formed = same_claims_well_formed s t had.well_formed (same_claims s t settles);
-  entered = entered_settled s t settles had.well_formed had.entered had.apart;
-  apart = apart_settled s t settles had.well_formed had.entered had.apart;
-}
+  pub turns : EachPair TakeTurns s.claims
+  pub free : EachPair AreFree s.claims
+  -- no ask of a satisfied claim is pending
+  pub answered : AllByRecursion (λ x. is_satisfied x ≡ true → x.asked ≡ empty) s.claims
 
 -- ---- an event keeps them
 
-entered_changed : (s : LockState) (e : Event) → IsNormalEvent e → EachPair Entered s.claims → EachPair Entered (changed s e).claims
-entered_changed s (Issue seat r) normal pairs =
-    let one = one_claim s.groups.groups s.issued seat r normal in
-    subst (λ (cs : List Claim). EachPair Entered (s.claims ++ map waiting cs)) (sym one.alone)
-    (pairs_append Entered s.claims (waiting one.claim) pairs (all_from (λ x. Entered x (waiting one.claim)) s.claims (λ x there w w' share active. absurd (true≢false (sym active)))))
-entered_changed s (Finish seat) normal pairs = pairs_filter Entered (λ x. not (x.claim.seat == seat)) s.claims pairs
+-- what holds of each pair of claims, holds of each with a claim that waits and to which nothing was granted
+record IsForNew (R : Claimed → Claimed → Type 0) : Type 0 where
+  with_new : (stamp seat : ℕ) (x n : Claimed) → IsNew stamp seat n → R x n
 
-apart_changed : (s : LockState) (e : Event) → IsNormalEvent e → EachPair Apart s.claims → EachPair Apart (changed s e).claims
-apart_changed s (Issue seat r) normal pairs =
-    let one = one_claim s.groups.groups s.issued seat r normal in
-    subst (λ (cs : List Claim). EachPair Apart (s.claims ++ map waiting cs)) (sym one.alone)
-    (pairs_append Apart s.claims (waiting one.claim) pairs (all_from (λ x. Apart x (waiting one.claim)) s.claims (λ x there sat sat'. absurd (true≢false (sym sat')))))
-apart_changed s (Finish seat) normal pairs = pairs_filter Apart (λ x. not (x.claim.seat == seat)) s.claims pairs
+waits_inactive : (n : Claimed) (stamp seat : ℕ) → IsNew stamp seat n → is_active n ≡ false
+waits_inactive n stamp seat new = ap active_by new.waits
+
+waits_unsatisfied : (n : Claimed) (stamp seat : ℕ) → IsNew stamp seat n → is_satisfied n ≡ false
+waits_unsatisfied n stamp seat new = ap satisfied_by new.waits
+
+pairs_issued : (R : Claimed → Claimed → Type 0) (s : LockState) (seat : ℕ) (r : RequestFields) → IsForNew R → Comes s (Issue seat r) → EachPair R s.claims → EachPair R (changed s (Issue seat r)).claims
+pairs_issued R s seat r for_new comes pairs =
+    let new = new_claims s.groups.groups s.issued seat r comes.normal in
+    let ns = map (waiting r.first) (claims_of s.groups.groups s.issued seat r) in
+    pairs_append_all R s.claims ns pairs (pairs_from_all (IsNew s.issued seat) R (λ m n is_m is_n. for_new.with_new s.issued seat m n is_n) ns new.each)
+    (λ x n in_s in_new. for_new.with_new s.issued seat x n (all_at (IsNew s.issued seat) ns n new.each in_new))
+
+entered_changed : (s : LockState) (e : Event) → Comes s e → EachPair Entered s.claims → EachPair Entered (changed s e).claims
+entered_changed s (Issue seat r) comes pairs =
+    pairs_issued Entered s seat r (record { with_new = λ stamp at x n new w w' share active. contrary (is_active n) active (waits_inactive n stamp at new) }) comes pairs
+entered_changed s (Finish seat) comes pairs = pairs_filter Entered _ s.claims pairs
+entered_changed s (Rise seat) comes pairs = pairs_filter Entered _ s.claims pairs
+entered_changed s (Ask seat part) comes pairs = entered_standing s.claims _ (asking_standing seat part s.claims) pairs
+
+apart_changed : (s : LockState) (e : Event) → Comes s e → EachPair Apart s.claims → EachPair Apart (changed s e).claims
+apart_changed s (Issue seat r) comes pairs =
+    pairs_issued Apart s seat r (record { with_new = λ stamp at x n new sat sat'. contrary (is_satisfied n) sat' (waits_unsatisfied n stamp at new) }) comes pairs
+apart_changed s (Finish seat) comes pairs = pairs_filter Apart _ s.claims pairs
+apart_changed s (Rise seat) comes pairs = pairs_filter Apart _ s.claims pairs
+apart_changed s (Ask seat part) comes pairs = apart_standing s.claims _ (asking_standing seat part s.claims) pairs
+
+turns_changed : (s : LockState) (e : Event) → Comes s e → EachPair TakeTurns s.claims → EachPair TakeTurns (changed s e).claims
+turns_changed s (Issue seat r) comes pairs =
+    pairs_issued TakeTurns s seat r (record { with_new = λ stamp at x n new seats active. contrary (is_active n) active (waits_inactive n stamp at new) }) comes pairs
+turns_changed s (Finish seat) comes pairs = pairs_filter TakeTurns _ s.claims pairs
+turns_changed s (Rise seat) comes pairs = pairs_filter TakeTurns _ s.claims pairs
+turns_changed s (Ask seat part) comes pairs = turns_standing s.claims _ (asking_standing seat part s.claims) pairs
+
+-- one claim, as far and as much granted
+record SameGrants (x y : Claimed) : Type 0 where
+  standing : SameStanding x y
+  granted : y.granted ≡ x.granted
+
+free_same : (v v' x x' : Claimed) → SameStanding v v' → SameGrants x x' → IsFreeOf v x → IsFreeOf v' x'
+free_same v v' x x' a b free sat unsat =
+    (λ i. conflicts_on (a.claim i) (b.standing.claim i) (b.granted i)) ∙ free (ap satisfied_by (sym a.status) ∙ sat) (ap satisfied_by (sym b.standing.status) ∙ unsat)
+
+asking_grants : (seat : ℕ) (part : Set) (xs : List Claimed) → AllZip SameGrants xs (map (asking seat part) xs)
+asking_grants seat part xs =
+    zip_map_right (asking seat part) (λ x y. x ≡ y) SameGrants (λ x y e. subst (λ (z : Claimed). SameGrants z (asking seat part y)) (sym e) (at y (y.claim.seat == seat))) xs xs (zip_same (λ x y. x ≡ y) (λ x. refl) xs)
+  where
+    at : (y : Claimed) (b : Bool) → SameGrants y (cond b (record y { asked = part }) y)
+    at y true = record { standing = record { claim = refl; status = refl }; granted = refl }
+    at y false = record { standing = record { claim = refl; status = refl }; granted = refl }
+
+free_changed : (s : LockState) (e : Event) → Comes s e → EachPair AreFree s.claims → EachPair AreFree (changed s e).claims
+free_changed s (Issue seat r) comes pairs =
+    pairs_issued AreFree s seat r
+    (record {
+      with_new = λ stamp at x n new. (
+        (λ sat unsat. ap (conflicts_on x.claim n.claim) new.nothing_granted ∙ none_on_nothing x.claim n.claim),
+        (λ sat unsat. contrary (is_satisfied n) sat (waits_unsatisfied n stamp at new)),
+      );
+    })
+    comes pairs
+free_changed s (Finish seat) comes pairs = pairs_filter AreFree _ s.claims pairs
+free_changed s (Rise seat) comes pairs = pairs_filter AreFree _ s.claims pairs
+free_changed s (Ask seat part) comes pairs =
+    pairs_of_zip AreFree SameGrants AreFree (λ x x' y y' f a b. (free_same x y x' y' a.standing b f.0, free_same x' y' x y b.standing a f.1)) s.claims _ pairs (asking_grants seat part s.claims)
+
+-- ---- what is granted keeps them
+
+module _ (xs : List Claimed) where
+  -- a claim before and after what it asks for comes to it
+  record Gets (x y : Claimed) : Type 0 where
+    there : Among x xs
+    is : y ≡ with_asked xs x
+
+  gets : AllZip Gets xs (given xs)
+  unfolding given
+  gets =
+      zip_weaker (λ x y. (y ≡ with_asked xs x) × Among x xs × Among y (map (with_asked xs) xs)) Gets (λ x y h. record { there = h.1; is = h.0 }) xs (map (with_asked xs) xs)
+      (zip_among (λ x y. y ≡ with_asked xs x) xs (map (with_asked xs) xs) (zip_map_right (with_asked xs) (λ x y. x ≡ y) (λ x y. y ≡ with_asked xs x) (λ x y e. ap (with_asked xs) (sym e)) xs xs (zip_same (λ x y. x ≡ y) (λ x. refl) xs)))
+
+  -- what comes to an unsatisfied claim is free of satisfied ones
+  gets_free : (v x : Claimed) → Among v xs → IsFreeOf v x → (b : Bool) → gets_asked xs x ≡ b → is_satisfied v ≡ true → is_satisfied x ≡ false
+      → conflicts_on v.claim x.claim (cond b (record x { asked = empty; granted = union x.granted x.asked }) x).granted ≡ false
+  gets_free v x there free false is sat unsat = free sat unsat
+  gets_free v x there free true is sat unsat =
+      let entitled : (is_active x && not (is_kept_from xs x.claim x.asked)) ≡ true = ap (λ b. b || (is_active x && not (is_kept_from xs x.claim x.asked))) (sym unsat) ∙ is in
+      let none : is_kept_from xs x.claim x.asked ≡ false = not_false _ (and_parts (is_active x) (not (is_kept_from xs x.claim x.asked)) entitled).1 in
+      none_on_both v.claim x.claim x.granted x.asked (free sat unsat)
+      (ap (λ b. b && conflicts_on v.claim x.claim x.asked) (sym sat) ∙ none_among (λ v. is_satisfied v && conflicts_on v.claim x.claim x.asked) xs v none there)
+
+  standing_of_gets : (x y : Claimed) → Gets x y → SameStanding x y
+  standing_of_gets x y g = subst (λ (z : Claimed). SameStanding x z) (sym g.is) (at (gets_asked xs x))
+    where
+      at : (b : Bool) → SameStanding x (cond b (record x { asked = empty; granted = union x.granted x.asked }) x)
+      at true = record { claim = refl; status = refl }
+      at false = record { claim = refl; status = refl }
+
+  free_of_given : (v v' x x' : Claimed) → Gets v v' → Gets x x' → IsFreeOf v x → IsFreeOf v' x'
+  free_of_given v v' x x' g h free sat unsat =
+      let a = standing_of_gets v v' g in
+      let b = standing_of_gets x x' h in
+      (λ i. conflicts_on (a.claim i) (b.claim i) (h.is i).granted)
+      ∙ gets_free v x g.there free (gets_asked xs x) refl (ap satisfied_by (sym a.status) ∙ sat) (ap satisfied_by (sym b.status) ∙ unsat)
+
+  pub free_given : EachPair AreFree xs → EachPair AreFree (given xs)
+  free_given pairs = pairs_of_zip AreFree Gets AreFree (λ x x' y y' f g h. (free_of_given x y x' y' g h f.0, free_of_given x' y' x y h g f.1)) xs (given xs) pairs gets
+
+  pub answered_given : AllByRecursion (λ x. is_satisfied x ≡ true → x.asked ≡ empty) (given xs)
+  unfolding given
+  answered_given = all_map (with_asked xs) (λ y. is_satisfied y ≡ true → y.asked ≡ empty) xs (λ x there. at x (gets_asked xs x) refl)
+    where
+      at : (x : Claimed) (b : Bool) → gets_asked xs x ≡ b → is_satisfied (cond b (record x { asked = empty; granted = union x.granted x.asked }) x) ≡ true
+          → (cond b (record x { asked = empty; granted = union x.granted x.asked }) x).asked ≡ empty
+      at x true is sat = refl
+      at x false is sat = contrary (is_satisfied x) sat (or_parts (is_satisfied x) _ is).0
+
+-- ---- a step
 
 pub reached_next : (s : LockState) (e : Event) → IsReached s → Comes s e → IsReached (next s e)
 reached_next s e reached comes =
-    let mid = sound_changed s e reached.sound comes.normal comes.accepted in
-    let settles = settles_settled (changed s e).claims mid.well_formed in
-    let entered = entered_changed s e comes.normal reached.entered in
-    let apart = apart_changed s e comes.normal reached.apart in
+    let mid = sound_changed s e reached.sound comes in
+    let xs = (changed s e).claims in
+    let t = settled xs in
+    let settles = settles_settled xs mid.well_formed in
+    let entered = entered_changed s e comes reached.entered in
+    let apart = apart_changed s e comes reached.apart in
+    let groups = (changed s e).groups.groups in
+    let admitted = admitted_changed s e comes.fits reached.admitted in
+    let exclusive : AreExclusive xs = record { well_formed = mid.well_formed; entered = entered; apart = apart } in
+    let same = given_standing t in
     record {
-      sound = sound_settled (changed s e) mid;
-      entered = entered_settled (changed s e).claims (next s e).claims settles mid.well_formed entered apart;
-      apart = apart_settled (changed s e).claims (next s e).claims settles mid.well_formed entered apart;
-      stable = stable_settled (changed s e).claims (next s e).claims settles;
-      admitted = admitted_settled (changed s e).groups.groups (changed s e).claims (next s e).claims (admitted_changed s e comes.fits reached.admitted) settles;
+      sound = sound_next s e reached.sound comes;
+      entered = entered_standing t (given t) same (entered_settled xs t settles mid.well_formed entered apart);
+      apart = apart_standing t (given t) same (apart_settled xs t settles mid.well_formed entered apart);
+      stable = settles_standing t (given t) same (stable_settled xs t settles);
+      admitted = admitted_given groups t (admitted_settled groups xs t admitted settles);
+      turns = turns_standing t (given t) same (turns_settled groups xs t settles exclusive admitted mid.one_each (turns_changed s e comes reached.turns));
+      free = free_given t (free_settled xs t settles mid.well_formed entered apart mid.parts (free_changed s e comes reached.free));
+      answered = answered_given t;
     }
 
 pub reached_after : (s : LockState) (es : List Event) → IsReached s → AreAccepted s es → IsReached (after s es)
@@ -244,4 +190,4 @@ reached_after s [] reached accepted = reached
 reached_after s (e ∷ es) reached accepted = reached_after (next s e) es (reached_next s e reached accepted.0) accepted.1
 
 pub reached_opening : (groups : ReadGroups) (seats cap : ℕ) → IsReached (opening groups seats cap)
-reached_opening groups seats cap = record { sound = sound_opening groups seats cap; entered = tt; apart = tt; stable = tt; admitted = tt }
+reached_opening groups seats cap = record { sound = sound_opening groups seats cap; entered = tt; apart = tt; stable = tt; admitted = tt; turns = tt; free = tt; answered = tt }

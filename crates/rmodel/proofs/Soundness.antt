@@ -127,7 +127,7 @@ ask_is_right s seat part accepted =
     from_not false h = absurd (true≢false h)
 
 -- the claims of a seat with a nested request are its one claim
-same_seat : (xs : List Claimed) (x y : Claimed) → EachPair Distinct xs → Among x xs → Among y xs → x.claim.seat ≡ y.claim.seat → is_nested x.claim.kind ≡ true → x ≡ y
+pub same_seat : (xs : List Claimed) (x y : Claimed) → EachPair Distinct xs → Among x xs → Among y xs → x.claim.seat ≡ y.claim.seat → is_nested x.claim.kind ≡ true → x ≡ y
 same_seat xs x y distinct in_x in_y seats nested =
     elim (pair_among Distinct xs x y distinct in_x in_y) [
       | inl same ↦ same
@@ -202,15 +202,19 @@ same_claims_well_formed xs ys well same = record {
   claims = all_of_zip (λ x. IsClaim x.claim) SameClaim (λ x. IsClaim x.claim) (λ x y c e. subst (λ (k : Claim). IsClaim k) (sym e) c) xs ys well.claims same;
 }
 
+pub distinct_same : (xs ys : List Claimed) → EachPair Distinct xs → AllZip SameClaim xs ys → EachPair Distinct ys
+distinct_same xs ys distinct same =
+    pairs_of_zip Distinct SameClaim Distinct
+    (λ x x' y y' d e e' seats. subst (λ (a : Claim). AreHalves a y'.claim) (sym e) (subst (λ (b : Claim). AreHalves x.claim b) (sym e') (d (ap (λ c. c.seat) (sym e) ∙ seats ∙ ap (λ c. c.seat) e'))))
+    xs ys distinct same
+
 -- the same claims, with parts of their own, are as sound
 pub same_claims_sound : (s : LockState) (ys : List Claimed) → IsSound s → AllZip SameClaim s.claims ys → AllByRecursion HasParts ys → IsSound (record s { claims = ys })
 same_claims_sound s ys sound same parts = record {
   well_formed = same_claims_well_formed s.claims ys sound.well_formed same;
   given_out = all_of_zip (λ x. x.claim.stamp < s.issued) SameClaim (λ x. x.claim.stamp < s.issued) (λ x y h e. subst (λ (k : Claim). k.stamp < s.issued) (sym e) h) s.claims ys sound.given_out same;
   seated = all_of_zip (λ x. x.claim.seat < s.seats) SameClaim (λ x. x.claim.seat < s.seats) (λ x y h e. subst (λ (k : Claim). k.seat < s.seats) (sym e) h) s.claims ys sound.seated same;
-  one_each = pairs_of_zip Distinct SameClaim Distinct
-      (λ x x' y y' d e e' seats. subst (λ (a : Claim). AreHalves a y'.claim) (sym e) (subst (λ (b : Claim). AreHalves x.claim b) (sym e') (d (ap (λ c. c.seat) (sym e) ∙ seats ∙ ap (λ c. c.seat) e'))))
-      s.claims ys sound.one_each same;
+  one_each = distinct_same s.claims ys sound.one_each same;
   parts = parts;
   within_cap = subst (λ (n : ℕ). n ≤ s.cap) (same_count s.claims ys same) sound.within_cap;
 }

@@ -7,12 +7,12 @@ use Rattle.rclaim.specs.declared.claim.Claim.{Claim}
 use Rattle.rclaim.specs.declared.event.Event.{Event}
 use Rattle.rmodel.specs.declared.claimed.Claimed.{Claimed}
 use Rattle.rmodel.specs.Claims.{share_place, conflicts, is_active, is_satisfied}
-use Rattle.rmodel.specs.Holds.{holds_of, is_nothing, has_request}
+use Rattle.rmodel.specs.Holds.{holds_of, is_nothing, has_request, has_ask}
 use Rattle.rmodel.specs.Rules.{is_earlier_write, Settles}
 use Rattle.rmodel.specs.Settling.{settled}
 use Rattle.rmodel.specs.State.{LockState, opening}
 use Rattle.rmodel.specs.Steps.{changed, after, Comes, AreAccepted}
-use Rattle.rmodel.specs.WellFormed.{AreWellFormed, AreExclusive, AreAdmittedBy}
+use Rattle.rmodel.specs.WellFormed.{EachPair, AreWellFormed, AreExclusive, AreAdmittedBy, Distinct, TakeTurns}
 
 -- a list of claims settles to another, and to no third one
 pub record SettlesOnlyTo (s t : List Claimed) : Type 0 where
@@ -76,10 +76,11 @@ EarliestIsEntitledAStep =
 abbrev pub SomebodyHolds : Type 0
 SomebodyHolds = (s t : List Claimed) → AreWellFormed s → Settles s t → t ≢ [] → list_any is_satisfied t ≡ true
 
--- while a seat has an incomplete request, some claim is satisfied; and the seat of each satisfied claim holds something
+-- while a seat has an incomplete request, some claim is satisfied; and the seat of each satisfied claim holds something, and no ask of it is pending
 pub record IsHeld (s : LockState) : Type 0 where
   pub somebody : (seat : ℕ) → has_request s.claims seat ≡ true → list_any is_satisfied s.claims ≡ true
   pub something : AllByRecursion (λ x. is_satisfied x ≡ true → is_nothing (holds_of s.claims x.claim.seat) ≡ false) s.claims
+  pub answered : AllByRecursion (λ x. is_satisfied x ≡ true → has_ask s.claims x.claim.seat ≡ false) s.claims
 
 -- somebody holds: after any list of accepted events
 abbrev pub SomebodyHoldsAStep : Type 0
@@ -104,3 +105,26 @@ abbrev pub OneWriteAtMostAStep : Type 0
 OneWriteAtMostAStep =
     (groups : ReadGroups) (seats cap : ℕ) (events : List Event) → AreAccepted (opening groups seats cap) events
     → AreKeptOutByOne (after (opening groups seats cap) events).claims
+
+-- the write half of an upgrade waits while its read half is unsatisfied, and is unsatisfied while its read half is there
+pub record TurnsAreTaken (read write : Claimed) : Type 0 where
+  pub waits : is_satisfied read ≡ false → is_active write ≡ false
+  pub unsatisfied : is_satisfied write ≡ false
+
+-- so it is of any two claims of one seat: they are the halves of its upgrade
+abbrev pub HalvesTakeTurns : List Claimed → Type 0
+HalvesTakeTurns xs = EachPair (λ x y. x.claim.seat ≡ y.claim.seat → TurnsAreTaken x y) xs
+
+-- the halves of an upgrade take turns: so it is in what exclusive claims settle to, if groups admit them and the halves took turns before
+abbrev pub TakingTurns : Type 0
+TakingTurns = (groups : List Set) (s t : List Claimed) → AreExclusive s → AreAdmittedBy groups s → EachPair Distinct s → EachPair TakeTurns s → Settles s t → HalvesTakeTurns t
+
+-- the halves of an upgrade take turns: two claims of one seat are halves of its upgrade, and take turns, after any list of accepted events
+pub record AreHalvesInTurn (xs : List Claimed) : Type 0 where
+  pub halves : EachPair Distinct xs
+  pub turns : HalvesTakeTurns xs
+
+abbrev pub TakingTurnsAStep : Type 0
+TakingTurnsAStep =
+    (groups : ReadGroups) (seats cap : ℕ) (events : List Event) → AreAccepted (opening groups seats cap) events
+    → AreHalvesInTurn (after (opening groups seats cap) events).claims

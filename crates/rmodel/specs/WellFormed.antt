@@ -6,7 +6,7 @@ use Rattle.rclaim.specs.declared.claim.Claim.{Claim}
 use Rattle.rmodel.specs.declared.claimed.Claimed.{Claimed}
 use Rattle.rset.specs.Sets.{Set, meets}
 use Rattle.rexpand.specs.Groups.{is_declared, places_of}
-use Rattle.rmodel.specs.Claims.{share_place, conflicts, is_active, is_satisfied, is_nested, is_read_half, is_upgrade}
+use Rattle.rmodel.specs.Claims.{share_place, conflicts, conflicts_on, is_active, is_satisfied, is_nested, is_read_half, is_upgrade}
 use Rattle.rmodel.specs.State.{LockState}
 use Rattle.rmodel.specs.Steps.{incomplete_of}
 
@@ -71,6 +71,18 @@ pub record AreHalves (x y : Claim) : Type 0 where
 -- two claims of one seat are the halves of its upgrade
 abbrev pub Distinct : Claimed → Claimed → Type 0
 Distinct x y = x.claim.seat ≡ y.claim.seat → AreHalves x.claim y.claim
+
+-- the write half of an upgrade is entitled or satisfied only once its read half is satisfied
+abbrev pub TakeTurns : Claimed → Claimed → Type 0
+TakeTurns x y = x.claim.seat ≡ y.claim.seat → is_active y ≡ true → is_satisfied x ≡ true
+
+-- what was granted to x while it is not satisfied is free of v, if that is satisfied
+abbrev pub IsFreeOf : Claimed → Claimed → Type 0
+IsFreeOf v x = is_satisfied v ≡ true → is_satisfied x ≡ false → conflicts_on v.claim x.claim x.granted ≡ false
+
+-- of two claims, what was granted to either is free of the other
+abbrev pub AreFree : Claimed → Claimed → Type 0
+AreFree x y = IsFreeOf x y × IsFreeOf y x
 
 -- what a claim asks for and was granted: parts of what a nested request reads and writes, and nothing for another;
 -- a nested request always asks for something or was granted something, and nothing is granted to a claim that waits

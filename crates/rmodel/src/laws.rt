@@ -1,6 +1,6 @@
 //! What holds after every list of accepted events. Each function is a theorem: it does nothing, and its contract is the law.
 ghost use Rattle.rmodel.specs.Laws.{OneSettlement, OneSettlementAStep, SettlingIsExclusive, WritesAreExclusive};
-ghost use Rattle.rmodel.specs.Laws.{SettledIsStable, SettledIsStableAStep, SomebodyHolds, SomebodyHoldsAStep, OneWriteAtMost, OneWriteAtMostAStep, EarliestIsEntitled, EarliestIsEntitledAStep};
+ghost use Rattle.rmodel.specs.Laws.{SettledIsStable, SettledIsStableAStep, SomebodyHolds, SomebodyHoldsAStep, OneWriteAtMost, OneWriteAtMostAStep, TakingTurns, TakingTurnsAStep, EarliestIsEntitled, EarliestIsEntitledAStep};
 
 /// *One settlement*: a well-formed list of claims settles in one way, and so does what any accepted event leaves.
 pub fn l1()
@@ -33,6 +33,14 @@ pub fn l4()
 pub fn l5()
     ensures any { OneWriteAtMost }
     ensures step { OneWriteAtMostAStep }
+{}
+
+/// *The halves of an upgrade take turns*: the write half waits while the read half is unsatisfied, and is unsatisfied while
+/// the read half is there. So it is in what exclusive claims settle to, if groups admit them and the halves took turns
+/// before, and after any list of accepted events.
+pub fn l6()
+    ensures any { TakingTurns }
+    ensures step { TakingTurnsAStep }
 {}
 
 /// *The earliest write is entitled*: a write that shares a place with no write of smaller stamp is entitled or satisfied,
