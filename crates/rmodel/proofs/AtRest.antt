@@ -1,23 +1,23 @@
 -- What a step leaves out: the passes over reads where no read is unsatisfied, and the claims that stay as they are.
 use Rattle.std.proofs.Common.{◌≡◌, ℕ, ◌+◌, ◌<◌, Bool, true, false, not, ◌&&◌, ◌||◌, List, [], ◌∷◌, ◌++◌, map, length, get_or, take, drop, cond, refl, sym, ap, subst, ◌∙◌, ◌⊎◌, inl, inr, arith}
 use Rattle.std.proofs.Math.ListN.{set}
-use Rattle.std.proofs.lemmas.Bool.{true≢false, or_cases}
+use Rattle.std.proofs.lemmas.Bool.{true≢false, or_cases, and_parts}
 use Rattle.std.proofs.lemmas.List.{take_more_set, drop-set-lt, take-append-drop}
 use Rattle.std.proofs.lemmas.List.Sums.{fold-append}
-use Rattle.std.specs.List.{fold, list_any, AllByRecursion}
+use Rattle.std.specs.List.{fold, list_any, list_all, AllByRecursion}
 use Rattle.std.specs.FinSet.{empty, union}
 use Rattle.rset.specs.Sets.{Set, meets}
-use Rattle.rset.proofs.SetLemmas.{meets_empty_left, meets_union_left}
+use Rattle.rset.proofs.SetLemmas.{meets_empty_left, meets_empty_right, meets_union_left}
 use Rattle.rclaim.specs.declared.claim.Claim.{Claim}
 use Rattle.rclaim.specs.declared.claim.Status.{Status}
 use Rattle.rclaim.specs.declared.claim.Status.TheVariants.{Waiting, Entitled, Satisfied}
 use Rattle.rmodel.specs.declared.claimed.Claimed.{Claimed}
 use Rattle.rmodel.specs.declared.settle.Reads.{Reads}
-use Rattle.rmodel.specs.Claims.{conflicts, is_satisfied, is_active, satisfied_by, active_by}
+use Rattle.rmodel.specs.Claims.{conflicts, share_place, is_satisfied, is_active, satisfied_by, active_by}
 use Rattle.rmodel.specs.Rules.{is_earlier_write, is_held_up}
-use Rattle.rmodel.specs.Settling.{with_status, with_read, no_reads, reads_of, bars_of, written_by_active, written_by_satisfied, read_status, kept_status, has_way, entered, entered_status, write_status, settle_reads, settle_rest, settle_kept, settled, stays, stays_by}
+use Rattle.rmodel.specs.Settling.{with_status, with_read, no_reads, reads_of, bars_of, written_by_active, written_by_satisfied, read_status, kept_status, read_near, is_clear, has_way, IsUnbarred, entered, entered_status, write_status, settle_reads, settle_rest, settle_kept, settled, stays, stays_by}
 use Rattle.rmodel.specs.WellFormed.{AreWellFormed}
-use Rattle.rmodel.proofs.Barred.{between, barred}
+use Rattle.rmodel.proofs.Barred.{between, barred, clear_unless_barred}
 
 -- a claim that is no unsatisfied read
 abbrev pub AtRest : Claimed → Type 0
@@ -135,6 +135,12 @@ any_weaker p q gives (x ∷ xs) h =
       | inr later ↦ ap (λ b. q x || b) (any_weaker p q gives xs later) ∙ or_true (q x)
     ]
 
+all_weaker : (p q : Claimed → Bool) → ((x : Claimed) → p x ≡ true → q x ≡ true) → (xs : List Claimed) → list_all p xs ≡ true → list_all q xs ≡ true
+all_weaker p q gives [] h = refl
+all_weaker p q gives (x ∷ xs) h =
+    let parts = and_parts (p x) (list_all p xs) h in
+    (λ i. gives x parts.0 i && all_weaker p q gives xs parts.1 i)
+
 -- a write of what is held for reading is held up
 held_up_by_reads : (xs : List Claimed) (c : Claim) → meets (reads_of xs).held c.writes ≡ true → is_held_up xs c ≡ true
 unfolding reads_of
@@ -174,6 +180,33 @@ reads_same xs i d y h same read =
         by_status all y.claim.write_half y.claim.reads y.status (get_or xs i d).status read
         ∙ ap (λ (c : Claim). with_read all (record { claim = c; status = (get_or xs i d).status })) same
 
+-- where no read is unsatisfied, none is near
+none_near : (all s : Set) (xs : List Claimed) → AllByRecursion AtRest xs
+    → fold (λ all x. cond (not x.claim.write_half && not (is_satisfied x) && meets x.claim.reads s) (union all x.claim.reads) all) all xs ≡ all
+none_near all s [] rest = refl
+none_near all s (x ∷ xs) rest =
+    ap (λ a. fold (λ all x. cond (not x.claim.write_half && not (is_satisfied x) && meets x.claim.reads s) (union all x.claim.reads) all) a xs)
+    (at x.claim.write_half (is_satisfied x) (meets x.claim.reads s) rest.0)
+    ∙ none_near all s xs rest.1
+  where
+    at : (w q m : Bool) → (w ≡ false → q ≡ true) → cond (not w && not q && m) (union all x.claim.reads) all ≡ all
+    at true q m r = refl
+    at false true m r = refl
+    at false false m r = absurd (true≢false (sym (r refl)))
+
+-- where no read is unsatisfied, and each earlier write that shares a place with c is satisfied, no read stands between
+clear_of_reads : (xs : List Claimed) (c : Claim) → AllByRecursion AtRest xs → is_clear xs c c.places ≡ true → is_clear xs c (read_near xs c.places) ≡ true
+unfolding is_clear read_near
+clear_of_reads xs c rest clear =
+    ap (λ (s : Set). list_all (λ v. not (is_earlier_write c v.claim && share_place v.claim c) || (is_satisfied v && not (meets v.claim.writes s))) xs) (none_near empty c.places xs rest)
+    ∙ all_weaker _ _
+    (λ v h. at (is_earlier_write c v.claim && share_place v.claim c) (is_satisfied v) (meets v.claim.writes c.places) (meets v.claim.writes empty) (meets_empty_right v.claim.writes) h) xs clear
+  where
+    at : (e q m n : Bool) → n ≡ false → (not e || (q && not m)) ≡ true → (not e || (q && not n)) ≡ true
+    at false q m n none h = refl
+    at true true m n none h = ap not none
+    at true false m n none h = absurd (true≢false (sym h))
+
 -- the second pass leaves a claim as it is that is seen to stay
 stays_as_it_is : (xs : List Claimed) (x : Claimed) (bars held : Set) → stays x bars held ≡ true
     → (meets bars x.claim.places ≡ true → has_way xs x.claim ≡ false) → (meets held x.claim.writes ≡ true → is_held_up xs x.claim ≡ true) → entered xs x ≡ x
@@ -188,11 +221,30 @@ stays_as_it_is xs x bars held seen barred read =
     at true Waiting b r e h seen barred read = ap (λ t. entered_status t h) (barred seen)
     at true Entitled b r e h seen barred read = ap (entered_status true) (read seen)
 
--- the same at a place of a list, where these are the bars of the writes before it, and what is held for reading
-pub place_stays : (xs : List Claimed) (i : ℕ) (d : Claimed) (bars held : Set) → i < length xs → AreWellFormed xs → bars ≡ bars_of (take i xs) → held ≡ (reads_of xs).held
-    → stays (get_or xs i d) bars held ≡ true → entered xs (get_or xs i d) ≡ get_or xs i d
-place_stays xs i d bars held h well are_bars is_held seen =
-    let x = get_or xs i d in
-    stays_as_it_is xs x bars held seen
-    (λ m. barred xs i d h well (ap (λ s. meets s x.claim.places) (sym are_bars) ∙ m))
-    (λ m. held_up_by_reads xs x.claim (ap (λ s. meets s x.claim.writes) (sym is_held) ∙ m))
+-- the same at a place of a list, where these are the bars of the writes before it, and this is seen of the reads
+module _ (xs : List Claimed) (i : ℕ) (d : Claimed) (bars : Set) (seen : Reads) (h : i < length xs) (well : AreWellFormed xs) (are_bars : bars ≡ bars_of (take i xs)) (is_seen : seen ≡ reads_of xs) where
+  pub place_stays : stays (get_or xs i d) bars seen.held ≡ true → entered xs (get_or xs i d) ≡ get_or xs i d
+  place_stays s =
+      let x = get_or xs i d in
+      stays_as_it_is xs x bars seen.held s
+      (λ m. barred xs i d h well (ap (λ s. meets s x.claim.places) (sym are_bars) ∙ m))
+      (λ m. held_up_by_reads xs x.claim (ap (λ (r : Reads). meets r.held x.claim.writes) (sym is_seen) ∙ m))
+
+  -- and a claim that is not seen to stay is not barred
+  pub place_is_unbarred : stays (get_or xs i d) bars seen.held ≡ false → IsUnbarred xs (get_or xs i d) seen.waiting
+  unfolding reads_of
+  place_is_unbarred s =
+      let x = get_or xs i d in
+      let places : is_active x ≡ false → is_clear xs x.claim x.claim.places ≡ true =
+      λ waits. clear_unless_barred xs i d h well (ap (λ s. meets s x.claim.places) (sym are_bars) ∙ waiting_unbarred x.claim.write_half x.status _ _ s waits) in
+      record {
+        places = places;
+        reads = λ waits none.
+            clear_of_reads xs x.claim (all_at_rest no_reads xs (ap (λ (r : Reads). r.waiting) (sym is_seen) ∙ none)).1 (places waits);
+      }
+    where
+      waiting_unbarred : (w : Bool) (a : Status) (b r : Bool) → (not w || stays_by a b r) ≡ false → active_by a ≡ false → b ≡ false
+      waiting_unbarred true Waiting b r s waits = s
+      waiting_unbarred true Entitled b r s waits = absurd (true≢false waits)
+      waiting_unbarred true Satisfied b r s waits = absurd (true≢false waits)
+      waiting_unbarred false a b r s waits = absurd (true≢false s)

@@ -1,5 +1,5 @@
 -- A write that has a place among the bars of earlier writes has no way.
-use Rattle.std.proofs.Common.{◌≡◌, ℕ, ◌+◌, ◌<◌, Bool, true, false, not, ◌&&◌, ◌||◌, cond, List, [], ◌∷◌, ◌++◌, map, length, get_or, take, drop, nat_lt, refl, sym, ap, subst, ◌∙◌, append_assoc, arith, add-one, true≢false}
+use Rattle.std.proofs.Common.{◌≡◌, ℕ, ◌+◌, ◌<◌, ◌≤◌, Bool, true, false, not, ◌&&◌, ◌||◌, cond, List, [], ◌∷◌, ◌++◌, map, length, get_or, take, drop, nat_lt, refl, sym, ap, subst, ◌∙◌, append_assoc, arith, add-one, true≢false}
 use Rattle.std.proofs.Math.ListN.{set}
 use Rattle.std.proofs.Math.Seq.{drop-cons}
 use Rattle.std.proofs.lemmas.Bool.Decides.{nat_tests}
@@ -103,6 +103,64 @@ pub barred : (xs : List Claimed) (i : ℕ) (d : Claimed) → i < length xs → A
 barred xs i d h well m =
     let whole = between xs i d h in
     ap (λ all. has_way all (get_or xs i d).claim) (sym whole) ∙ barred_in (take i xs) (drop (i + 1) xs) (get_or xs i d) (subst AreWellFormed (sym whole) well) m
+
+-- ---- a write that has no place among the bars
+
+clear_by : (w l s : Bool) (writes places away : Set) → (w && meets (cond s writes places) away) ≡ false → (not ((w && l) && meets places away) || (s && not (meets writes away))) ≡ true
+clear_by false l s writes places away h = refl
+clear_by true l true writes places away h = ap (λ m. not (l && meets places away) || not m) h ∙ or_true (not (l && meets places away))
+  where
+    or_true : (b : Bool) → (b || true) ≡ true
+    or_true true = refl
+    or_true false = refl
+clear_by true l false writes places away h = ap (λ m. not (l && m) || false) h ∙ none l
+  where
+    none : (b : Bool) → (not (b && false) || false) ≡ true
+    none true = refl
+    none false = refl
+
+clear_among : (done : List Claimed) (c : Claimed) → list_any (bars c) done ≡ false → list_all (clear_at c.claim c.claim.places) done ≡ true
+unfolding clear_at bars bars_with
+clear_among [] c h = refl
+clear_among (v ∷ done) c h =
+    let parts = neither (bars c v) (list_any (bars c) done) h in
+    (λ i.
+    clear_by v.claim.write_half (nat_lt v.claim.stamp c.claim.stamp) (is_satisfied v) v.claim.writes v.claim.places c.claim.places parts.0 i
+    && clear_among done c parts.1 i)
+  where
+    neither : (a b : Bool) → (a || b) ≡ false → (a ≡ false) × (b ≡ false)
+    neither true b h = absurd (true≢false h)
+    neither false b h = (refl, h)
+
+-- a claim whose stamp is not below passes
+clear_later : (v c : Claimed) → c.claim.stamp ≤ v.claim.stamp → clear_at c.claim c.claim.places v ≡ true
+unfolding clear_at
+clear_later v c late =
+    let not_below : nat_lt v.claim.stamp c.claim.stamp ≡ false = grind (arith, nat_tests) in
+    ap (λ l. not ((v.claim.write_half && l) && share_place v.claim c.claim) || (is_satisfied v && not (meets v.claim.writes c.claim.places))) not_below
+    ∙ ap (λ e. not (e && share_place v.claim c.claim) || (is_satisfied v && not (meets v.claim.writes c.claim.places))) (and_false v.claim.write_half false refl)
+
+clear_behind : (rest : List Claimed) (c : Claimed) → AllByRecursion (Rises c) rest → list_all (clear_at c.claim c.claim.places) rest ≡ true
+clear_behind [] c rises = refl
+clear_behind (v ∷ rest) c rises = (λ i. clear_later v c rises.0.not_above i && clear_behind rest c rises.1 i)
+
+rise_from : (done rest : List Claimed) (x : Claimed) → EachPair Rises (done ++ x ∷ rest) → AllByRecursion (Rises x) rest
+rise_from [] rest x h = h.0
+rise_from (v ∷ done) rest x h = rise_from done rest x h.1
+
+clear_in : (done rest : List Claimed) (x : Claimed) → AreWellFormed (done ++ x ∷ rest) → meets (bars_of done) x.claim.places ≡ false → is_clear (done ++ x ∷ rest) x.claim x.claim.places ≡ true
+unfolding bars_of is_clear clear_at bars bars_with
+clear_in done rest x well h =
+    let none : list_any (bars x) done ≡ false = sym (gathered (λ v. v.claim.write_half) bars_with x.claim.places done) ∙ h in
+    let self : x.claim.stamp ≤ x.claim.stamp = omega arith in
+    list_all-append (clear_at x.claim x.claim.places) done (x ∷ rest)
+    ∙ (λ i. clear_among done x none i && (clear_later x x self i && clear_behind rest x (rise_from done rest x well.rising) i))
+
+pub clear_unless_barred : (xs : List Claimed) (i : ℕ) (d : Claimed) → i < length xs → AreWellFormed xs → meets (bars_of (take i xs)) (get_or xs i d).claim.places ≡ false
+    → is_clear xs (get_or xs i d).claim (get_or xs i d).claim.places ≡ true
+clear_unless_barred xs i d h well m =
+    let whole = between xs i d h in
+    ap (λ all. is_clear all (get_or xs i d).claim (get_or xs i d).claim.places) (sym whole) ∙ clear_in (take i xs) (drop (i + 1) xs) (get_or xs i d) (subst AreWellFormed (sym whole) well) m
 
 -- a claim with another status is the same claim
 pub well_set : (xs : List Claimed) (i : ℕ) (d y : Claimed) → i < length xs → y.claim ≡ (get_or xs i d).claim → AreWellFormed xs → AreWellFormed (set xs i y)

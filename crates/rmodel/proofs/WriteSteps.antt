@@ -9,6 +9,7 @@ use Rattle.rclaim.specs.Changes.{ChangeLists, no_changes}
 use Rattle.rclaim.specs.declared.changes.StatusChange.{StatusChange}
 use Rattle.rclaim.specs.declared.changes.GrantChange.{GrantChange}
 use Rattle.rmodel.specs.declared.claimed.Claimed.{Claimed}
+use Rattle.rmodel.specs.declared.settle.Reads.{Reads}
 use Rattle.rmodel.specs.Changes.{status_change, grant_change, status_changes, grant_changes, with_change}
 use Rattle.rmodel.specs.Settling.{entered, settle_rest, with_bars, bars_of, reads_of}
 use Rattle.rmodel.specs.WellFormed.{AreWellFormed}
@@ -18,11 +19,11 @@ use Rattle.rmodel.proofs.ChangeSteps.{first_of_rest, statuses_more, grants_more,
 use Rattle.rmodel.proofs.SettlingSteps.{settle_step, write_end}
 
 -- the pass over the claims `first` has come to the place i: settling the rest gives the whole, the rest is as it was, and what changed before is told
-pub record UpTo (first xs : List Claimed) (i : ℕ) (bars held : Set) (told : ChangeLists) : Type 0 where
+pub record UpTo (first xs : List Claimed) (i : ℕ) (bars : Set) (seen : Reads) (told : ChangeLists) : Type 0 where
   pub settles : take i xs ++ settle_rest (take i xs) (drop i xs) ≡ settle_rest [] first
   pub well_formed : AreWellFormed xs
   pub bars_before : bars ≡ bars_of (take i xs)
-  pub held_by_reads : held ≡ (reads_of xs).held
+  pub reads : seen ≡ reads_of xs
   pub rest : drop i xs ≡ drop i first
   pub as_long : length xs ≡ length first
   pub statuses : told.statuses ≡ status_changes (take i first) (take i xs)
@@ -30,13 +31,13 @@ pub record UpTo (first xs : List Claimed) (i : ℕ) (bars held : Set) (told : Ch
   pub few_statuses : length told.statuses ≤ i
   pub few_grants : length told.grants ≤ i
 
-pub begins : (xs : List Claimed) (held : Set) (told : ChangeLists) → AreWellFormed xs → held ≡ (reads_of xs).held → told ≡ no_changes → UpTo xs xs 0 empty held told
+pub begins : (xs : List Claimed) (seen : Reads) (told : ChangeLists) → AreWellFormed xs → seen ≡ reads_of xs → told ≡ no_changes → UpTo xs xs 0 empty seen told
 unfolding bars_of status_changes grant_changes
-begins xs held told well is_held none = record {
+begins xs seen told well is_seen none = record {
   settles = refl;
   well_formed = well;
   bars_before = refl;
-  held_by_reads = is_held;
+  reads = is_seen;
   rest = refl;
   as_long = refl;
   statuses = ap (λ (t : ChangeLists). t.statuses) none;
@@ -50,9 +51,9 @@ same_rest xs ys i d a b same =
     let both : get_or xs i d ∷ drop (i + 1) xs ≡ get_or ys i d ∷ drop (i + 1) ys = sym (first_of_rest xs i d a) ∙ same ∙ first_of_rest ys i d b in
     (cc both, cc both)
 
-pub goes_on : (first xs : List Claimed) (i : ℕ) (bars held : Set) (told : ChangeLists) (d : Claimed) → i < length xs → UpTo first xs i bars held told
-    → let x = get_or xs i d in UpTo first (set xs i (entered xs x)) (i + 1) (with_bars bars (entered xs x)) held (with_change told x (entered xs x))
-goes_on first xs i bars held told d h so_far =
+pub goes_on : (first xs : List Claimed) (i : ℕ) (bars : Set) (seen : Reads) (told : ChangeLists) (d : Claimed) → i < length xs → UpTo first xs i bars seen told
+    → let x = get_or xs i d in UpTo first (set xs i (entered xs x)) (i + 1) (with_bars bars (entered xs x)) seen (with_change told x (entered xs x))
+goes_on first xs i bars seen told d h so_far =
     let x = get_or xs i d in
     let y = entered xs x in
     let less : i < i + 1 = omega arith in
@@ -65,7 +66,7 @@ goes_on first xs i bars held told d h so_far =
       settles = settle_step xs i d h ∙ so_far.settles;
       well_formed = well_set xs i d y h refl so_far.well_formed;
       bars_before = ap (λ s. with_bars s y) so_far.bars_before ∙ sym (bars_more xs i y h);
-      held_by_reads = so_far.held_by_reads ∙ sym (ap (λ r. r.held) (reads_same xs i d y h refl (λ r. read_is_left xs x r)));
+      reads = so_far.reads ∙ sym (reads_same xs i d y h refl (λ r. read_is_left xs x r));
       rest = drop-set-lt (i + 1) xs i y less ∙ same.1;
       as_long = length-set xs i y ∙ so_far.as_long;
       statuses = ap (λ (t : List StatusChange). t ++ option_to_list (status_change x y)) so_far.statuses
@@ -78,7 +79,7 @@ goes_on first xs i bars held told d h so_far =
       few_grants = one_more told.grants (grant_change x y) i so_far.few_grants;
     }
 
-module _ (first xs : List Claimed) (i : ℕ) (bars held : Set) (told : ChangeLists) (done : length xs ≤ i) (so_far : UpTo first xs i bars held told) where
+module _ (first xs : List Claimed) (i : ℕ) (bars : Set) (seen : Reads) (told : ChangeLists) (done : length xs ≤ i) (so_far : UpTo first xs i bars seen told) where
   in_first : length first ≤ i
   in_first = (let long = so_far.as_long in omega arith)
 

@@ -1,6 +1,6 @@
 -- How a list of claims is settled, pass by pass: the reads, then the writes by rising stamp, then which reads are kept for.
 -- That the outcome is the one that the rules allow is a theorem.
-use Rattle.std.specs.Prelude.{Bool, true, false, not, ◌&&◌, ◌||◌, List, [], ◌∷◌, ◌++◌, map, fold, if◌then◌else◌}
+use Rattle.std.specs.Prelude.{◌≡◌, Bool, true, false, not, ◌&&◌, ◌||◌, List, [], ◌∷◌, ◌++◌, map, fold, if◌then◌else◌}
 use Rattle.std.specs.List.{list_all}
 use Rattle.std.specs.FinSet.{empty, union}
 use Rattle.rset.specs.Sets.{Set, meets}
@@ -74,6 +74,11 @@ is_clear xs c away =
 -- each earlier write that shares a place with c is satisfied, and writes no place of c and nothing that a read near c waits for
 unfoldable pub has_way : List Claimed → Claim → Bool
 has_way xs c = is_clear xs c c.places && is_clear xs c (read_near xs c.places)
+
+-- where a claim waits, no earlier write bars it; and where no read waits, none stands between it and an earlier write
+pub record IsUnbarred (xs : List Claimed) (x : Claimed) (reads_wait : Bool) : Type 0 where
+  pub places : is_active x ≡ false → is_clear xs x.claim x.claim.places ≡ true
+  pub reads : is_active x ≡ false → reads_wait ≡ false → is_clear xs x.claim (read_near xs x.claim.places) ≡ true
 
 -- the status of an unsatisfied write: whether it has entered, and if so, whether it is held up
 abbrev pub entered_status : Bool → Bool → Status

@@ -1,11 +1,11 @@
 // Settles a list of claims: the reads, then the writes by rising stamp, then which reads are kept for.
 // Where no read is unsatisfied, the passes over the reads change nothing, and are left out.
-ghost use Rattle.std.specs.Prelude.{◌≡◌, ◌<◌, ◌≤◌, length, take, slice_index_or, slice_set, vec_capacity, []};
+ghost use Rattle.std.specs.Prelude.{◌≡◌, ◌<◌, ◌≤◌, true, false, length, take, slice_index_or, slice_set, vec_capacity, []};
 ghost use Rattle.rclaim.specs.declared.TheConstants.{STATUS_ROOM, GRANT_ROOM};
 ghost use Rattle.rclaim.specs.Changes.{no_changes};
 ghost use Rattle.rmodel.specs.Changes.{status_changes, grant_changes, with_change};
 ghost use Rattle.rmodel.specs.WellFormed.{AreWellFormed};
-ghost use Rattle.rmodel.specs.Settling.{written_by_active, written_by_satisfied, read_near, read_status, is_clear, has_way, write_status, kept_status, settle_reads, settle_rest, settle_kept, settled, entered, with_bars, bars_of, with_read, reads_of, stays};
+ghost use Rattle.rmodel.specs.Settling.{written_by_active, written_by_satisfied, read_near, read_status, is_clear, has_way, write_status, kept_status, settle_reads, settle_rest, settle_kept, settled, entered, IsUnbarred, with_bars, bars_of, with_read, reads_of, stays};
 ghost use Rattle.rmodel.specs.declared.claimed.Claimed.{Claimed};
 ghost use Rattle.rmodel.specs.Rules.{is_earlier_write, is_held_up};
 
@@ -116,13 +116,15 @@ fn is_clear(claims: &[Claimed], claim: &Claim, away: ResourceSet) -> bool
     })
 }
 
-/// Whether each earlier write that shares a place with the claim makes way for it.
+/// Whether each earlier write that shares a place with the claim makes way for it, where none of them bars it. Where no
+/// read waits, none stands between.
 #[tactic(auto, unfolding(crate::specs::Settling::has_way))]
-fn has_way(claims: &[Claimed], claim: &Claim) -> bool
+fn has_way(claims: &[Claimed], claim: &Claim, reads_wait: bool) -> bool
+    requires places { is_clear claims.now claim.now claim.now.places ≡ true }
+    requires reads { reads_wait ≡ false → is_clear claims.now claim.now (read_near claims.now claim.now.places) ≡ true }
     ensures { result ≡ has_way claims.now claim.now }
 {
-    is_clear(claims, claim, claim.places)
-        && is_clear(claims, claim, read_near(claims, claim.places))
+    !reads_wait || is_clear(claims, claim, read_near(claims, claim.places))
 }
 
 /// Whether a satisfied read, or a satisfied write of smaller stamp, conflicts with the claim.
@@ -149,13 +151,14 @@ fn read_status(busy: ResourceSet, x: &Claimed) -> Status
 
 /// The status of a claim after the second pass, where the writes before it are settled.
 #[tactic(auto, unfolding(crate::specs::Settling::write_status))]
-fn write_status(claims: &[Claimed], x: &Claimed) -> Status
+fn write_status(claims: &[Claimed], x: &Claimed, reads_wait: bool) -> Status
+    requires { IsUnbarred claims.now x.now reads_wait }
     ensures { result ≡ write_status claims.now x.now }
 {
     if !x.claim.write_half || x.is_satisfied() {
         return x.status;
     }
-    if !x.is_active() && !has_way(claims, &x.claim) {
+    if !x.is_active() && !has_way(claims, &x.claim, reads_wait) {
         return Status::Waiting;
     }
     if is_held_up(claims, &x.claim) {
@@ -221,27 +224,29 @@ fn with_bars(all: ResourceSet, x: &Claimed) -> ResourceSet
 }
 
 /// The claim at a place with its status after the second pass, where the writes before it are settled.
-fn settled_at(claims: &[Claimed], i: usize) -> Claimed
-    requires { i < length claims.now }
+fn settled_at(claims: &[Claimed], i: usize, reads_wait: bool) -> Claimed
+    requires place { i < length claims.now }
+    requires unbarred { (d : Claimed) → IsUnbarred claims.now (slice_index_or claims.now i d) reads_wait }
     ensures { (d : Claimed) → result ≡ entered claims.now (slice_index_or claims.now i d) }
 {
     let x = &claims[i];
     Claimed {
         claim: x.claim,
-        status: write_status(claims, x),
+        status: write_status(claims, x, reads_wait),
     }
 }
 
 /// Settles the claim at a place, where the writes before it are settled, and tells what changes of it.
 #[inline(never)]
-fn settle_write(claims: &mut [Claimed], i: usize, changes: &mut Changes)
+fn settle_write(claims: &mut [Claimed], i: usize, reads_wait: bool, changes: &mut Changes)
     requires place { i < length claims.old }
+    requires unbarred { (d : Claimed) → IsUnbarred claims.old (slice_index_or claims.old i d) reads_wait }
     requires statuses_room { length changes.old.statuses < STATUS_ROOM }
     requires grants_room { length changes.old.grants < GRANT_ROOM }
     ensures claims { (d : Claimed) → claims.new ≡ slice_set claims.old i (entered claims.old (slice_index_or claims.old i d)) }
     ensures changes { (d : Claimed) → let x = slice_index_or claims.old i d in changes.new ≡ with_change changes.old x (entered claims.old x) }
 {
-    let now = settled_at(claims, i);
+    let now = settled_at(claims, i, reads_wait);
     tell_claim(&claims[i], &now, changes);
     claims[i] = now;
 }
@@ -252,29 +257,29 @@ fn settle_or_pass(
     claims: &mut [Claimed],
     i: usize,
     bars: ResourceSet,
-    held: ResourceSet,
+    reads: &Reads,
     changes: &mut Changes,
 )
     requires place { i < length claims.old }
     requires well_formed { AreWellFormed claims.old }
     requires bars { bars ≡ bars_of (take i claims.old) }
-    requires held { held ≡ (reads_of claims.old).held }
+    requires reads { reads.now ≡ reads_of claims.old }
     requires statuses_room { length changes.old.statuses < STATUS_ROOM }
     requires grants_room { length changes.old.grants < GRANT_ROOM }
     ensures claims { (d : Claimed) → claims.new ≡ slice_set claims.old i (entered claims.old (slice_index_or claims.old i d)) }
     ensures changes { (d : Claimed) → let x = slice_index_or claims.old i d in changes.new ≡ with_change changes.old x (entered claims.old x) }
 {
-    if stays(&claims[i], bars, held) {
+    if stays(&claims[i], bars, reads.held) {
         return;
     }
-    settle_write(claims, i, changes);
+    settle_write(claims, i, reads.waiting, changes);
 }
 
-/// The second pass: the writes enter and are satisfied by rising stamp. What changes is told, where `held` is what the
-/// satisfied reads read.
-fn settle_writes(claims: &mut [Claimed], held: ResourceSet, changes: &mut Changes)
+/// The second pass: the writes enter and are satisfied by rising stamp. What changes is told, where `reads` is what is
+/// seen of the reads.
+fn settle_writes(claims: &mut [Claimed], reads: &Reads, changes: &mut Changes)
     requires well_formed { AreWellFormed claims.old }
-    requires held { held ≡ (reads_of claims.old).held }
+    requires reads { reads.now ≡ reads_of claims.old }
     requires room { length claims.old ≤ GRANT_ROOM }
     requires none { changes.old ≡ no_changes }
     ensures claims { claims.new ≡ settle_rest [] claims.old }
@@ -283,7 +288,7 @@ fn settle_writes(claims: &mut [Claimed], held: ResourceSet, changes: &mut Change
 {
     let mut bars = ResourceSet::empty();
     for i in 0..claims.len() {
-        settle_or_pass(claims, i, bars, held, changes);
+        settle_or_pass(claims, i, bars, reads, changes);
         bars = with_bars(bars, &claims[i]);
     }
 }
@@ -308,8 +313,8 @@ fn settle_all(claims: &mut [Claimed], changes: &mut Changes)
     ensures { claims.new ≡ settled claims.old }
 {
     settle_reads(claims);
-    let held = reads_of(claims).held;
-    settle_writes(claims, held, changes);
+    let reads = reads_of(claims);
+    settle_writes(claims, &reads, changes);
     settle_kept(claims);
 }
 
@@ -330,7 +335,7 @@ fn settle_once(claims: &mut [Claimed], before: &mut Vec<Claimed>, changes: &mut 
         settle_all(claims, changes);
         tell_changes(before, claims, changes);
     } else {
-        settle_writes(claims, reads.held, changes);
+        settle_writes(claims, &reads, changes);
     }
 }
 
