@@ -1,5 +1,5 @@
 -- What a step leaves out: the passes over reads where no read is unsatisfied, and the claims that stay as they are.
-use Rattle.std.proofs.Common.{◌≡◌, ℕ, ◌+◌, ◌<◌, Bool, true, false, not, ◌&&◌, ◌||◌, List, [], ◌∷◌, ◌++◌, map, length, get_or, take, drop, cond, refl, sym, ap, subst, ◌∙◌, ◌⊎◌, inl, inr, arith}
+use Rattle.std.proofs.Common.{◌≡◌, ℕ, ◌+◌, ◌<◌, Bool, true, false, not, ◌&&◌, ◌||◌, List, [], ◌∷◌, ◌++◌, map, length, get_or, take, drop, cond, refl, sym, ap, ◌∙◌, ◌⊎◌, inl, inr, arith}
 use Rattle.std.proofs.Math.ListN.{set}
 use Rattle.std.proofs.lemmas.Bool.{true≢false, or_cases, and_parts}
 use Rattle.std.proofs.lemmas.List.{take_more_set, drop-set-lt, take-append-drop}
@@ -13,7 +13,7 @@ use Rattle.rclaim.specs.declared.claim.Status.{Status}
 use Rattle.rclaim.specs.declared.claim.Status.TheVariants.{Waiting, Entitled, Satisfied}
 use Rattle.rmodel.specs.declared.claimed.Claimed.{Claimed}
 use Rattle.rmodel.specs.declared.settle.Reads.{Reads}
-use Rattle.rmodel.specs.Claims.{conflicts, share_place, is_satisfied, is_active, satisfied_by, active_by}
+use Rattle.rmodel.specs.Claims.{share_place, is_satisfied, is_active, satisfied_by, active_by}
 use Rattle.rmodel.specs.Rules.{is_earlier_write, is_held_up}
 use Rattle.rmodel.specs.Settling.{with_status, with_read, no_reads, reads_of, bars_of, written_by_active, written_by_satisfied, read_status, kept_status, read_near, is_clear, has_way, IsUnbarred, entered, entered_status, write_status, settle_reads, settle_rest, settle_kept, settled, stays, stays_by}
 use Rattle.rmodel.specs.WellFormed.{AreWellFormed}

@@ -3,7 +3,7 @@ use Rattle.std.proofs.Math.ListN.{set}
 use Rattle.std.proofs.lemmas.List.{set-get_or, get_or_default}
 use Rattle.rmodel.specs.declared.claimed.Claimed.{Claimed}
 use Rattle.rmodel.specs.Changes.{with_change}
-use Rattle.rmodel.specs.Settling.{entered, stays}
+use Rattle.rmodel.specs.Settling.{stays}
 use Rattle.rmodel.proofs.AtRest.{place_stays, place_is_unbarred}
 use Rattle.rmodel.proofs.ChangeSteps.{no_change}
 use Rattle.rmodel.proofs.settle.settle_or_pass.Goals as goal
