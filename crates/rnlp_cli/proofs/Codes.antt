@@ -1,5 +1,5 @@
 -- The code of a record, from the tests behind it.
-use Rattle.std.proofs.Common.{◌≡◌, ℕ, ◌<◌, ◌≤◌, true, false, ◌==◌, List, [], ◌∷◌, ◌++◌, length, Option, Some, None, refl, sym, ap, subst, ◌∙◌, arith, true≢false}
+use Rattle.std.proofs.Common.{◌≡◌, ℕ, ◌<◌, ◌≤◌, Bool, true, false, cond, ◌==◌, List, [], ◌∷◌, ◌++◌, length, Option, Some, None, refl, sym, ap, subst, ◌∙◌, arith, true≢false}
 use Rattle.std.specs.Ordering.{nat_cmp}
 use Rattle.std.proofs.lemmas.Bool.Decides.{nat_tests}
 use Rattle.std.specs.Prelude.{IfErr, option_map, option_and_then, is_none, IsTrue, Result, Err}
@@ -21,83 +21,97 @@ use Rattle.rmodel.specs.declared.refused.Refused as lock
 use Rattle.rnlp_cli.specs.Records.{Row, word_of, second_of, field_of}
 use Rattle.rnlp_cli.specs.Fields.{length_in, set_in}
 use Rattle.rnlp_cli.specs.Events.{event_in, event_by, request_refusal, refusal_by, refusal_in}
-use Rattle.rnlp_cli.specs.Faults.{resources_in, tasks_in, has_word, is_nil, is_event, is_end, is_bad_field, is_unknown, is_bad_order, refused_code, state_after, code_of}
+use Rattle.rnlp_cli.specs.Faults.{resources_in, groups_in, tasks_in, head_in, has_word, is_nil, is_group, is_event, is_end, is_bad_group, is_bad_field, is_unknown, is_bad_order, refused_code, state_after, code_of}
 use Rattle.rnlp_cli.specs.Reading.{HasRead, IsReady, StepsBy, state_of, step_code}
 use Rattle.rnlp_cli.specs.declared.reading.Reading.{Reading}
 use Rattle.rnlp_cli.specs.declared.record.Word.{Word}
-use Rattle.rnlp_cli.specs.declared.record.Word.TheVariants.{Version, Resource, Task, Issue, Finish, End, Unknown}
+use Rattle.rnlp_cli.specs.declared.record.Word.TheVariants.{Version, Resource, Group, Task, Cap, Issue, Finish, End, Unknown}
 use Rattle.rnlp_cli.specs.declared.list.Code.{Code}
 use Rattle.rnlp_cli.specs.declared.list.Code.TheVariants.{BadField, UnknownName, BadOrder, Refused}
 use Rattle.rnlp_cli.specs.declared.list.Refusal.TheVariants.{Request, Step}
-use Rattle.rnlp_cli.proofs.Grammar.{not_refused}
-use Rattle.rnlp_cli.proofs.Readings.{read_event, three_of}
+use Rattle.rnlp_cli.proofs.Grammar.{not_refused, three_of}
+use Rattle.rnlp_cli.proofs.Readings.{read_event}
 use Rattle.rnlp_cli.proofs.Spelled.{issue_made, finish_made, kind_below, request_right, some_set}
 
 -- ---- by the tests, in order
 
-pub code-field : (before : List Row) (row : Row) (w : Word) → word_of row ≡ w → is_bad_field before row w ≡ true → code_of before row ≡ Some BadField
+pub code-field : (before : List Row) (fields : Row) (w : Word) → word_of fields ≡ w → is_bad_field before fields w ≡ true → code_of before fields ≡ Some BadField
 unfolding code_of
-code-field before row w is e = rw (is, e) refl
+code-field before fields w is e = rw (is, e) refl
 
-pub code-unknown : (before : List Row) (row : Row) (w : Word) → word_of row ≡ w → is_bad_field before row w ≡ false → is_unknown before row w ≡ true → code_of before row ≡ Some UnknownName
+pub code-unknown : (before : List Row) (fields : Row) (w : Word) → word_of fields ≡ w → is_bad_field before fields w ≡ false → is_unknown before fields w ≡ true → code_of before fields ≡ Some UnknownName
 unfolding code_of
-code-unknown before row w is field e = rw (is, field, e) refl
+code-unknown before fields w is field e = rw (is, field, e) refl
 
-pub code-order : (before : List Row) (row : Row) (w : Word) → word_of row ≡ w → is_bad_field before row w ≡ false → is_unknown before row w ≡ false → is_bad_order before w ≡ true → code_of before row ≡ Some BadOrder
+pub code-order : (before : List Row) (fields : Row) (w : Word) → word_of fields ≡ w → is_bad_field before fields w ≡ false → is_unknown before fields w ≡ false → is_bad_order before w ≡ true → code_of before fields ≡ Some BadOrder
 unfolding code_of
-code-order before row w is field names e = rw (is, field, names, e) refl
+code-order before fields w is field names e = rw (is, field, names, e) refl
 
-code-last : (before : List Row) (row : Row) (w : Word) → word_of row ≡ w → is_bad_field before row w ≡ false → is_unknown before row w ≡ false → is_bad_order before w ≡ false → code_of before row ≡ refused_code before row
+code-last : (before : List Row) (fields : Row) (w : Word) → word_of fields ≡ w → is_bad_field before fields w ≡ false → is_unknown before fields w ≡ false → is_bad_order before w ≡ false → code_of before fields ≡ refused_code before fields
 unfolding code_of
-code-last before row w is field names order = rw (is, field, names, order) refl
+code-last before fields w is field names order = rw (is, field, names, order) refl
 
 -- a record of the head has no unknown name, and no refusal
-pub head_known : (before : List Row) (row : Row) (w : Word) → is_event w ≡ false → is_unknown before row w ≡ false
-head_known before row (Issue kind) h = absurd (true≢false h)
-head_known before row Finish h = absurd (true≢false h)
-head_known before row Version h = refl
-head_known before row Resource h = refl
-head_known before row Task h = refl
-head_known before row End h = refl
-head_known before row Unknown h = refl
+pub head_known : (before : List Row) (fields : Row) (w : Word) → is_event w ≡ false → is_group w ≡ false → is_unknown before fields w ≡ false
+head_known before fields (Issue kind) h g = absurd (true≢false h)
+head_known before fields Finish h g = absurd (true≢false h)
+head_known before fields Version h g = refl
+head_known before fields Resource h g = refl
+head_known before fields Group h g = absurd (true≢false g)
+head_known before fields Task h g = refl
+head_known before fields Cap h g = refl
+head_known before fields End h g = refl
+head_known before fields Unknown h g = refl
 
-pub code-head : (before : List Row) (row : Row) (w : Word) → word_of row ≡ w → is_event w ≡ false → is_bad_field before row w ≡ false → is_bad_order before w ≡ false → code_of before row ≡ None
-code-head before row w is none field order =
-    code-last before row w is field (head_known before row w none) order ∙ not_refused before row (ap is_event is ∙ none)
+pub code-head : (before : List Row) (fields : Row) (w : Word) → word_of fields ≡ w → is_event w ≡ false → is_bad_field before fields w ≡ false → is_unknown before fields w ≡ false → is_bad_order before w ≡ false
+    → code_of before fields ≡ None
+code-head before fields w is none field names order = code-last before fields w is field names order ∙ not_refused before fields (ap is_event is ∙ none)
+
+-- a group that names no resource that there is
+pub code-group : (before : List Row) (fields : Row) → word_of fields ≡ Group → set_in (resources_in before) (second_of fields) ≡ None
+    → code_of before fields ≡ Some (cond (is_bad_group (groups_in before) None) BadField UnknownName)
+unfolding code_of
+code-group before fields is unknown = rw (is, unknown) (by_test (is_bad_group (groups_in before) None))
+  where
+    by_test : (b : Bool) → cond b (Some BadField) (Some UnknownName) ≡ Some (cond b BadField UnknownName)
+    by_test true = refl
+    by_test false = refl
 
 -- ---- an event
 
 -- the record is one of an event, which it spells, and stands where it may
-pub record StandsRight (before : List Row) (row : Row) (w : Word) (e : Event) : Type 0 where
-  pub word : word_of row ≡ w
+pub record StandsRight (before : List Row) (fields : Row) (w : Word) (e : Event) : Type 0 where
+  pub word : word_of fields ≡ w
   pub event : is_event w ≡ true
-  pub field : is_bad_field before row w ≡ false
-  pub names : is_unknown before row w ≡ false
+  pub field : is_bad_field before fields w ≡ false
+  pub names : is_unknown before fields w ≡ false
   pub order : is_bad_order before w ≡ false
-  pub spelled : event_in (resources_in before) (tasks_in before) row ≡ Some e
+  pub spelled : event_in (head_in before) fields ≡ Some e
 
-refused-is : (before : List Row) (row : Row) (e : Event) → event_in (resources_in before) (tasks_in before) row ≡ Some e → refused_code before row ≡ option_map Refused (refusal_in (state_after before) e)
-refused-is before row e spelled = ap (λ o. option_map Refused (option_and_then (refusal_in (state_after before)) o)) spelled
+refused-is : (before : List Row) (fields : Row) (e : Event) → event_in (head_in before) fields ≡ Some e → refused_code before fields ≡ option_map Refused (refusal_in (state_after before) e)
+refused-is before fields e spelled = ap (λ o. option_map Refused (option_and_then (refusal_in (state_after before)) o)) spelled
 
-pub code-event : (before : List Row) (row : Row) (w : Word) (e : Event) (old : Reading) → HasRead before old → StandsRight before row w e → code_of before row ≡ option_map Refused (refusal_in (state_of old) e)
-code-event before row w e old h right =
-    code-last before row w right.word right.field right.names right.order ∙ refused-is before row e right.spelled ∙ ap (λ s. option_map Refused (refusal_in s e)) (sym h.state)
+pub code-event : (before : List Row) (fields : Row) (w : Word) (e : Event) (old : Reading) → HasRead before old → StandsRight before fields w e → code_of before fields ≡ option_map Refused (refusal_in (state_of old) e)
+code-event before fields w e old h right =
+    code-last before fields w right.word right.field right.names right.order ∙ refused-is before fields e right.spelled ∙ ap (λ s. option_map Refused (refusal_in s e)) (sym h.state)
 
 has_resources : (before : List Row) (w : Word) → is_event w ≡ true → is_bad_order before w ≡ false → is_nil (resources_in before) ≡ false
 has_resources before (Issue kind) is h = (three_of (is_nil (resources_in before)) (is_nil (tasks_in before)) (has_word is_end before) h).0
 has_resources before Finish is h = (three_of (is_nil (resources_in before)) (is_nil (tasks_in before)) (has_word is_end before) h).0
 has_resources before Version is h = absurd (true≢false (sym is))
 has_resources before Resource is h = absurd (true≢false (sym is))
+has_resources before Group is h = absurd (true≢false (sym is))
 has_resources before Task is h = absurd (true≢false (sym is))
+has_resources before Cap is h = absurd (true≢false (sym is))
 has_resources before End is h = absurd (true≢false (sym is))
 has_resources before Unknown is h = absurd (true≢false (sym is))
 
 -- an event that the lock accepts is read
-pub event_taken : (before : List Row) (row : Row) (w : Word) (e : Event) (old new : Reading) → HasRead before old → StandsRight before row w e → refusal_in (state_of old) e ≡ None → StepsBy old new e
-    → (code_of before row ≡ None) × HasRead (before ++ row ∷ []) new
-event_taken before row w e old new h right free steps = (
-  code-event before row w e old h right ∙ ap (option_map Refused) free,
-  read_event before row old new e h (ap is_event right.word ∙ right.event) right.spelled (has_resources before w right.event right.order) steps,
+pub event_taken : (before : List Row) (fields : Row) (w : Word) (e : Event) (old new : Reading) → HasRead before old → StandsRight before fields w e → refusal_in (state_of old) e ≡ None → StepsBy old new e
+    → (code_of before fields ≡ None) × HasRead (before ++ fields ∷ []) new
+event_taken before fields w e old new h right free steps = (
+  code-event before fields w e old h right ∙ ap (option_map Refused) free,
+  read_event before fields old new e h (ap is_event right.word ∙ right.event) right.spelled (has_resources before w right.event right.order) steps,
 )
 
 -- what the lock says of an event whose request is right
@@ -112,41 +126,41 @@ step-codes None = refl
 step-codes (Some x) = refl
 
 -- an event that the lock refuses has that code
-pub event_refused : (before : List Row) (row : Row) (w : Word) (e : Event) (old : Reading) (code : Code) → HasRead before old → StandsRight before row w e
-    → refusal_in (state_of old) e ≡ option_map Step (refusal (state_of old) e) → Some code ≡ option_map step_code (refusal (state_of old) e) → code_of before row ≡ Some code
-event_refused before row w e old code h right lock told =
-    code-event before row w e old h right ∙ ap (option_map Refused) lock ∙ step-codes (refusal (state_of old) e) ∙ sym told
+pub event_refused : (before : List Row) (fields : Row) (w : Word) (e : Event) (old : Reading) (code : Code) → HasRead before old → StandsRight before fields w e
+    → refusal_in (state_of old) e ≡ option_map Step (refusal (state_of old) e) → Some code ≡ option_map step_code (refusal (state_of old) e) → code_of before fields ≡ Some code
+event_refused before fields w e old code h right lock told =
+    code-event before fields w e old h right ∙ ap (option_map Refused) lock ∙ step-codes (refusal (state_of old) e) ∙ sym told
 
 -- ---- the two records of events
 
-pub finish_right : (before : List Row) (row : Row) (old : Reading) (seat : ℕ) → HasRead before old → word_of row ≡ Finish → number_in old.tasks (second_of row) ≡ Some seat → is_bad_order before Finish ≡ false
-    → StandsRight before row Finish (event.Finish seat)
+pub finish_right : (before : List Row) (fields : Row) (old : Reading) (seat : ℕ) → HasRead before old → word_of fields ≡ Finish → number_in old.tasks (second_of fields) ≡ Some seat → is_bad_order before Finish ≡ false
+    → StandsRight before fields Finish (event.Finish seat)
 unfolding event_in
-finish_right before row old seat h is task order =
-    let known : number_in (tasks_in before) (second_of row) ≡ Some seat = ap (λ ts. number_in ts (second_of row)) (sym h.tasks) ∙ task in
+finish_right before fields old seat h is task order =
+    let known : number_in (tasks_in before) (second_of fields) ≡ Some seat = ap (λ ts. number_in ts (second_of fields)) (sym h.tasks) ∙ task in
     record {
       word = is;
       event = refl;
       field = refl;
       names = ap is_none known;
       order = order;
-      spelled = ap (event_by (resources_in before) (tasks_in before) row) is ∙ finish_made (tasks_in before) row seat known;
+      spelled = ap (event_by (head_in before) fields) is ∙ finish_made (tasks_in before) fields seat known;
     }
 
-pub issue_right : (before : List Row) (row : Row) (old : Reading) (kind : Kind) (seat : ℕ) (set : Set) (len : ℕ) → HasRead before old → word_of row ≡ Issue kind → number_in old.tasks (second_of row) ≡ Some seat
-    → set_in old.resources (field_of row 3) ≡ Some set → length_in (field_of row 4) ≡ Some len → is_bad_order before (Issue kind) ≡ false
-    → StandsRight before row (Issue kind) (event.Issue seat (normalised kind set set len))
+pub issue_right : (before : List Row) (fields : Row) (old : Reading) (kind : Kind) (seat : ℕ) (set : Set) (len : ℕ) → HasRead before old → word_of fields ≡ Issue kind → number_in old.tasks (second_of fields) ≡ Some seat
+    → set_in old.resources (field_of fields 3) ≡ Some set → length_in (field_of fields 4) ≡ Some len → is_bad_order before (Issue kind) ≡ false
+    → StandsRight before fields (Issue kind) (event.Issue seat (normalised kind set set len))
 unfolding event_in
-issue_right before row old kind seat set len h is task names told order =
-    let known : number_in (tasks_in before) (second_of row) ≡ Some seat = ap (λ ts. number_in ts (second_of row)) (sym h.tasks) ∙ task in
-    let members : set_in (resources_in before) (field_of row 3) ≡ Some set = ap (λ rs. set_in rs (field_of row 3)) (sym h.resources) ∙ names in
+issue_right before fields old kind seat set len h is task names told order =
+    let known : number_in (tasks_in before) (second_of fields) ≡ Some seat = ap (λ ts. number_in ts (second_of fields)) (sym h.tasks) ∙ task in
+    let members : set_in (resources_in before) (field_of fields 3) ≡ Some set = ap (λ rs. set_in rs (field_of fields 3)) (sym h.resources) ∙ names in
     record {
       word = is;
       event = refl;
       field = ap is_none told;
       names = rw (known, members) refl;
       order = order;
-      spelled = ap (event_by (resources_in before) (tasks_in before) row) is ∙ issue_made (resources_in before) (tasks_in before) kind row seat set len known members told;
+      spelled = ap (event_by (head_in before) fields) is ∙ issue_made (head_in before) kind fields seat set len known members told;
     }
 
 -- what a request that nothing refuses fits
@@ -197,8 +211,8 @@ pub err_of : {T : Type 0} {x e : RequestErr} → ◌≡◌ {A = Result T Request
 err_of {T} {x} {e} p = cc
 
 -- the record of an issue stands right for the request that is made of its fields
-pub issue_stands : (before : List Row) (row : Row) (old : Reading) (kind : Kind) (seat : ℕ) (set : Set) (len : ℕ) (r : RequestFields) → HasRead before old → word_of row ≡ Issue kind
-    → number_in old.tasks (second_of row) ≡ Some seat → set_in old.resources (field_of row 3) ≡ Some set → length_in (field_of row 4) ≡ Some len → is_bad_order before (Issue kind) ≡ false
-    → r ≡ normalised kind set set len → StandsRight before row (Issue kind) (event.Issue seat r)
-issue_stands before row old kind seat set len r h is task names told order made =
-    subst (λ q. StandsRight before row (Issue kind) (event.Issue seat q)) (sym made) (issue_right before row old kind seat set len h is task names told order)
+pub issue_stands : (before : List Row) (fields : Row) (old : Reading) (kind : Kind) (seat : ℕ) (set : Set) (len : ℕ) (r : RequestFields) → HasRead before old → word_of fields ≡ Issue kind
+    → number_in old.tasks (second_of fields) ≡ Some seat → set_in old.resources (field_of fields 3) ≡ Some set → length_in (field_of fields 4) ≡ Some len → is_bad_order before (Issue kind) ≡ false
+    → r ≡ normalised kind set set len → StandsRight before fields (Issue kind) (event.Issue seat r)
+issue_stands before fields old kind seat set len r h is task names told order made =
+    subst (λ q. StandsRight before fields (Issue kind) (event.Issue seat q)) (sym made) (issue_right before fields old kind seat set len h is task names told order)

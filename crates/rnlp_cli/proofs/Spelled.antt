@@ -24,10 +24,11 @@ use Rattle.rmodel.specs.State.{LockState}
 use Rattle.rmodel.specs.Steps.{refusal, after, next, Comes, AreAccepted}
 use Rattle.rnlp_cli.specs.Records.{Row, second_of, field_of}
 use Rattle.rnlp_cli.specs.Fields.{number_told, length_in, gather, set_in}
+use Rattle.rnlp_cli.specs.Heads.{Head}
 use Rattle.rnlp_cli.specs.Events.{issue_in, event_by, request_refusal, refusal_by, refusal_in}
-use Rattle.rnlp_cli.specs.Faults.{is_event, is_bad_field, is_unknown, resources_in, tasks_in}
+use Rattle.rnlp_cli.specs.Faults.{is_event, is_bad_field, is_unknown, resources_in, tasks_in, head_in}
 use Rattle.rnlp_cli.specs.declared.record.Word.{Word}
-use Rattle.rnlp_cli.specs.declared.record.Word.TheVariants.{Version, Resource, Task, Issue, Finish, End, Unknown}
+use Rattle.rnlp_cli.specs.declared.record.Word.TheVariants.{Version, Resource, Group, Task, Cap, Issue, Finish, End, Unknown}
 use Rattle.rnlp_cli.specs.declared.list.Refusal.TheVariants.{Step}
 
 some_is : {X : Type 0} {x y : X} → Some x ≡ Some y → x ≡ y
@@ -51,74 +52,80 @@ is_there (Some x) h = (x, refl)
 
 -- ---- what a record that spells an event has in its fields
 
-pub record IssueSpelled (resources tasks : List (List ℕ)) (kind : Kind) (row : Row) (e : Event) : Type 0 where
+pub record IssueSpelled (head : Head) (kind : Kind) (fields : Row) (e : Event) : Type 0 where
   pub seat : ℕ
   pub set : Set
   pub len : ℕ
-  pub task : number_in tasks (second_of row) ≡ Some seat
-  pub names : set_in resources (field_of row 3) ≡ Some set
-  pub length : length_in (field_of row 4) ≡ Some len
+  pub task : number_in head.tasks (second_of fields) ≡ Some seat
+  pub names : set_in head.resources (field_of fields 3) ≡ Some set
+  pub length : length_in (field_of fields 4) ≡ Some len
   pub is : e ≡ event.Issue seat (normalised kind set set len)
 
-pub issue_spelled : (resources tasks : List (List ℕ)) (kind : Kind) (row : Row) (e : Event) → issue_in resources tasks kind row ≡ Some e → IssueSpelled resources tasks kind row e
-issue_spelled resources tasks kind row e h =
-    let a = and_then_some _ (number_in tasks (second_of row)) e h in
-    let b = and_then_some _ (set_in resources (field_of row 3)) e a.2 in
-    let c = map_some _ (length_in (field_of row 4)) e b.2 in
+pub issue_spelled : (head : Head) (kind : Kind) (fields : Row) (e : Event) → issue_in head kind fields ≡ Some e → IssueSpelled head kind fields e
+issue_spelled head kind fields e h =
+    let a = and_then_some _ (number_in head.tasks (second_of fields)) e h in
+    let b = and_then_some _ (set_in head.resources (field_of fields 3)) e a.2 in
+    let c = map_some _ (length_in (field_of fields 4)) e b.2 in
     record { seat = a.0; set = b.0; len = c.0; task = a.1; names = b.1; length = c.1; is = sym c.2 }
 
 -- an event stands in a record of an event alone
-pub spells_event : (resources tasks : List (List ℕ)) (row : Row) (w : Word) (e : Event) → event_by resources tasks row w ≡ Some e → is_event w ≡ true
-spells_event resources tasks row (Issue kind) e h = refl
-spells_event resources tasks row Finish e h = refl
-spells_event resources tasks row Version e h = absurd (some_none h)
-spells_event resources tasks row Resource e h = absurd (some_none h)
-spells_event resources tasks row Task e h = absurd (some_none h)
-spells_event resources tasks row End e h = absurd (some_none h)
-spells_event resources tasks row Unknown e h = absurd (some_none h)
+pub spells_event : (head : Head) (fields : Row) (w : Word) (e : Event) → event_by head fields w ≡ Some e → is_event w ≡ true
+spells_event head fields (Issue kind) e h = refl
+spells_event head fields Finish e h = refl
+spells_event head fields Version e h = absurd (some_none h)
+spells_event head fields Resource e h = absurd (some_none h)
+spells_event head fields Group e h = absurd (some_none h)
+spells_event head fields Task e h = absurd (some_none h)
+spells_event head fields Cap e h = absurd (some_none h)
+spells_event head fields End e h = absurd (some_none h)
+spells_event head fields Unknown e h = absurd (some_none h)
 
 or_false : (a b : Bool) → a ≡ false → b ≡ false → (a || b) ≡ false
 or_false a b p q = rw (p, q) refl
 
 -- its fields are right and its names known
-pub spelled_right : (before : List Row) (row : Row) (w : Word) (e : Event) → event_by (resources_in before) (tasks_in before) row w ≡ Some e
-    → (is_bad_field before row w ≡ false) × (is_unknown before row w ≡ false)
-spelled_right before row (Issue kind) e h =
-    let s = issue_spelled (resources_in before) (tasks_in before) kind row e h in
+pub spelled_right : (before : List Row) (fields : Row) (w : Word) (e : Event) → event_by (head_in before) fields w ≡ Some e
+    → (is_bad_field before fields w ≡ false) × (is_unknown before fields w ≡ false)
+spelled_right before fields (Issue kind) e h =
+    let s = issue_spelled (head_in before) kind fields e h in
     (ap is_none s.length, or_false _ _ (ap is_none s.task) (ap is_none s.names))
-spelled_right before row Finish e h = let s = map_some event.Finish (number_in (tasks_in before) (second_of row)) e h in (refl, ap is_none s.1)
-spelled_right before row Version e h = absurd (some_none h)
-spelled_right before row Resource e h = absurd (some_none h)
-spelled_right before row Task e h = absurd (some_none h)
-spelled_right before row End e h = absurd (some_none h)
-spelled_right before row Unknown e h = absurd (some_none h)
+spelled_right before fields Finish e h = let s = map_some event.Finish (number_in (tasks_in before) (second_of fields)) e h in (refl, ap is_none s.1)
+spelled_right before fields Version e h = absurd (some_none h)
+spelled_right before fields Resource e h = absurd (some_none h)
+spelled_right before fields Group e h = absurd (some_none h)
+spelled_right before fields Task e h = absurd (some_none h)
+spelled_right before fields Cap e h = absurd (some_none h)
+spelled_right before fields End e h = absurd (some_none h)
+spelled_right before fields Unknown e h = absurd (some_none h)
 
 neither_of : (a b : Bool) → (a || b) ≡ false → (a ≡ false) × (b ≡ false)
 neither_of true b h = absurd (true≢false h)
 neither_of false b h = (refl, h)
 
-pub issue_made : (resources tasks : List (List ℕ)) (kind : Kind) (row : Row) (seat : ℕ) (set : Set) (len : ℕ) → number_in tasks (second_of row) ≡ Some seat
-    → set_in resources (field_of row 3) ≡ Some set → length_in (field_of row 4) ≡ Some len → issue_in resources tasks kind row ≡ Some (event.Issue seat (normalised kind set set len))
-issue_made resources tasks kind row seat set len a b c = rw (a, b, c) refl
+pub issue_made : (head : Head) (kind : Kind) (fields : Row) (seat : ℕ) (set : Set) (len : ℕ) → number_in head.tasks (second_of fields) ≡ Some seat
+    → set_in head.resources (field_of fields 3) ≡ Some set → length_in (field_of fields 4) ≡ Some len → issue_in head kind fields ≡ Some (event.Issue seat (normalised kind set set len))
+issue_made head kind fields seat set len a b c = rw (a, b, c) refl
 
-pub finish_made : (tasks : List (List ℕ)) (row : Row) (seat : ℕ) → number_in tasks (second_of row) ≡ Some seat → option_map event.Finish (number_in tasks (second_of row)) ≡ Some (event.Finish seat)
-finish_made tasks row seat a = rw a refl
+pub finish_made : (tasks : List (List ℕ)) (fields : Row) (seat : ℕ) → number_in tasks (second_of fields) ≡ Some seat → option_map event.Finish (number_in tasks (second_of fields)) ≡ Some (event.Finish seat)
+finish_made tasks fields seat a = rw a refl
 
 -- a record of an event whose fields are right and whose names are known spells one
-pub right_spells : (before : List Row) (row : Row) (w : Word) → is_event w ≡ true → is_bad_field before row w ≡ false → is_unknown before row w ≡ false
-    → (e : Event) × (event_by (resources_in before) (tasks_in before) row w ≡ Some e)
-right_spells before row (Issue kind) is field names =
-    let known = neither_of (is_none (number_in (tasks_in before) (second_of row))) _ names in
-    let seat = is_there (number_in (tasks_in before) (second_of row)) known.0 in
-    let set = is_there (set_in (resources_in before) (field_of row 3)) known.1 in
-    let len = is_there (length_in (field_of row 4)) field in
-    (event.Issue seat.0 (normalised kind set.0 set.0 len.0), issue_made (resources_in before) (tasks_in before) kind row seat.0 set.0 len.0 seat.1 set.1 len.1)
-right_spells before row Finish is field names = let seat = is_there (number_in (tasks_in before) (second_of row)) names in (event.Finish seat.0, finish_made (tasks_in before) row seat.0 seat.1)
-right_spells before row Version is field names = absurd (true≢false (sym is))
-right_spells before row Resource is field names = absurd (true≢false (sym is))
-right_spells before row Task is field names = absurd (true≢false (sym is))
-right_spells before row End is field names = absurd (true≢false (sym is))
-right_spells before row Unknown is field names = absurd (true≢false (sym is))
+pub right_spells : (before : List Row) (fields : Row) (w : Word) → is_event w ≡ true → is_bad_field before fields w ≡ false → is_unknown before fields w ≡ false
+    → (e : Event) × (event_by (head_in before) fields w ≡ Some e)
+right_spells before fields (Issue kind) is field names =
+    let known = neither_of (is_none (number_in (tasks_in before) (second_of fields))) _ names in
+    let seat = is_there (number_in (tasks_in before) (second_of fields)) known.0 in
+    let set = is_there (set_in (resources_in before) (field_of fields 3)) known.1 in
+    let len = is_there (length_in (field_of fields 4)) field in
+    (event.Issue seat.0 (normalised kind set.0 set.0 len.0), issue_made (head_in before) kind fields seat.0 set.0 len.0 seat.1 set.1 len.1)
+right_spells before fields Finish is field names = let seat = is_there (number_in (tasks_in before) (second_of fields)) names in (event.Finish seat.0, finish_made (tasks_in before) fields seat.0 seat.1)
+right_spells before fields Version is field names = absurd (true≢false (sym is))
+right_spells before fields Resource is field names = absurd (true≢false (sym is))
+right_spells before fields Group is field names = absurd (true≢false (sym is))
+right_spells before fields Task is field names = absurd (true≢false (sym is))
+right_spells before fields Cap is field names = absurd (true≢false (sym is))
+right_spells before fields End is field names = absurd (true≢false (sym is))
+right_spells before fields Unknown is field names = absurd (true≢false (sym is))
 
 -- ---- what such an event fits
 
@@ -207,29 +214,31 @@ kind_below q Read set n below = (below, all_below_empty q)
 kind_below q Write set n below = (all_below_empty q, below)
 
 -- a spelled event that is not refused comes to the state
-pub free_comes : (resources tasks : List (List ℕ)) (row : Row) (w : Word) (e : Event) (s : LockState) → event_by resources tasks row w ≡ Some e
-    → s.resources ≡ length resources → s.seats ≡ length tasks → s.issued < 2 ^ 63 → refusal_in s e ≡ None → Comes s e
-free_comes resources tasks row (Issue kind) e s h rs ts stamps free =
-    let told = issue_spelled resources tasks kind row e h in
+pub free_comes : (head : Head) (fields : Row) (w : Word) (e : Event) (s : LockState) → event_by head fields w ≡ Some e
+    → s.resources ≡ length head.resources → s.seats ≡ length head.tasks → s.issued < 2 ^ 63 → refusal_in s e ≡ None → Comes s e
+free_comes head fields (Issue kind) e s h rs ts stamps free =
+    let told = issue_spelled head kind fields e h in
     let r : RequestFields = normalised kind told.set told.set told.len in
     let none = refused_by_none s (event.Issue told.seat r) (request_refusal r) (ap (refusal_in s) (sym told.is) ∙ free) in
-    let right = request_right kind told.set told.len none.0 (length_within (field_of row 4) told.len told.length) in
-    let below = kind_below s.resources kind told.set told.len (ap (λ q. all_below q told.set) rs ∙ set_below resources (field_of row 3) told.set told.names) in
-    let seat : told.seat < s.seats = subst (λ n. told.seat < n) (sym ts) (number_below tasks (second_of row) told.seat told.task) in
+    let right = request_right kind told.set told.len none.0 (length_within (field_of fields 4) told.len told.length) in
+    let below = kind_below s.resources kind told.set told.len (ap (λ q. all_below q told.set) rs ∙ set_below head.resources (field_of fields 3) told.set told.names) in
+    let seat : told.seat < s.seats = subst (λ n. told.seat < n) (sym ts) (number_below head.tasks (second_of fields) told.seat told.task) in
     subst (Comes s) (sym told.is) (record {
       fits = record { seat_there = seat; reads = below.0; writes = below.1; admitted = right.1; stamps = stamps };
       normal = right.0;
       accepted = none.1;
     })
-free_comes resources tasks row Finish e s h rs ts stamps free =
-    let told = map_some event.Finish (number_in tasks (second_of row)) e h in
-    let seat : told.0 < s.seats = subst (λ n. told.0 < n) (sym ts) (number_below tasks (second_of row) told.0 told.1) in
+free_comes head fields Finish e s h rs ts stamps free =
+    let told = map_some event.Finish (number_in head.tasks (second_of fields)) e h in
+    let seat : told.0 < s.seats = subst (λ n. told.0 < n) (sym ts) (number_below head.tasks (second_of fields) told.0 told.1) in
     subst (Comes s) told.2 (record { fits = seat; normal = tt; accepted = map_none Step _ (ap (refusal_in s) told.2 ∙ free) })
-free_comes resources tasks row Version e s h rs ts stamps free = absurd (some_none h)
-free_comes resources tasks row Resource e s h rs ts stamps free = absurd (some_none h)
-free_comes resources tasks row Task e s h rs ts stamps free = absurd (some_none h)
-free_comes resources tasks row End e s h rs ts stamps free = absurd (some_none h)
-free_comes resources tasks row Unknown e s h rs ts stamps free = absurd (some_none h)
+free_comes head fields Version e s h rs ts stamps free = absurd (some_none h)
+free_comes head fields Resource e s h rs ts stamps free = absurd (some_none h)
+free_comes head fields Group e s h rs ts stamps free = absurd (some_none h)
+free_comes head fields Task e s h rs ts stamps free = absurd (some_none h)
+free_comes head fields Cap e s h rs ts stamps free = absurd (some_none h)
+free_comes head fields End e s h rs ts stamps free = absurd (some_none h)
+free_comes head fields Unknown e s h rs ts stamps free = absurd (some_none h)
 
 -- ---- what lists of events leave of a state
 

@@ -6,7 +6,7 @@ use Rattle.csv.specs.Records.{field_at}
 use Rattle.csv.specs.declared.parser.State.TheVariants as st
 use Rattle.rclaim.specs.declared.request.Kind.TheVariants.{Read, Write}
 use Rattle.rnlp_cli.specs.declared.record.Word.{Word}
-use Rattle.rnlp_cli.specs.declared.record.Word.TheVariants.{Version, Resource, Task, Issue, Finish, End, Unknown}
+use Rattle.rnlp_cli.specs.declared.record.Word.TheVariants.{Version, Resource, Group, Task, Cap, Issue, Finish, End, Unknown}
 
 -- the fields of a record
 abbrev pub Row : Type 0
@@ -18,7 +18,7 @@ AreRowsOf bytes rows = AreRecords default_config st.StartRecord (strip_bom bytes
 
 -- the field at a place counted from 0, or nothing
 abbrev pub field_of : Row → ℕ → List ℕ
-field_of row place = unwrap_or (field_at row place) []
+field_of fields place = unwrap_or (field_at fields place) []
 
 -- the second field, or nothing
 abbrev pub second_of : Row → List ℕ
@@ -35,7 +35,9 @@ abbrev pub word_with : List ℕ → List ℕ → Word
 word_with first second =
     if bytes_eq first (codes "finish") then Finish
     else if bytes_eq first (codes "resource") then Resource
+    else if bytes_eq first (codes "group") then Group
     else if bytes_eq first (codes "task") then Task
+    else if bytes_eq first (codes "cap") then Cap
     else if bytes_eq first (codes "rnlp") && bytes_eq second (codes "1") then Version
     else Unknown
 

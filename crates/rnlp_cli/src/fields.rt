@@ -1,11 +1,12 @@
-// What the fields of an event spell.
+// What the fields of a record spell.
 ghost use Rattle.std.specs.Prelude.{◌≡◌, ◌≤◌, IfSome, IsTrue, length};
 ghost use Rattle.rclaim.specs.declared.TheConstants.{LENGTH_LIMIT};
-ghost use Rattle.rnlp_cli.specs.Fields.{length_in, number_told, digit_behind, set_in};
+ghost use Rattle.rset.specs.declared.TheConstants.{SEATS};
+ghost use Rattle.rnlp_cli.specs.Fields.{length_in, cap_within, cap_told, number_told, digit_behind, set_in};
 ghost use Rattle.rset.specs.Sets.{all_below};
 
 use rclaim::LENGTH_LIMIT;
-use rset::{NameTable, ResourceSet};
+use rset::{NameTable, ResourceSet, SEATS};
 
 /// The length that a field tells; None where it is no number, or above the limit.
 pub fn length_of(field: &[u8]) -> Option<u32>
@@ -17,6 +18,26 @@ pub fn length_of(field: &[u8]) -> Option<u32>
         return None;
     }
     Some(number as u32)
+}
+
+/// The cap that a field tells; None where it is no number from 1 to [`SEATS`].
+pub fn cap_of(field: &[u8]) -> Option<u8>
+    ensures value { result ≡ cap_told field.now }
+    ensures bounds { IfSome result (λ cap. (1 ≤ cap) × (cap ≤ SEATS)) }
+{
+    cap_within(number_of(field)?)
+}
+
+// The number as a cap; None where it is none.
+fn cap_within(number: u64) -> Option<u8>
+    ensures value { result ≡ cap_within number }
+    ensures bounds { IfSome result (λ cap. (1 ≤ cap) × (cap ≤ SEATS)) }
+{
+    if number == 0 || number > u64::from(SEATS) {
+        None
+    } else {
+        Some(number as u8)
+    }
 }
 
 // The number that a field tells; None where it is none.

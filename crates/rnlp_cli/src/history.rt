@@ -88,8 +88,12 @@ fn name_at(names: &NameTable, n: u8) -> &[u8]
     }
 }
 
-// Appends the names of a set as one field more.
-fn push_set(text: &mut Vec<u8>, resources: &NameTable, set: ResourceSet) -> Result<(), AllocError>
+/// Appends the names of a set as one field more.
+pub fn push_set(
+    text: &mut Vec<u8>,
+    resources: &NameTable,
+    set: ResourceSet,
+) -> Result<(), AllocError>
     ensures { OnOk result (text.new.items ≡ text.old.items ++ behind_comma (set_text resources.now set)) }
 {
     if set.is_empty() {

@@ -20,32 +20,32 @@ use Rattle.rnlp_cli.proofs.reading.Reading.issue.Goals as goal
 
 pub returns-in_default-clause-bad : goal.returns-in_default-clause-bad
 returns-in_default-clause-bad c = λ code is before h.
-    let row = fields_of c.args.row.now in
+    let fields = fields_of c.args.fields.now in
     let none = ap length_in (sym c.field_of.ensures) ∙ sym c.length_of.ensures.value ∙ c.in_default.is in
-    code-field before row (Issue c.args.kind) c.requires.word (ap is_none none) ∙ ap Some (same_bad is)
+    code-field before fields (Issue c.args.kind) c.requires.word (ap is_none none) ∙ ap Some (same_bad is)
 
 pub returns-in_default-number_of-clause-bad : goal.returns-in_default-number_of-clause-bad
 returns-in_default-number_of-clause-bad c = λ code is before h.
-    let row = fields_of c.args.row.now in
+    let fields = fields_of c.args.fields.now in
     let told = ap length_in (sym c.field_of.ensures) ∙ sym c.length_of.ensures.value ∙ c.in-Some.is in
-    let unknown = (λ i. number_in (sym h.tasks i) (sym (c.field_of-2.ensures ∙ second-field row) i)) ∙ sym c.number_of.ensures.value ∙ c.in_default-number_of.is in
-    code-unknown before row (Issue c.args.kind) c.requires.word (ap is_none told) (ap (λ o. is_none o || is_none (set_in (resources_in before) (field_of row 3))) unknown) ∙ ap Some (same_bad is)
+    let unknown = (λ i. number_in (sym h.tasks i) (sym (c.field_of-2.ensures ∙ second-field fields) i)) ∙ sym c.number_of.ensures.value ∙ c.in_default-number_of.is in
+    code-unknown before fields (Issue c.args.kind) c.requires.word (ap is_none told) (ap (λ o. is_none o || is_none (set_in (resources_in before) (field_of fields 3))) unknown) ∙ ap Some (same_bad is)
 
 pub returns-in_default-set_of-clause-bad : goal.returns-in_default-set_of-clause-bad
 returns-in_default-set_of-clause-bad c = λ code is before h.
-    let row = fields_of c.args.row.now in
+    let fields = fields_of c.args.fields.now in
     let told = ap length_in (sym c.field_of.ensures) ∙ sym c.length_of.ensures.value ∙ c.in-Some.is in
-    let known = (λ i. number_in (sym h.tasks i) (sym (c.field_of-2.ensures ∙ second-field row) i)) ∙ sym c.number_of.ensures.value ∙ c.in-Some-number_of.is in
+    let known = (λ i. number_in (sym h.tasks i) (sym (c.field_of-2.ensures ∙ second-field fields) i)) ∙ sym c.number_of.ensures.value ∙ c.in-Some-number_of.is in
     let unknown = (λ i. set_in (sym h.resources i) (sym c.field_of-3.ensures i)) ∙ sym c.set_of.ensures.value ∙ c.in_default-set_of.is in
-    code-unknown before row (Issue c.args.kind) c.requires.word (ap is_none told) (λ i. is_none (known i) || is_none (unknown i)) ∙ ap Some (same_bad is)
+    code-unknown before fields (Issue c.args.kind) c.requires.word (ap is_none told) (λ i. is_none (known i) || is_none (unknown i)) ∙ ap Some (same_bad is)
 
 pub returns-then-misplaces-clause-bad : goal.returns-then-misplaces-clause-bad
 returns-then-misplaces-clause-bad c = λ code is before h.
-    let row = fields_of c.args.row.now in
+    let fields = fields_of c.args.fields.now in
     let told = ap length_in (sym c.field_of.ensures) ∙ sym c.length_of.ensures.value ∙ c.in-Some.is in
-    let known = (λ i. number_in (sym h.tasks i) (sym (c.field_of-2.ensures ∙ second-field row) i)) ∙ sym c.number_of.ensures.value ∙ c.in-Some-number_of.is in
+    let known = (λ i. number_in (sym h.tasks i) (sym (c.field_of-2.ensures ∙ second-field fields) i)) ∙ sym c.number_of.ensures.value ∙ c.in-Some-number_of.is in
     let members = (λ i. set_in (sym h.resources i) (sym c.field_of-3.ensures i)) ∙ sym c.set_of.ensures.value ∙ c.in-Some-set_of.is in
-    code-order before row (Issue c.args.kind) c.requires.word (ap is_none told) (λ i. is_none (known i) || is_none (members i)) (sym (c.misplaces.ensures.order before h) ∙ c.if-misplaces.true)
+    code-order before fields (Issue c.args.kind) c.requires.word (ap is_none told) (λ i. is_none (known i) || is_none (members i)) (sym (c.misplaces.ensures.order before h) ∙ c.if-misplaces.true)
     ∙ ap Some (same_bad is)
 
 pub step-requires-clause-fits : goal.step-requires-clause-fits
@@ -57,35 +57,35 @@ step-requires-clause-fits c =
 pub returns-in-Ok-clause-taken : goal.returns-in-Ok-clause-taken
 returns-in-Ok-clause-taken c =
     on_ok c.step.result _ _ c.step.ensures.stepped (λ steps before h.
-    let row = fields_of c.args.row.now in
+    let fields = fields_of c.args.fields.now in
     let told = ap length_in (sym c.field_of.ensures) ∙ sym c.length_of.ensures.value ∙ c.in-Some.is in
-    let task = ap (number_in c.args.self.now.tasks) (sym (c.field_of-2.ensures ∙ second-field row)) ∙ sym c.number_of.ensures.value ∙ c.in-Some-number_of.is in
+    let task = ap (number_in c.args.self.now.tasks) (sym (c.field_of-2.ensures ∙ second-field fields)) ∙ sym c.number_of.ensures.value ∙ c.in-Some-number_of.is in
     let names = ap (set_in c.args.self.now.resources) (sym c.field_of-3.ensures) ∙ sym c.set_of.ensures.value ∙ c.in-Some-set_of.is in
     let order = sym (c.misplaces.ensures.order before h) ∙ c.if-misplaces.false in
-    let right = issue_stands before row c.args.self.now c.args.kind c.in-Some-number_of.seat c.in-Some-set_of.set c.in-Some.len c.in-Ok.request h c.requires.word task names told order c.in-Ok.ensures.made.0 in
+    let right = issue_stands before fields c.args.self.now c.args.kind c.in-Some-number_of.seat c.in-Some-set_of.set c.in-Some.len c.in-Ok.request h c.requires.word task names told order c.in-Ok.ensures.made.0 in
     let lock = refusal-right (state_of c.args.self.now) c.in-Some-number_of.seat c.in-Ok.request (ap request_refusal c.in-Ok.ensures.made.0 ∙ c.in-Ok.ensures.made.1) in
-    event_taken before row (Issue c.args.kind) _ c.args.self.now c.step.new.self h right (lock ∙ ap (option_map Step) steps.accepted) steps)
+    event_taken before fields (Issue c.args.kind) _ c.args.self.now c.step.new.self h right (lock ∙ ap (option_map Step) steps.accepted) steps)
 
 pub returns-in-Ok-clause-bad : goal.returns-in-Ok-clause-bad
 returns-in-Ok-clause-bad c = λ code is before h.
-    let row = fields_of c.args.row.now in
+    let fields = fields_of c.args.fields.now in
     let told = ap length_in (sym c.field_of.ensures) ∙ sym c.length_of.ensures.value ∙ c.in-Some.is in
-    let task = ap (number_in c.args.self.now.tasks) (sym (c.field_of-2.ensures ∙ second-field row)) ∙ sym c.number_of.ensures.value ∙ c.in-Some-number_of.is in
+    let task = ap (number_in c.args.self.now.tasks) (sym (c.field_of-2.ensures ∙ second-field fields)) ∙ sym c.number_of.ensures.value ∙ c.in-Some-number_of.is in
     let names = ap (set_in c.args.self.now.resources) (sym c.field_of-3.ensures) ∙ sym c.set_of.ensures.value ∙ c.in-Some-set_of.is in
     let order = sym (c.misplaces.ensures.order before h) ∙ c.if-misplaces.false in
-    let right = issue_stands before row c.args.self.now c.args.kind c.in-Some-number_of.seat c.in-Some-set_of.set c.in-Some.len c.in-Ok.request h c.requires.word task names told order c.in-Ok.ensures.made.0 in
+    let right = issue_stands before fields c.args.self.now c.args.kind c.in-Some-number_of.seat c.in-Some-set_of.set c.in-Some.len c.in-Ok.request h c.requires.word task names told order c.in-Ok.ensures.made.0 in
     let lock = refusal-right (state_of c.args.self.now) c.in-Some-number_of.seat c.in-Ok.request (ap request_refusal c.in-Ok.ensures.made.0 ∙ c.in-Ok.ensures.made.1) in
-    event_refused before row (Issue c.args.kind) _ c.args.self.now code h right lock (c.step.ensures.refused code is)
+    event_refused before fields (Issue c.args.kind) _ c.args.self.now code h right lock (c.step.ensures.refused code is)
 
 pub returns-in-Err-clause-bad : goal.returns-in-Err-clause-bad
 returns-in-Err-clause-bad c = λ code is before h.
-    let row = fields_of c.args.row.now in
+    let fields = fields_of c.args.fields.now in
     let told = ap length_in (sym c.field_of.ensures) ∙ sym c.length_of.ensures.value ∙ c.in-Some.is in
-    let task = ap (number_in c.args.self.now.tasks) (sym (c.field_of-2.ensures ∙ second-field row)) ∙ sym c.number_of.ensures.value ∙ c.in-Some-number_of.is in
+    let task = ap (number_in c.args.self.now.tasks) (sym (c.field_of-2.ensures ∙ second-field fields)) ∙ sym c.number_of.ensures.value ∙ c.in-Some-number_of.is in
     let names = ap (set_in c.args.self.now.resources) (sym c.field_of-3.ensures) ∙ sym c.set_of.ensures.value ∙ c.in-Some-set_of.is in
     let order = sym (c.misplaces.ensures.order before h) ∙ c.if-misplaces.false in
     let made = normalised c.args.kind c.in-Some-set_of.set c.in-Some-set_of.set c.in-Some.len in
-    let right = issue_right before row c.args.self.now c.args.kind c.in-Some-number_of.seat c.in-Some-set_of.set c.in-Some.len h c.requires.word task names told order in
-    code-event before row (Issue c.args.kind) (event.Issue c.in-Some-number_of.seat made) c.args.self.now h right
+    let right = issue_right before fields c.args.self.now c.args.kind c.in-Some-number_of.seat c.in-Some-set_of.set c.in-Some.len h c.requires.word task names told order in
+    code-event before fields (Issue c.args.kind) (event.Issue c.in-Some-number_of.seat made) c.args.self.now h right
     ∙ ap (option_map Refused) (refusal-wrong (state_of c.args.self.now) c.in-Some-number_of.seat made c.in-Err.cause c.in-Err.ensures.refused)
     ∙ ap Some (same_bad is)
