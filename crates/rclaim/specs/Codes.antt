@@ -1,10 +1,10 @@
 -- How proofs tell values apart that hold sets: each is coded by its parts.
-use Rattle.std.specs.Prelude.{◌≡◌, ℕ, ◌==◌, Bool, true, false, refl, cond, if◌then◌else◌}
+use Rattle.std.specs.Prelude.{◌≡◌, ℕ, ◌==◌, Bool, refl, if◌then◌else◌}
 use Rattle.std.specs.Coded.{Coded, code_by, coded_ℕ, coded_bool, coded×}
 use Rattle.std.specs.FinSet as set
 use Rattle.rset.specs.Sets.{Set}
 use Rattle.rclaim.specs.declared.request.Kind.{Kind}
-use Rattle.rclaim.specs.declared.request.Kind.TheVariants.{Read, Write}
+use Rattle.rclaim.specs.declared.request.Kind.TheVariants.{Read, Write, Mixed}
 use Rattle.rclaim.specs.declared.claim.Status.{Status}
 use Rattle.rclaim.specs.declared.claim.Status.TheVariants.{Waiting, Entitled, Satisfied}
 use Rattle.rclaim.specs.declared.changes.StatusChange.{StatusChange}
@@ -13,17 +13,22 @@ use Rattle.rclaim.specs.declared.changes.GrantChange.{GrantChange}
 abbrev pub set_code : Coded Set
 set_code = set.code coded_ℕ
 
--- a kind is told by whether it writes
-abbrev pub writes_of : Kind → Bool
-writes_of Read = false
-writes_of Write = true
+-- a kind is told by a number
+abbrev pub kind_number : Kind → ℕ
+kind_number Read = 0
+kind_number Write = 1
+kind_number Mixed = 2
 
-pub kind_of-writes_of : (k : Kind) → cond (writes_of k) Write Read ≡ k
-kind_of-writes_of Read = refl
-kind_of-writes_of Write = refl
+abbrev pub kind_of : ℕ → Kind
+kind_of n = if n == 0 then Read else (if n == 1 then Write else Mixed)
+
+pub kind_of-kind_number : (k : Kind) → kind_of (kind_number k) ≡ k
+kind_of-kind_number Read = refl
+kind_of-kind_number Write = refl
+kind_of-kind_number Mixed = refl
 
 abbrev pub kind_code : Coded Kind
-kind_code = code_by Bool coded_bool writes_of (λ b. cond b Write Read) kind_of-writes_of
+kind_code = code_by ℕ coded_ℕ kind_number kind_of kind_of-kind_number
 
 -- a status is told by its number
 abbrev pub number_of : Status → ℕ

@@ -1,11 +1,11 @@
 -- Requests: their fields, which set a kind is about, and the normal form.
-use Rattle.std.specs.Prelude.{◌≡◌, ◌≢◌, ◌≤◌, ℕ, refl}
+use Rattle.std.specs.Prelude.{◌≡◌, ◌≢◌, ◌≤◌, ℕ, false, refl}
 use Rattle.std.specs.Coded.{Coded, code_by, coded×, coded_ℕ}
-use Rattle.std.specs.FinSet.{empty}
-use Rattle.rset.specs.Sets.{Set}
+use Rattle.std.specs.FinSet.{empty, difference}
+use Rattle.rset.specs.Sets.{Set, meets}
 use Rattle.rclaim.specs.Codes.{set_code, kind_code}
 use Rattle.rclaim.specs.declared.request.Kind.{Kind}
-use Rattle.rclaim.specs.declared.request.Kind.TheVariants.{Read, Write}
+use Rattle.rclaim.specs.declared.request.Kind.TheVariants.{Read, Write, Mixed}
 use Rattle.rclaim.specs.declared.TheConstants.{LENGTH_LIMIT}
 
 -- what a request says
@@ -29,16 +29,19 @@ request_code =
 abbrev pub asked_set : Kind → Set → Set → Set
 asked_set Read reads writes = reads
 asked_set Write reads writes = writes
+asked_set Mixed reads writes = writes
 
--- the request in normal form: a read writes nothing, a write reads nothing
+-- the request in normal form: a read writes nothing, a write reads nothing, and a mixed request reads nothing that it writes
 abbrev pub normalised : Kind → Set → Set → ℕ → RequestFields
 normalised Read reads writes len = record { kind = Read; reads = reads; writes = empty; first = empty; len = len; later = 0 }
 normalised Write reads writes len = record { kind = Write; reads = empty; writes = writes; first = empty; len = len; later = 0 }
+normalised Mixed reads writes len = record { kind = Mixed; reads = difference reads writes; writes = writes; first = empty; len = len; later = 0 }
 
 -- what a request of this kind reads and writes
 abbrev pub FitsKind : Kind → Set → Set → Type 0
 FitsKind Read reads writes = (reads ≢ empty) × (writes ≡ empty)
 FitsKind Write reads writes = (reads ≡ empty) × (writes ≢ empty)
+FitsKind Mixed reads writes = (meets reads writes ≡ false) × (writes ≢ empty)
 
 -- a request is in normal form
 pub record IsNormal (r : RequestFields) : Type 0 where

@@ -16,6 +16,8 @@ pub enum Kind {
     Read,
     /// It writes a set of resources.
     Write,
+    /// It reads a set of resources, which may be empty, and writes another.
+    Mixed,
 }
 
 /// Why a request is refused. As a number it is the one that users are told.
@@ -68,12 +70,13 @@ impl Copy for Request {}
 
 impl Request {
     /// A request in normal form. A read takes `reads` and ignores `writes`, a write takes `writes` and ignores `reads`.
-    /// Both ignore `first`, the first part, and `later`, the length of a later section.
+    /// A mixed request takes both; a resource that is in both is written only.
+    /// All ignore `first`, the first part, and `later`, the length of a later section.
     /// `len` is the length of its section, in units that the caller chooses.
     ///
     /// # Errors
     ///
-    /// `EmptyRequest` where the set that the kind takes is empty.
+    /// `EmptyRequest` where the set that the kind is about is empty: of a read what it reads, else what it writes.
     pub fn new(
         kind: Kind,
         reads: ResourceSet,
@@ -90,11 +93,12 @@ impl Request {
         ensures normal { IfOk result IsNormal }
     {
         let none = ResourceSet::empty();
-        let (reads, writes) = match kind {
-            Kind::Read => (reads, none),
-            Kind::Write => (none, writes),
+        let (reads, writes, about) = match kind {
+            Kind::Read => (reads, none, reads),
+            Kind::Write => (none, writes, writes),
+            Kind::Mixed => (reads.minus(writes), writes, writes),
         };
-        if reads.is_empty() && writes.is_empty() {
+        if about.is_empty() {
             return Err(RequestErr::EmptyRequest);
         }
         Ok(Request {

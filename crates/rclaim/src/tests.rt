@@ -30,6 +30,9 @@ fn requests_are_told_as_made(rt: HostRuntime) -> Result<(), Fail> {
     let write = Request::new(Kind::Write, none, both, none, 7, 0)?;
     assert_eq!(rt; write.writes().len(), 2);
     assert_eq!(rt; write.len(), 7);
+    let mixed = Request::new(Kind::Mixed, both, ResourceSet::one(5), none, 7, 0)?;
+    assert_eq!(rt; mixed.reads().len(), 1);
+    assert!(rt; mixed.reads().has(0));
     let refused = Request::new(Kind::Read, none, both, none, 7, 0).is_err();
     assert!(rt; refused);
     Ok(())

@@ -51,7 +51,7 @@ absent (y ∷ ys) seat half idle = at (y.claim.seat == seat) refl idle (absent y
 -- each claim that an event leaves is as it was, or was waiting
 pub was_left : (s : LockState) (e : Event) → IsSound s → IsNormalEvent e → Accepts s e → AllByRecursion (λ x. was_in s.claims x.claim ≡ x) (changed s e).claims
 was_left s (Issue seat r) sound normal accepted =
-    let one = one_claim s.issued seat r normal in
+    let one = one_claim s.groups.groups s.issued seat r normal in
     subst (λ (cs : List Claim). AllByRecursion (λ x. was_in s.claims x.claim ≡ x) (s.claims ++ map waiting cs)) (sym one.alone)
     (all_from (λ x. was_in s.claims x.claim ≡ x) (s.claims ++ waiting one.claim ∷ []) (λ x there. at one.claim one.seated x (among_append s.claims (waiting one.claim ∷ []) x there)))
   where

@@ -49,6 +49,11 @@ module _ (part : Granted → Set) (of_both : (a b : Granted) → part (both a b)
       regroup true b c = refl
       regroup false b c = refl
 
+  -- what a claim of a seat holds, the seat holds
+  pub held_by_seat : (xs : List Claimed) (seat : ℕ) (s : Set) → list_any (λ x. (x.claim.seat == seat) && meets (part (held_by x)) s) xs ≡ true → meets (part (holds_of xs seat)) s ≡ true
+  unfolding holds_of
+  held_by_seat xs seat s some = gathered seat s nothing xs ∙ or_right (meets (part nothing) s) _ some
+
   -- what a seat holds is held by a satisfied claim of it
   holder : (xs : List Claimed) (seat : ℕ) (s : Set) → meets (part (holds_of xs seat)) s ≡ true → Holder part xs seat s
   unfolding holds_of

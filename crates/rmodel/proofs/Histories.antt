@@ -1,5 +1,6 @@
 -- Lists of accepted events: one more event, what stays, and that a step leads to one state.
 use Rattle.std.proofs.Common.{◌≡◌, ℕ, ◌+◌, ◌≤◌, List, [], ◌∷◌, ◌++◌, length, refl, ap, ◌∙◌, arith}
+use Rattle.rexpand.specs.Groups.{ReadGroups}
 use Rattle.rclaim.specs.Events.{IsNormalEvent}
 use Rattle.rclaim.specs.declared.event.Event.{Event}
 use Rattle.rclaim.specs.declared.event.Event.TheVariants.{Issue, Finish}
@@ -34,20 +35,20 @@ accepted_parts s (e ∷ es) ds accepted = let rest = accepted_parts (next s e) e
 
 -- what no event changes
 pub record SameSizes (s t : LockState) : Type 0 where
-  pub resources : t.resources ≡ s.resources
+  pub groups : t.groups ≡ s.groups
   pub seats : t.seats ≡ s.seats
   pub cap : t.cap ≡ s.cap
 
 pub sizes_next : (s : LockState) (e : Event) → SameSizes s (next s e)
-sizes_next s (Issue seat r) = record { resources = refl; seats = refl; cap = refl }
-sizes_next s (Finish seat) = record { resources = refl; seats = refl; cap = refl }
+sizes_next s (Issue seat r) = record { groups = refl; seats = refl; cap = refl }
+sizes_next s (Finish seat) = record { groups = refl; seats = refl; cap = refl }
 
 pub sizes_after : (s : LockState) (es : List Event) → SameSizes s (after s es)
-sizes_after s [] = record { resources = refl; seats = refl; cap = refl }
+sizes_after s [] = record { groups = refl; seats = refl; cap = refl }
 sizes_after s (e ∷ es) =
     let one = sizes_next s e in
     let rest = sizes_after (next s e) es in
-    record { resources = rest.resources ∙ one.resources; seats = rest.seats ∙ one.seats; cap = rest.cap ∙ one.cap }
+    record { groups = rest.groups ∙ one.groups; seats = rest.seats ∙ one.seats; cap = rest.cap ∙ one.cap }
 
 -- each event is one issue at most
 pub issued_after : (s : LockState) (es : List Event) → (after s es).issued ≤ s.issued + length es
@@ -59,8 +60,8 @@ issued_after s (e ∷ es) = let rest = issued_after (next s e) es in let one = i
     issued_next s (Finish seat) = omega arith
 
 -- the states that accepted events lead to are sound
-pub sound_after : (resources seats cap : ℕ) (es : List Event) → AreAccepted (opening resources seats cap) es → IsSound (after (opening resources seats cap) es)
-sound_after resources seats cap es accepted = (reached_after (opening resources seats cap) es (reached_opening resources seats cap) accepted).sound
+pub sound_after : (groups : ReadGroups) (seats cap : ℕ) (es : List Event) → AreAccepted (opening groups seats cap) es → IsSound (after (opening groups seats cap) es)
+sound_after groups seats cap es accepted = (reached_after (opening groups seats cap) es (reached_opening groups seats cap) accepted).sound
 
 -- a step leads to one state
 pub step_to_next : (s t : LockState) (e : Event) → IsSound s → IsNormalEvent e → Steps s e t → t ≡ next s e

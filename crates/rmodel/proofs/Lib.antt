@@ -8,8 +8,14 @@ pub mod Soundness
 pub mod Barred
 pub mod ChangesTold
 pub mod PlainSteps
+pub mod Stable
+pub mod Admitted
 pub mod Reached
 pub mod Exclusive
+pub mod Earliest
+pub mod Somebody
+pub mod Something
+pub mod OneWrite
 pub mod LawProofs
 pub mod Histories
 mod WorkedCase

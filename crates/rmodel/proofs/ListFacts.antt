@@ -1,6 +1,6 @@
 -- Lists: tests and folds over lists that agree place by place, elements of a list, and pairs of its elements.
 use Rattle.std.proofs.Common.{◌≡◌, Bool, true, false, ◌&&◌, ◌||◌, List, [], ◌∷◌, ◌++◌, map, filter, cond, refl, sym, ap, subst, ◌∙◌, ◌⊎◌, inl, inr}
-use Rattle.std.proofs.lemmas.Bool.{true≢false, or_cases, or_left, or_right, and_parts}
+use Rattle.std.proofs.lemmas.Bool.{true≢false, or_cases, or_left, or_right, or_parts, and_parts, and_from}
 use Rattle.std.specs.List.{list_any, list_all, AllZip, AllByRecursion}
 use Rattle.rmodel.specs.WellFormed.{EachPair}
 
@@ -26,6 +26,10 @@ module _ {X : Type 0} (p : X → Bool) where
   pub none_among : (xs : List X) (x : X) → list_any p xs ≡ false → Among x xs → p x ≡ false
   none_among xs x none there = false_from (p x) (λ pass. true≢false (sym (any_among xs x there pass) ∙ none))
 
+  pub none_from : (xs : List X) → ((x : X) → Among x xs → p x ≡ false) → list_any p xs ≡ false
+  none_from [] each = refl
+  none_from (x ∷ xs) each = (λ i. each x (inl refl) i || none_from xs (λ y there. each y (inr there)) i)
+
   pub all_among : (xs : List X) (x : X) → list_all p xs ≡ true → Among x xs → p x ≡ true
   all_among [] x all there = absurd there
   all_among (y ∷ ys) x all (inl same) = ap p same ∙ (and_parts (p y) (list_all p ys) all).0
@@ -48,6 +52,13 @@ module _ {X : Type 0} (p : X → Bool) where
       at true pass rest (inl same) = (inl same, ap p same ∙ pass)
       at true pass rest (inr later) = let found = rest later in (inr found.0, found.1)
       at false fail rest later = let found = rest later in (inr found.0, found.1)
+
+-- all pass a test where none passes another that bars it
+pub all_of_none : {X : Type 0} (p q : X → Bool) → ((x : X) → p x ≡ false → q x ≡ true) → (xs : List X) → list_any p xs ≡ false → list_all q xs ≡ true
+all_of_none p q passes [] none = refl
+all_of_none p q passes (x ∷ xs) none =
+    let parts = or_parts (p x) (list_any p xs) none in
+    and_from (q x) (list_all q xs) (passes x parts.0) (all_of_none p q passes xs parts.1)
 
 pub among_append : {X : Type 0} (xs ys : List X) (x : X) → Among x (xs ++ ys) → Among x xs ⊎ Among x ys
 among_append [] ys x there = inr there
@@ -108,6 +119,31 @@ module _ {X Y : Type 0} where
   all_of_zip P R Q gives [] (y ∷ ys) all zip = absurd zip
   all_of_zip P R Q gives (x ∷ xs) [] all zip = absurd zip
   all_of_zip P R Q gives (x ∷ xs) (y ∷ ys) all zip = (gives x y all.0 zip.0, all_of_zip P R Q gives xs ys all.1 zip.1)
+
+  -- what holds of each of the second list whatever the first is
+  pub each_second : (R : X → Y → Type 0) (P : Y → Type 0) → ((x : X) (y : Y) → R x y → P y) → (xs : List X) (ys : List Y) → AllZip R xs ys → AllByRecursion P ys
+  each_second R P gives [] [] zip = tt
+  each_second R P gives [] (y ∷ ys) zip = absurd zip
+  each_second R P gives (x ∷ xs) [] zip = absurd zip
+  each_second R P gives (x ∷ xs) (y ∷ ys) zip = (gives x y zip.0, each_second R P gives xs ys zip.1)
+
+  -- the second list beside itself
+  pub second_itself : (R : X → Y → Type 0) (S : Y → Y → Type 0) → ((x : X) (y : Y) → R x y → S y y) → (xs : List X) (ys : List Y) → AllZip R xs ys → AllZip S ys ys
+  second_itself R S gives [] [] zip = tt
+  second_itself R S gives [] (y ∷ ys) zip = absurd zip
+  second_itself R S gives (x ∷ xs) [] zip = absurd zip
+  second_itself R S gives (x ∷ xs) (y ∷ ys) zip = (gives x y zip.0, second_itself R S gives xs ys zip.1)
+
+  -- some element of the second list passes, where one of the first does and what passes there passes here
+  pub some_second : (R : X → Y → Type 0) (p : X → Bool) (q : Y → Bool) → ((x : X) (y : Y) → R x y → p x ≡ true → q y ≡ true) → (xs : List X) (ys : List Y) → AllZip R xs ys → list_any p xs ≡ true → list_any q ys ≡ true
+  some_second R p q passes [] [] zip some = some
+  some_second R p q passes [] (y ∷ ys) zip some = absurd zip
+  some_second R p q passes (x ∷ xs) [] zip some = absurd zip
+  some_second R p q passes (x ∷ xs) (y ∷ ys) zip some =
+      elim (or_cases (p x) (list_any p xs) some) [
+        | inl here ↦ or_left (q y) _ (passes x y zip.0 here)
+        | inr later ↦ or_right (q y) _ (some_second R p q passes xs ys zip.1 later)
+      ]
 
   -- with what holds of each pair of the first list: what holds of each pair of the second
   pub pairs_of_zip : (P : X → X → Type 0) (R : X → Y → Type 0) (Q : Y → Y → Type 0) → ((x x' : X) (y y' : Y) → P x x' → R x y → R x' y' → Q y y') → (xs : List X) (ys : List Y) → EachPair P xs → AllZip R xs ys → EachPair Q ys
@@ -200,6 +236,12 @@ pairs_both P Q R gives (x ∷ xs) a b = (both (P x) (Q x) (R x) (gives x) xs a.0
     both : {X : Type 0} (P Q R : X → Type 0) → ((y : X) → P y → Q y → R y) → (ys : List X) → AllByRecursion P ys → AllByRecursion Q ys → AllByRecursion R ys
     both P Q R gives [] a b = tt
     both P Q R gives (y ∷ ys) a b = (gives y a.0 b.0, both P Q R gives ys a.1 b.1)
+
+-- with what holds of each element
+pub pairs_with : {X : Type 0} (P : X → Type 0) (Q R : X → X → Type 0) → ((x y : X) → P x → P y → Q x y → R x y) → (xs : List X) → AllByRecursion P xs → EachPair Q xs → EachPair R xs
+pairs_with P Q R gives [] all pairs = tt
+pairs_with P Q R gives (x ∷ xs) all pairs =
+    (all_from (R x) xs (λ y there. gives x y all.0 (all_at P xs y all.1 there) (all_at (Q x) xs y pairs.0 there)), pairs_with P Q R gives xs all.1 pairs.1)
 
 pub all_filter : {X : Type 0} (P : X → Type 0) (p : X → Bool) (xs : List X) → AllByRecursion P xs → AllByRecursion P (filter p xs)
 all_filter P p xs all = all_from P (filter p xs) (λ x there. all_at P xs x all (among_filter p xs x there).0)

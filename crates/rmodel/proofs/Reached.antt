@@ -3,6 +3,7 @@ use Rattle.std.proofs.Common.{◌≡◌, ℕ, ◌<◌, ◌==◌, Bool, true, fal
 use Rattle.std.proofs.lemmas.Bool.{true≢false, or_cases, or_left, or_right, and_parts, and_from, lt-ltb}
 use Rattle.std.specs.List.{AllZip}
 use Rattle.rset.specs.Sets.{Set, meets}
+use Rattle.rexpand.specs.Groups.{ReadGroups}
 use Rattle.rset.proofs.SetLemmas.{meets_symmetric, meets_empty_right, meets_within_left, meets_within_right}
 use Rattle.rclaim.specs.Events.{IsNormalEvent}
 use Rattle.rclaim.specs.declared.claim.Claim.{Claim}
@@ -15,16 +16,20 @@ use Rattle.rmodel.specs.Claims.{conflicts, touches, share_place, is_satisfied, i
 use Rattle.rmodel.specs.Rules.{is_earlier_write, is_kept_out, makes_way, may_enter, is_held_up, SettlesAt, Settles}
 use Rattle.rmodel.specs.State.{LockState, opening}
 use Rattle.rmodel.specs.Steps.{changed, next, after, Comes, AreAccepted}
-use Rattle.rmodel.specs.WellFormed.{EachPair, Rises, IsClaim, AreWellFormed, IsSound, Entered, Apart, AreExclusive}
+use Rattle.rmodel.specs.WellFormed.{EachPair, Rises, IsClaim, AreWellFormed, IsSound, Entered, Apart, AreExclusive, AreAdmittedBy}
 use Rattle.rmodel.proofs.ListFacts.{Among, contrary, false_from, none_among, all_among, all_from, zip_all, zip_among, pairs_append, pairs_filter, pairs_of_zip, pairs_both}
 use Rattle.rmodel.proofs.OneSettlement.{both_cases}
 use Rattle.rmodel.proofs.Settlement.{settles_settled, conflict_of_read}
+use Rattle.rmodel.proofs.Stable.{stable_settled}
+use Rattle.rmodel.proofs.Admitted.{admitted_settled, admitted_changed}
 use Rattle.rmodel.proofs.Soundness.{same_claims, same_claims_well_formed, one_claim, sound_changed, sound_settled, sound_opening}
 
 pub record IsReached (s : LockState) : Type 0 where
   pub sound : IsSound s
   pub entered : EachPair Entered s.claims
   pub apart : EachPair Apart s.claims
+  pub stable : Settles s.claims s.claims
+  pub admitted : AreAdmittedBy s.groups.groups s.claims
 
 -- ---- conflicts
 
@@ -208,14 +213,14 @@ exclusive_settled s t had settles = record {
 
 entered_changed : (s : LockState) (e : Event) → IsNormalEvent e → EachPair Entered s.claims → EachPair Entered (changed s e).claims
 entered_changed s (Issue seat r) normal pairs =
-    let one = one_claim s.issued seat r normal in
+    let one = one_claim s.groups.groups s.issued seat r normal in
     subst (λ (cs : List Claim). EachPair Entered (s.claims ++ map waiting cs)) (sym one.alone)
     (pairs_append Entered s.claims (waiting one.claim) pairs (all_from (λ x. Entered x (waiting one.claim)) s.claims (λ x there w w' share active. absurd (true≢false (sym active)))))
 entered_changed s (Finish seat) normal pairs = pairs_filter Entered (λ x. not (x.claim.seat == seat)) s.claims pairs
 
 apart_changed : (s : LockState) (e : Event) → IsNormalEvent e → EachPair Apart s.claims → EachPair Apart (changed s e).claims
 apart_changed s (Issue seat r) normal pairs =
-    let one = one_claim s.issued seat r normal in
+    let one = one_claim s.groups.groups s.issued seat r normal in
     subst (λ (cs : List Claim). EachPair Apart (s.claims ++ map waiting cs)) (sym one.alone)
     (pairs_append Apart s.claims (waiting one.claim) pairs (all_from (λ x. Apart x (waiting one.claim)) s.claims (λ x there sat sat'. absurd (true≢false (sym sat')))))
 apart_changed s (Finish seat) normal pairs = pairs_filter Apart (λ x. not (x.claim.seat == seat)) s.claims pairs
@@ -230,11 +235,13 @@ reached_next s e reached comes =
       sound = sound_settled (changed s e) mid;
       entered = entered_settled (changed s e).claims (next s e).claims settles mid.well_formed entered apart;
       apart = apart_settled (changed s e).claims (next s e).claims settles mid.well_formed entered apart;
+      stable = stable_settled (changed s e).claims (next s e).claims settles;
+      admitted = admitted_settled (changed s e).groups.groups (changed s e).claims (next s e).claims (admitted_changed s e comes.fits reached.admitted) settles;
     }
 
 pub reached_after : (s : LockState) (es : List Event) → IsReached s → AreAccepted s es → IsReached (after s es)
 reached_after s [] reached accepted = reached
 reached_after s (e ∷ es) reached accepted = reached_after (next s e) es (reached_next s e reached accepted.0) accepted.1
 
-pub reached_opening : (resources seats cap : ℕ) → IsReached (opening resources seats cap)
-reached_opening resources seats cap = record { sound = sound_opening resources seats cap; entered = tt; apart = tt }
+pub reached_opening : (groups : ReadGroups) (seats cap : ℕ) → IsReached (opening groups seats cap)
+reached_opening groups seats cap = record { sound = sound_opening groups seats cap; entered = tt; apart = tt; stable = tt; admitted = tt }

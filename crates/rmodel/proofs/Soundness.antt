@@ -3,11 +3,14 @@ use Rattle.std.proofs.Common.{◌≡◌, ◌≢◌, ℕ, ◌+◌, ◌<◌, ◌�
 use Rattle.std.proofs.lemmas.Bool.{true≢false, eq-eqb}
 use Rattle.std.proofs.lemmas.List.Elements.{length_all_zip}
 use Rattle.std.specs.List.{AllZip}
-use Rattle.rset.proofs.SetLemmas.{within_union_left, within_union_right}
+use Rattle.std.specs.FinSet.{empty}
+use Rattle.rset.specs.Sets.{Set}
+use Rattle.rexpand.specs.Groups.{ReadGroups}
+use Rattle.rexpand.proofs.PlaceLemmas.{reads_within_places, writes_within_places}
 use Rattle.rclaim.specs.Requests.{RequestFields, FitsKind, IsNormal}
 use Rattle.rclaim.specs.Events.{IsNormalEvent}
 use Rattle.rclaim.specs.declared.request.Kind.{Kind}
-use Rattle.rclaim.specs.declared.request.Kind.TheVariants.{Read, Write}
+use Rattle.rclaim.specs.declared.request.Kind.TheVariants.{Read, Write, Mixed}
 use Rattle.rclaim.specs.declared.claim.Claim.{Claim}
 use Rattle.rclaim.specs.declared.event.Event.{Event}
 use Rattle.rclaim.specs.declared.event.Event.TheVariants.{Issue, Finish}
@@ -33,8 +36,8 @@ pub record OneClaim (cs : List Claim) (stamp seat : ℕ) : Type 0 where
   pub seated : claim.seat ≡ seat
   pub is_claim : IsClaim claim
 
-read_is_claim : (stamp seat : ℕ) (r : RequestFields) → FitsKind Read r.reads r.writes → IsClaim (claim_of false stamp seat r)
-read_is_claim stamp seat r fits = record {
+read_is_claim : (groups : List Set) (stamp seat : ℕ) (r : RequestFields) → FitsKind Read r.reads r.writes → IsClaim (claim_of groups false stamp seat r)
+read_is_claim groups stamp seat r fits = record {
   reads_some = λ _. fits.0;
   read_only = λ _. fits.1;
   read_places = λ _. refl;
@@ -43,22 +46,23 @@ read_is_claim stamp seat r fits = record {
   writes_placed = λ w. absurd (true≢false (sym w));
 }
 
-write_is_claim : (stamp seat : ℕ) (r : RequestFields) → FitsKind Write r.reads r.writes → IsClaim (claim_of true stamp seat r)
-write_is_claim stamp seat r fits = record {
+write_is_claim : (groups : List Set) (stamp seat : ℕ) (r : RequestFields) → r.writes ≢ empty → IsClaim (claim_of groups true stamp seat r)
+write_is_claim groups stamp seat r some = record {
   reads_some = λ w. absurd (true≢false w);
   read_only = λ w. absurd (true≢false w);
   read_places = λ w. absurd (true≢false w);
-  writes_some = λ _. fits.1;
-  reads_placed = λ _. within_union_left r.reads r.writes;
-  writes_placed = λ _. within_union_right r.reads r.writes;
+  writes_some = λ _. some;
+  reads_placed = λ _. reads_within_places groups r.reads r.writes;
+  writes_placed = λ _. writes_within_places groups r.reads r.writes;
 }
 
-one_by : (k : Kind) (stamp seat : ℕ) (r : RequestFields) → FitsKind k r.reads r.writes → OneClaim (claims_by k stamp seat r) stamp seat
-one_by Read stamp seat r fits = record { claim = claim_of false stamp seat r; alone = refl; stamped = refl; seated = refl; is_claim = read_is_claim stamp seat r fits }
-one_by Write stamp seat r fits = record { claim = claim_of true stamp seat r; alone = refl; stamped = refl; seated = refl; is_claim = write_is_claim stamp seat r fits }
+one_by : (groups : List Set) (k : Kind) (stamp seat : ℕ) (r : RequestFields) → FitsKind k r.reads r.writes → OneClaim (claims_by groups k stamp seat r) stamp seat
+one_by groups Read stamp seat r fits = record { claim = claim_of groups false stamp seat r; alone = refl; stamped = refl; seated = refl; is_claim = read_is_claim groups stamp seat r fits }
+one_by groups Write stamp seat r fits = record { claim = claim_of groups true stamp seat r; alone = refl; stamped = refl; seated = refl; is_claim = write_is_claim groups stamp seat r fits.1 }
+one_by groups Mixed stamp seat r fits = record { claim = claim_of groups true stamp seat r; alone = refl; stamped = refl; seated = refl; is_claim = write_is_claim groups stamp seat r fits.1 }
 
-pub one_claim : (stamp seat : ℕ) (r : RequestFields) → IsNormal r → OneClaim (claims_of stamp seat r) stamp seat
-one_claim stamp seat r normal = one_by r.kind stamp seat r normal.sets
+pub one_claim : (groups : List Set) (stamp seat : ℕ) (r : RequestFields) → IsNormal r → OneClaim (claims_of groups stamp seat r) stamp seat
+one_claim groups stamp seat r normal = one_by groups r.kind stamp seat r normal.sets
 
 -- ---- what is known of an accepted event
 
@@ -115,7 +119,7 @@ length-filter-le p (x ∷ xs) = at (p x) (length-filter-le p xs)
 
 pub sound_changed : (s : LockState) (e : Event) → IsSound s → IsNormalEvent e → Accepts s e → IsSound (changed s e)
 sound_changed s (Issue seat r) sound normal accepted =
-    let one = one_claim s.issued seat r normal in
+    let one = one_claim s.groups.groups s.issued seat r normal in
     subst (λ (cs : List Claim). IsSound (record s { issued = s.issued + 1; claims = s.claims ++ map waiting cs })) (sym one.alone)
     (append_sound s seat one.claim sound one.stamped one.seated one.is_claim (seat_is_idle s seat r accepted) (is_not_full s seat r accepted))
 sound_changed s (Finish seat) sound normal accepted = record {
@@ -162,5 +166,5 @@ sound_settled s sound = same_claims_sound s (settled s.claims) sound (same_claim
 pub sound_next : (s : LockState) (e : Event) → IsSound s → IsNormalEvent e → Accepts s e → IsSound (next s e)
 sound_next s e sound normal accepted = sound_settled (changed s e) (sound_changed s e sound normal accepted)
 
-pub sound_opening : (resources seats cap : ℕ) → IsSound (opening resources seats cap)
-sound_opening resources seats cap = record { well_formed = record { rising = tt; claims = tt }; given_out = tt; one_each = tt; within_cap = omega arith }
+pub sound_opening : (groups : ReadGroups) (seats cap : ℕ) → IsSound (opening groups seats cap)
+sound_opening groups seats cap = record { well_formed = record { rising = tt; claims = tt }; given_out = tt; one_each = tt; within_cap = omega arith }

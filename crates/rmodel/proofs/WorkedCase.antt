@@ -6,7 +6,9 @@ use Rattle.std.specs.Ordering.{nat_cmp}
 use Rattle.std.specs.FinSet.{empty, insert, is_subset, contains, len-insert, len-empty}
 use Rattle.std.specs.Cmp.{nat_cmp_total}
 use Rattle.rset.specs.Sets.{Set, meets}
-use Rattle.rset.proofs.SetLemmas.{meets_insert_right, meets_empty_left, meets_empty_right, contains_insert, contains_empty, union_empty_left, empty_within, within_reflexive}
+use Rattle.rset.proofs.SetLemmas.{meets_insert_right, meets_empty_left, meets_empty_right, contains_insert, contains_empty, union_empty_left, empty_within, within_empty, within_reflexive}
+use Rattle.rexpand.specs.Groups.{no_groups}
+use Rattle.rexpand.proofs.PlaceLemmas.{places_without_groups}
 use Rattle.rclaim.specs.Requests.{RequestFields, normalised}
 use Rattle.rclaim.specs.declared.request.Kind.TheVariants.{Read, Write}
 use Rattle.rclaim.specs.declared.claim.Status.{Status}
@@ -23,12 +25,15 @@ use Rattle.rmodel.specs.Changes.{changes_between}
 use Rattle.rmodel.specs.Holds.{holds_of, is_nothing}
 use Rattle.rmodel.proofs.ListFacts.{false_from}
 use Rattle.rmodel.specs.Steps.{next, after, refusal, changed, Accepts}
-use Rattle.rmodel.specs.WellFormed.{IsSound}
+use Rattle.rmodel.specs.WellFormed.{IsClaim, AreExclusive, IsSound}
+use Rattle.rmodel.specs.Laws.{keeps_out, AreKeptOutByOne}
 use Rattle.rmodel.proofs.OneSettlement.{only_one}
 use Rattle.rmodel.proofs.Settlement.{settles_settled}
 use Rattle.rmodel.proofs.Soundness.{sound_opening, sound_changed, same_claims, same_claims_sound}
 use Rattle.rclaim.specs.Requests.{IsNormal}
 use Rattle.rclaim.specs.Events.{IsNormalEvent}
+use Rattle.std.specs.List.{count_by}
+use Rattle.std.proofs.lemmas.List.Sums.{length-filter}
 
 abbrev a : Set
 a = insert (empty {R = nat_cmp}) 0
@@ -67,13 +72,13 @@ abbrev t3 : RequestFields
 t3 = normalised Write empty b 1
 
 abbrev of_t1 : Status → Claimed
-of_t1 status = record { claim = claim_of true 0 0 t1; status = status }
+of_t1 status = record { claim = claim_of [] true 0 0 t1; status = status }
 
 abbrev of_t2 : Status → Claimed
-of_t2 status = record { claim = claim_of false 1 1 t2; status = status }
+of_t2 status = record { claim = claim_of [] false 1 1 t2; status = status }
 
 abbrev of_t3 : Status → Claimed
-of_t3 status = record { claim = claim_of true 2 2 t3; status = status }
+of_t3 status = record { claim = claim_of [] true 2 2 t3; status = status }
 
 -- the rules at a write, and at a read
 write_at : (s t : List Claimed) (x y : Claimed) → y.claim ≡ x.claim → y.claim.write_half ≡ true → is_active y ≡ (is_active x || may_enter t y.claim)
@@ -86,7 +91,7 @@ read_at : (s t : List Claimed) (x y : Claimed) → y.claim ≡ x.claim → y.cla
 read_at s t x y same r sat active =
     record { same = same; reads = λ _. sat; entitlement = λ w. absurd (true≢false (sym w ∙ r)); satisfaction = λ w. absurd (true≢false (sym w ∙ r)); kept_reads = λ _. active }
 
-ruleset sets = (ab_a, a_ab, ab_b, b_ab, a_b, b_a, meets_empty_left, meets_empty_right, union_empty_left)
+ruleset sets = (ab_a, a_ab, ab_b, b_ab, a_b, b_a, meets_empty_left, meets_empty_right, union_empty_left, places_without_groups)
 
 first : Settles (of_t1 Waiting ∷ []) (of_t1 Satisfied ∷ [])
 first = (write_at _ _ (of_t1 Waiting) (of_t1 Satisfied) refl refl refl refl, tt)
@@ -140,16 +145,16 @@ t3_normal : IsNormal t3
 t3_normal = record { sets = (refl, has_member b 1 (simp (contains_insert, contains_empty))); first = refl; len = omega arith; later = refl }
 
 abbrev s1 : LockState
-s1 = record { resources = 2; seats = 3; cap = 3; issued = 1; claims = of_t1 Satisfied ∷ [] }
+s1 = record { groups = no_groups 2; seats = 3; cap = 3; issued = 1; claims = of_t1 Satisfied ∷ [] }
 
 abbrev s2 : LockState
-s2 = record { resources = 2; seats = 3; cap = 3; issued = 2; claims = of_t1 Satisfied ∷ of_t2 Entitled ∷ [] }
+s2 = record { groups = no_groups 2; seats = 3; cap = 3; issued = 2; claims = of_t1 Satisfied ∷ of_t2 Entitled ∷ [] }
 
 abbrev s3 : LockState
-s3 = record { resources = 2; seats = 3; cap = 3; issued = 3; claims = of_t1 Satisfied ∷ of_t2 Entitled ∷ of_t3 Waiting ∷ [] }
+s3 = record { groups = no_groups 2; seats = 3; cap = 3; issued = 3; claims = of_t1 Satisfied ∷ of_t2 Entitled ∷ of_t3 Waiting ∷ [] }
 
-after_first : Outcome (opening 2 3 3) (Issue 0 t1) (of_t1 Satisfied ∷ [])
-after_first = outcome (opening 2 3 3) (Issue 0 t1) _ (sound_opening 2 3 3) t1_normal refl first
+after_first : Outcome (opening (no_groups 2) 3 3) (Issue 0 t1) (of_t1 Satisfied ∷ [])
+after_first = outcome (opening (no_groups 2) 3 3) (Issue 0 t1) _ (sound_opening (no_groups 2) 3 3) t1_normal refl first
 
 after_second : Outcome s1 (Issue 1 t2) (of_t1 Satisfied ∷ of_t2 Entitled ∷ [])
 after_second = outcome s1 (Issue 1 t2) _ after_first.sound t2_normal refl second
@@ -175,7 +180,7 @@ busy = refl
 full : refusal (record s3 { seats = 4 }) (Issue 3 t3) ≡ Some Full
 full = refl
 
-worked : (after (opening 2 3 3) (Issue 0 t1 ∷ Issue 1 t2 ∷ Issue 2 t3 ∷ Finish 0 ∷ [])).claims ≡ of_t2 Satisfied ∷ of_t3 Satisfied ∷ []
+worked : (after (opening (no_groups 2) 3 3) (Issue 0 t1 ∷ Issue 1 t2 ∷ Issue 2 t3 ∷ Finish 0 ∷ [])).claims ≡ of_t2 Satisfied ∷ of_t3 Satisfied ∷ []
 worked =
     ap (λ (s : LockState). (after s (Issue 1 t2 ∷ Issue 2 t3 ∷ Finish 0 ∷ [])).claims) after_first.is
     ∙ ap (λ (s : LockState). (after s (Issue 2 t3 ∷ Finish 0 ∷ [])).claims) after_second.is
@@ -183,7 +188,7 @@ worked =
     ∙ ap (λ (s : LockState). s.claims) after_fourth.is
 
 abbrev s4 : LockState
-s4 = record { resources = 2; seats = 3; cap = 3; issued = 3; claims = of_t2 Satisfied ∷ of_t3 Satisfied ∷ [] }
+s4 = record { groups = no_groups 2; seats = 3; cap = 3; issued = 3; claims = of_t2 Satisfied ∷ of_t3 Satisfied ∷ [] }
 
 some_a : is_subset a (empty {R = nat_cmp}) ≡ false
 some_a = false_from (is_subset a empty) (λ h. has_member a 0 (simp (contains_insert, contains_empty)) (empty_within a h))
@@ -198,3 +203,66 @@ worked_changes : changes_between s3 s4 ≡ record {
 }
 unfolding changes_between
 worked_changes = simp (some_a, some_b, within_reflexive)
+
+-- ---- two writes that keep one read waiting, where what it reads is not declared
+
+abbrev write_of : ℕ → Set → Claimed
+write_of n s = record { claim = record { stamp = n; seat = n; kind = Write; write_half = true; reads = empty; writes = s; places = s }; status = Satisfied }
+
+abbrev read_of_both : Claimed
+read_of_both = record { claim = record { stamp = 2; seat = 2; kind = Read; write_half = false; reads = ab; writes = empty; places = ab }; status = Entitled }
+
+abbrev two_and_one : List Claimed
+two_and_one = write_of 0 a ∷ write_of 1 b ∷ read_of_both ∷ []
+
+two_keep_out : count_by (keeps_out read_of_both.claim) two_and_one ≡ 2
+two_keep_out = sym (length-filter (keeps_out read_of_both.claim) two_and_one) ∙ simp sets
+
+two_settled : Settles two_and_one two_and_one
+two_settled = (
+  write_at _ _ (write_of 0 a) (write_of 0 a) refl refl refl refl,
+  (
+    write_at _ _ (write_of 1 b) (write_of 1 b) refl refl refl refl,
+    (read_at _ _ read_of_both read_of_both refl refl (simp sets) (simp sets), tt),
+  ),
+)
+
+write_is_claim : (n : ℕ) (s : Set) → s ≢ empty → IsClaim (write_of n s).claim
+write_is_claim n s some = record {
+  reads_some = λ r. absurd (true≢false r);
+  read_only = λ r. absurd (true≢false r);
+  read_places = λ r. absurd (true≢false r);
+  writes_some = λ _. some;
+  reads_placed = λ _. within_empty s;
+  writes_placed = λ _. within_reflexive s;
+}
+
+two_exclusive : AreExclusive two_and_one
+two_exclusive = record {
+  well_formed = record {
+    rising = ((record { not_above = omega arith; after_write = λ _. omega arith }, (record { not_above = omega arith; after_write = λ _. omega arith }, tt)), ((record { not_above = omega arith; after_write = λ _. omega arith }, tt), (tt, tt)));
+    claims = (
+      write_is_claim 0 a (has_member a 0 (simp (contains_insert, contains_empty))),
+      (
+        write_is_claim 1 b (has_member b 1 (simp (contains_insert, contains_empty))),
+        (
+          record {
+            reads_some = λ _. has_member ab 0 (simp (contains_insert, contains_empty));
+            read_only = λ _. refl;
+            read_places = λ _. refl;
+            writes_some = λ w. absurd (true≢false (sym w));
+            reads_placed = λ w. absurd (true≢false (sym w));
+            writes_placed = λ w. absurd (true≢false (sym w));
+          },
+          tt,
+        ),
+      ),
+    );
+  };
+  entered = (((λ w w' share. absurd (true≢false (sym share ∙ a_b))), ((λ w w'. absurd (true≢false (sym w'))), tt)), (((λ w w'. absurd (true≢false (sym w'))), tt), (tt, tt)));
+  apart = (((λ sat sat'. simp sets), ((λ sat sat'. absurd (true≢false (sym sat'))), tt)), (((λ sat sat'. absurd (true≢false (sym sat'))), tt), (tt, tt)));
+}
+
+-- so of claims that no groups admit the law that one write at most keeps a read waiting does not hold
+needs_admission : ((s t : List Claimed) → AreExclusive s → Settles s t → AreKeptOutByOne t) → ⊥
+needs_admission law = let few = (law two_and_one two_and_one two_exclusive two_settled).1.1.0 refl in omega (arith, few, two_keep_out)

@@ -1,50 +1,49 @@
 -- Claims: what a request claims, its places, and when two claims conflict.
-use Rattle.std.specs.Prelude.{◌≡◌, ◌<◌, ℕ, Bool, true, false, ◌||◌, ◌==◌, List, [], ◌∷◌}
-use Rattle.std.specs.FinSet.{union, len}
+use Rattle.std.specs.Prelude.{◌≡◌, ℕ, Bool, true, false, ◌||◌, List, [], ◌∷◌}
 use Rattle.rset.specs.Sets.{Set, meets}
+use Rattle.rexpand.specs.Groups.{places_of, is_declared}
 use Rattle.rclaim.specs.Requests.{RequestFields}
 use Rattle.rclaim.specs.declared.request.Kind.{Kind}
-use Rattle.rclaim.specs.declared.request.Kind.TheVariants.{Read, Write}
+use Rattle.rclaim.specs.declared.request.Kind.TheVariants.{Read, Write, Mixed}
 use Rattle.rclaim.specs.declared.claim.Claim.{Claim}
 use Rattle.rclaim.specs.declared.claim.Status.{Status}
 use Rattle.rclaim.specs.declared.claim.Status.TheVariants.{Waiting, Entitled, Satisfied}
 use Rattle.rmodel.specs.declared.claimed.Claimed.{Claimed}
 
--- a set is declared where it has one member
-abbrev pub is_declared : Set → Bool
-is_declared s = len s == 1
+-- a request of this kind is admitted, where its set must be declared, if that is so: that of a read must
+abbrev pub admitted_by : List Set → Kind → Set → Bool
+admitted_by groups Read reads = is_declared groups reads
+admitted_by groups Write reads = true
+admitted_by groups Mixed reads = true
 
--- a read is admitted where its set is declared, a write always
-abbrev pub admitted_by : Kind → Set → Bool
-admitted_by Read reads = is_declared reads
-admitted_by Write reads = true
+-- a request is admitted: what it reads, if it is a read, is declared
+abbrev pub is_admitted : List Set → RequestFields → Bool
+is_admitted groups r = admitted_by groups r.kind r.reads
 
--- a request is admitted where what it reads, if it is a read, is declared
-abbrev pub is_admitted : RequestFields → Bool
-is_admitted r = admitted_by r.kind r.reads
+-- a read of a set that is not declared
+abbrev pub IsUndeclared : List Set → RequestFields → Type 0
+IsUndeclared groups r = (r.kind ≡ Read) × (is_declared groups r.reads ≡ false)
 
--- a read of more than one resource
-abbrev pub IsReadOfMany : RequestFields → Type 0
-IsReadOfMany r = (r.kind ≡ Read) × (1 < len r.reads)
-
--- the places of a claim: those of a read claim are what it reads, those of a write claim what it reads and what it writes
-abbrev pub places_of : Bool → Set → Set → Set
-places_of false reads writes = reads
-places_of true reads writes = union reads writes
+-- the places of a claim: those of a read claim are what it reads,
+-- those of a write claim are what it reads and what is shared with each resource that it writes
+abbrev pub claim_places : List Set → Bool → Set → Set → Set
+claim_places groups false reads writes = reads
+claim_places groups true reads writes = places_of groups reads writes
 
 -- the read claim, or the write claim, of a request, at a stamp and a seat
-abbrev pub claim_of : Bool → ℕ → ℕ → RequestFields → Claim
-claim_of write_half stamp seat r =
-    record { stamp = stamp; seat = seat; kind = r.kind; write_half = write_half; reads = r.reads; writes = r.writes; places = places_of write_half r.reads r.writes }
+abbrev pub claim_of : List Set → Bool → ℕ → ℕ → RequestFields → Claim
+claim_of groups write_half stamp seat r =
+    record { stamp = stamp; seat = seat; kind = r.kind; write_half = write_half; reads = r.reads; writes = r.writes; places = claim_places groups write_half r.reads r.writes }
 
--- the claims of a request of this kind: a read makes a read claim, a write makes a write claim
-abbrev pub claims_by : Kind → ℕ → ℕ → RequestFields → List Claim
-claims_by Read stamp seat r = claim_of false stamp seat r ∷ []
-claims_by Write stamp seat r = claim_of true stamp seat r ∷ []
+-- the claims of a request of this kind: a read makes a read claim, a write and a mixed request make a write claim
+abbrev pub claims_by : List Set → Kind → ℕ → ℕ → RequestFields → List Claim
+claims_by groups Read stamp seat r = claim_of groups false stamp seat r ∷ []
+claims_by groups Write stamp seat r = claim_of groups true stamp seat r ∷ []
+claims_by groups Mixed stamp seat r = claim_of groups true stamp seat r ∷ []
 
 -- the claims of a request
-abbrev pub claims_of : ℕ → ℕ → RequestFields → List Claim
-claims_of stamp seat r = claims_by r.kind stamp seat r
+abbrev pub claims_of : List Set → ℕ → ℕ → RequestFields → List Claim
+claims_of groups stamp seat r = claims_by groups r.kind stamp seat r
 
 -- a claim reads or writes one of these resources
 abbrev pub touches : Claim → Set → Bool

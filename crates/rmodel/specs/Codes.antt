@@ -2,6 +2,8 @@
 use Rattle.std.specs.Prelude.{ℕ, Bool, List, refl}
 use Rattle.std.specs.Coded.{Coded, code_by, coded×, coded_ℕ, coded_bool, coded_list}
 use Rattle.rset.specs.Sets.{Set}
+use Rattle.rexpand.specs.Groups.{ReadGroups}
+use Rattle.rexpand.specs.Codes.{groups_code}
 use Rattle.rclaim.specs.Codes.{set_code, kind_code, status_code}
 use Rattle.rclaim.specs.declared.request.Kind.{Kind}
 use Rattle.rclaim.specs.declared.claim.Claim.{Claim}
@@ -22,8 +24,8 @@ claimed_code = code_by (Claim × Status) (coded× claim_code status_code) (λ x.
 
 abbrev pub state_code : Coded LockState
 state_code =
-    code_by (ℕ × (ℕ × (ℕ × (ℕ × List Claimed))))
-    (coded× coded_ℕ (coded× coded_ℕ (coded× coded_ℕ (coded× coded_ℕ (coded_list claimed_code)))))
-    (λ s. (s.resources, (s.seats, (s.cap, (s.issued, s.claims)))))
-    (λ p. record { resources = p.0; seats = p.1.0; cap = p.1.1.0; issued = p.1.1.1.0; claims = p.1.1.1.1 })
+    code_by (ReadGroups × (ℕ × (ℕ × (ℕ × List Claimed))))
+    (coded× groups_code (coded× coded_ℕ (coded× coded_ℕ (coded× coded_ℕ (coded_list claimed_code)))))
+    (λ s. (s.groups, (s.seats, (s.cap, (s.issued, s.claims)))))
+    (λ p. record { groups = p.0; seats = p.1.0; cap = p.1.1.0; issued = p.1.1.1.0; claims = p.1.1.1.1 })
     (λ _. refl)

@@ -8,7 +8,7 @@ use Rattle.rmodel.specs.WellFormed.{IsSound}
 
 -- the lock state of a plain machine
 abbrev pub state_of : Inside → LockState
-state_of a = record { resources = a.resources; seats = a.seats; cap = a.cap; issued = a.issued; claims = a.claims.items }
+state_of a = record { groups = a.groups; seats = a.seats; cap = a.cap; issued = a.issued; claims = a.claims.items }
 
 -- what contracts see of it
 abbrev pub standing_of : Inside → Standing

@@ -16,9 +16,9 @@ use Rattle.rmodel.specs.State.{LockState}
 -- an issue is one that a caller may ask for: its sets are of resources that there are, it is admitted, and stamps are left
 pub record FitsIssue (s : LockState) (seat : ℕ) (r : RequestFields) : Type 0 where
   pub seat_there : seat < s.seats
-  pub reads : IsTrue (all_below s.resources r.reads)
-  pub writes : IsTrue (all_below s.resources r.writes)
-  pub admitted : IsTrue (is_admitted r)
+  pub reads : IsTrue (all_below s.groups.q r.reads)
+  pub writes : IsTrue (all_below s.groups.q r.writes)
+  pub admitted : IsTrue (is_admitted s.groups.groups r)
   pub stamps : s.issued < 2 ^ 63
 
 -- an event is one that a caller may ask for
@@ -50,7 +50,7 @@ Accepts s e = refusal s e ≡ None
 
 -- what an event does to the state before it is settled: an issue adds the claims of its request, a finish removes those of its seat
 abbrev pub changed : LockState → Event → LockState
-changed s (Issue seat r) = record s { issued = s.issued + 1; claims = s.claims ++ map waiting (claims_of s.issued seat r) }
+changed s (Issue seat r) = record s { issued = s.issued + 1; claims = s.claims ++ map waiting (claims_of s.groups.groups s.issued seat r) }
 changed s (Finish seat) = record s { claims = filter (λ x. not (x.claim.seat == seat)) s.claims }
 
 -- the event leads from s to t: it is accepted, and the claims are settled once after the event has changed them

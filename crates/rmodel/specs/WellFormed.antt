@@ -4,7 +4,8 @@ use Rattle.std.specs.List.{AllByRecursion}
 use Rattle.std.specs.FinSet.{empty, is_subset}
 use Rattle.rclaim.specs.declared.claim.Claim.{Claim}
 use Rattle.rmodel.specs.declared.claimed.Claimed.{Claimed}
-use Rattle.rset.specs.Sets.{meets}
+use Rattle.rset.specs.Sets.{Set, meets}
+use Rattle.rexpand.specs.Groups.{is_declared, places_of}
 use Rattle.rmodel.specs.Claims.{share_place, conflicts, is_active, is_satisfied}
 use Rattle.rmodel.specs.State.{LockState}
 
@@ -48,6 +49,15 @@ pub record AreExclusive (xs : List Claimed) : Type 0 where
   pub well_formed : AreWellFormed xs
   pub entered : EachPair Entered xs
   pub apart : EachPair Apart xs
+
+-- a claim is one that these groups admit: what a read claim reads is declared, and the places of a write claim are expanded by the groups
+pub record IsAdmittedBy (groups : List Set) (c : Claim) : Type 0 where
+  pub declared : c.write_half ≡ false → is_declared groups c.reads ≡ true
+  pub expanded : c.write_half ≡ true → c.places ≡ places_of groups c.reads c.writes
+
+-- the claims of a list are such
+abbrev pub AreAdmittedBy : List Set → List Claimed → Type 0
+AreAdmittedBy groups xs = AllByRecursion (λ x. IsAdmittedBy groups x.claim) xs
 
 -- the request of one claim is at another seat than that of the other
 abbrev pub SeatsDiffer : Claimed → Claimed → Type 0

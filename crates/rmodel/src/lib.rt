@@ -1,7 +1,7 @@
 //! The settling rules, and a machine over a plain list of claims whose step is exactly one of them.
 //!
-//! The lock state is one list of claims. An event changes the list, and then it is settled once.
-//! [`Plain`] does so by the rules as they are written, in time that is at most quadratic in the claims.
+//! The lock state is one list of claims. An event changes the list, and then it is settled once. This is what a
+//! [`Machine`] does. [`Plain`] does so by the rules as they are written, in time that is at most quadratic in the claims.
 //! The module [`laws`] says what holds after every list of accepted events.
 #![tactic(auto)]
 
@@ -10,6 +10,7 @@ mod claims;
 mod granted;
 pub mod laws;
 mod list;
+mod machine;
 mod plain;
 mod refused;
 mod settle;
@@ -19,5 +20,6 @@ mod tests;
 
 pub use claims::admit;
 pub use granted::Granted;
+pub use machine::Machine;
 pub use plain::Plain;
 pub use refused::Refused;

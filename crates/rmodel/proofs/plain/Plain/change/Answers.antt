@@ -14,7 +14,7 @@ use Rattle.rmodel.proofs.plain.Plain.change.Goals as goal
 pub invariant_of-self : goal.invariant_of-self
 invariant_of-self c =
     let a = c.self.inside in
-    let items : a.claims.items ++ map waiting (claims_of a.issued c.in-Issue.seat c.in-Issue.request) ≡ c.push_reserved.new.self.items
+    let items : a.claims.items ++ map waiting (claims_of a.groups.groups a.issued c.in-Issue.seat c.in-Issue.request) ≡ c.push_reserved.new.self.items
     = ap (λ (cs : List Claim). a.claims.items ++ map waiting cs) c.claim_of-claim.ensures.value
     ∙ ap (λ (x : Claimed). a.claims.items ++ x ∷ []) (sym c.waiting.ensures)
     ∙ sym c.push_reserved.ensures.items in

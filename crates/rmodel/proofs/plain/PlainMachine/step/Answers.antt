@@ -1,6 +1,6 @@
 use Rattle.std.proofs.Common.{◌∙◌, sym}
 use Rattle.rmodel.proofs.PlainSteps.{step_holds, changes_hold}
-use Rattle.rmodel.proofs.plain.Plain.step.Goals as goal
+use Rattle.rmodel.proofs.plain.PlainMachine.step.Goals as goal
 
 pub returns-clause-step : goal.returns-clause-step
 returns-clause-step c =

@@ -1,0 +1,91 @@
+// What every machine of the protocol does.
+ghost use Rattle.std.specs.Prelude.{◌≡◌, ◌≤◌, ◌↔◌, IfOk, OnOk, OnErr, IfErr, IsOk, Some, not, ◌&&◌};
+ghost use Rattle.rset.specs.declared.TheConstants.{SEATS};
+ghost use Rattle.rclaim.specs.Changes.{ChangeLists, no_changes};
+ghost use Rattle.rclaim.specs.Events.{IsNormalEvent};
+ghost use Rattle.rmodel.specs.Changes.{changes_between, status_in};
+ghost use Rattle.rmodel.specs.Holds.{holds_of, has_request, is_nothing};
+ghost use Rattle.rmodel.specs.State.{LockState, opening};
+ghost use Rattle.rmodel.specs.Steps.{Fits, Accepts, Steps, refusal, next, incomplete_of};
+
+use crate::{Granted, Refused};
+use rclaim::{Changes, Event, Status};
+use rexpand::Groups;
+use std::alloc::{AllocError, Global};
+
+/// A lock state that events change, one at a time, by the rules. All room is made by [`Machine::new`].
+pub trait Machine {
+    /// The lock state.
+    ghost state: { Self → LockState };
+
+    /// The changes of the last accepted step.
+    ghost last: { Self → ChangeLists };
+
+    /// A machine with no claims, over the resources of `groups`, for `seats` seats and at most `cap` incomplete requests.
+    ///
+    /// # Errors
+    ///
+    /// Want of memory.
+    fn new(alloc: Global, groups: Groups, seats: u8, cap: u8) -> Result<Self, AllocError>
+        requires seats { (1 ≤ seats) × (seats ≤ SEATS) }
+        requires cap { (1 ≤ cap) × (cap ≤ SEATS) }
+        ensures opening { IfOk result (λ m. state m ≡ opening groups seats cap) }
+        ensures untold { IfOk result (λ m. last m ≡ no_changes) };
+
+    /// One event: it changes the claims, and then they are settled once.
+    ///
+    /// # Errors
+    ///
+    /// The first cause against the event, in the order of [`Refused`]. Nothing changes then, the last changes included.
+    fn step(&mut self, event: Event) -> Result<(), Refused>
+        requires { Fits (state self.old) event }
+        ensures accepted { IsOk result ↔ Accepts (state self.old) event }
+        ensures refused { IfErr result (λ cause. refusal (state self.old) event ≡ Some cause) }
+        ensures unchanged { OnErr result (state self.new ≡ state self.old) }
+        ensures untold { OnErr result (last self.new ≡ last self.old) }
+        ensures step { OnOk result (Steps (state self.old) event (state self.new)) }
+        ensures after { OnOk result (state self.new ≡ next (state self.old) event) }
+        ensures changes { OnOk result (last self.new ≡ changes_between (state self.old) (state self.new)) }
+        ensures normal { OnOk result (IsNormalEvent event) };
+
+    /// The changes of the last accepted step.
+    fn changes(&self) -> &Changes
+        ensures { result.now ≡ last self.now };
+
+    /// What the request of the seat holds.
+    fn granted(&self, seat: u8) -> Granted
+        ensures { result ≡ holds_of (state self.now).claims seat };
+
+    /// Whether the seat has a request that holds nothing.
+    fn pending(&self, seat: u8) -> bool
+        ensures { result ≡ (has_request (state self.now).claims seat && is_nothing (holds_of (state self.now).claims seat)) };
+
+    /// Whether the seat has no incomplete request.
+    fn idle(&self, seat: u8) -> bool
+        ensures { result ≡ not (has_request (state self.now).claims seat) };
+
+    /// The status of the read claim, or the write claim, of the request of the seat; None where there is none.
+    fn status(&self, seat: u8, write_half: bool) -> Option<Status>
+        ensures { result ≡ status_in (state self.now).claims seat write_half };
+
+    /// The number of incomplete requests.
+    fn incomplete(&self) -> u8
+        ensures value { result ≡ incomplete_of (state self.now) }
+        ensures bound { result ≤ (state self.now).cap };
+
+    /// The number of issues so far.
+    fn issued(&self) -> u64
+        ensures { result ≡ (state self.now).issued };
+
+    /// The read groups.
+    fn groups(&self) -> &Groups
+        ensures { result.now ≡ (state self.now).groups };
+
+    /// The number of seats.
+    fn seats(&self) -> u8
+        ensures { result ≡ (state self.now).seats };
+
+    /// The greatest number of incomplete requests.
+    fn cap(&self) -> u8
+        ensures { result ≡ (state self.now).cap };
+}
