@@ -1,16 +1,16 @@
 -- The code of a record, from the tests behind it.
-use Rattle.std.proofs.Common.{◌≡◌, ℕ, ◌<◌, ◌≤◌, Bool, true, false, cond, ◌==◌, List, [], ◌∷◌, ◌++◌, length, Option, Some, None, refl, sym, ap, subst, ◌∙◌, arith, true≢false}
+use Rattle.std.proofs.Common.{◌≡◌, ℕ, ◌<◌, ◌≤◌, Bool, true, false, cond, ◌==◌, List, [], ◌∷◌, ◌++◌, length, Option, Some, None, refl, sym, ap, subst, ◌∙◌, true≢false}
 use Rattle.std.specs.Ordering.{nat_cmp}
-use Rattle.std.proofs.lemmas.Bool.Decides.{nat_tests}
 use Rattle.std.specs.Prelude.{IfErr, option_map, option_and_then, is_none, IsTrue, Result, Err}
 use Rattle.std.specs.FinSet.{empty, len, len-empty}
 use Rattle.rset.specs.Sets.{Set, all_below}
 use Rattle.rset.specs.Names.{number_in}
 use Rattle.rclaim.specs.Requests.{RequestFields, normalised, asked_set, IsNormal, FitsKind}
 use Rattle.rclaim.specs.declared.request.Kind.{Kind}
-use Rattle.rclaim.specs.declared.request.Kind.TheVariants.{Read, Write}
+use Rattle.rclaim.specs.declared.request.Kind.TheVariants.{Read, Write, Mixed}
 use Rattle.rclaim.specs.declared.request.RequestErr.TheVariants.{EmptyRequest, Undeclared}
-use Rattle.rmodel.specs.Claims.{IsReadOfMany, is_admitted, admitted_by}
+use Rattle.rexpand.specs.Groups.{ReadGroups, is_declared}
+use Rattle.rmodel.specs.Claims.{IsUndeclared, is_admitted, admitted_by}
 use Rattle.rclaim.specs.declared.request.RequestErr.{RequestErr}
 use Rattle.rclaim.specs.declared.event.Event.{Event}
 use Rattle.rclaim.specs.declared.event.Event.TheVariants as event
@@ -18,9 +18,10 @@ use Rattle.rclaim.specs.declared.TheConstants.{LENGTH_LIMIT}
 use Rattle.rmodel.specs.State.{LockState}
 use Rattle.rmodel.specs.Steps.{refusal, Fits}
 use Rattle.rmodel.specs.declared.refused.Refused as lock
-use Rattle.rnlp_cli.specs.Records.{Row, word_of, second_of, field_of}
+use Rattle.rnlp_cli.specs.Records.{Row, word_of, second_of}
 use Rattle.rnlp_cli.specs.Fields.{length_in, set_in}
-use Rattle.rnlp_cli.specs.Events.{event_in, event_by, request_refusal, refusal_by, refusal_in}
+use Rattle.rnlp_cli.specs.Heads.{groups_or}
+use Rattle.rnlp_cli.specs.Events.{sets_in, length_field, event_in, event_by, request_refusal, refusal_by, refusal_in}
 use Rattle.rnlp_cli.specs.Faults.{resources_in, groups_in, tasks_in, head_in, has_word, is_nil, is_group, is_event, is_end, is_bad_group, is_bad_field, is_unknown, is_bad_order, refused_code, state_after, code_of}
 use Rattle.rnlp_cli.specs.Reading.{HasRead, IsReady, StepsBy, state_of, step_code}
 use Rattle.rnlp_cli.specs.declared.reading.Reading.{Reading}
@@ -115,10 +116,10 @@ event_taken before fields w e old new h right free steps = (
 )
 
 -- what the lock says of an event whose request is right
-pub refusal-right : (s : LockState) (seat : ℕ) (r : RequestFields) → request_refusal r ≡ None → refusal_in s (event.Issue seat r) ≡ option_map Step (refusal s (event.Issue seat r))
+pub refusal-right : (s : LockState) (seat : ℕ) (r : RequestFields) → request_refusal s.groups.groups r ≡ None → refusal_in s (event.Issue seat r) ≡ option_map Step (refusal s (event.Issue seat r))
 refusal-right s seat r none = ap (refusal_by s (event.Issue seat r)) none
 
-pub refusal-wrong : (s : LockState) (seat : ℕ) (r : RequestFields) (cause : RequestErr) → request_refusal r ≡ Some cause → refusal_in s (event.Issue seat r) ≡ Some (Request cause)
+pub refusal-wrong : (s : LockState) (seat : ℕ) (r : RequestFields) (cause : RequestErr) → request_refusal s.groups.groups r ≡ Some cause → refusal_in s (event.Issue seat r) ≡ Some (Request cause)
 refusal-wrong s seat r cause some = ap (refusal_by s (event.Issue seat r)) some
 
 step-codes : (o : Option lock.Refused) → option_map Refused (option_map Step o) ≡ option_map step_code o
@@ -147,61 +148,69 @@ finish_right before fields old seat h is task order =
       spelled = ap (event_by (head_in before) fields) is ∙ finish_made (tasks_in before) fields seat known;
     }
 
-pub issue_right : (before : List Row) (fields : Row) (old : Reading) (kind : Kind) (seat : ℕ) (set : Set) (len : ℕ) → HasRead before old → word_of fields ≡ Issue kind → number_in old.tasks (second_of fields) ≡ Some seat
-    → set_in old.resources (field_of fields 3) ≡ Some set → length_in (field_of fields 4) ≡ Some len → is_bad_order before (Issue kind) ≡ false
-    → StandsRight before fields (Issue kind) (event.Issue seat (normalised kind set set len))
+pub issue_right : (before : List Row) (fields : Row) (old : Reading) (kind : Kind) (seat : ℕ) (sets : Set × Set) (len : ℕ) → HasRead before old → word_of fields ≡ Issue kind → number_in old.tasks (second_of fields) ≡ Some seat
+    → sets_in old.resources kind fields ≡ Some sets → length_in (length_field kind fields) ≡ Some len → is_bad_order before (Issue kind) ≡ false
+    → StandsRight before fields (Issue kind) (event.Issue seat (normalised kind sets.0 sets.1 len))
 unfolding event_in
-issue_right before fields old kind seat set len h is task names told order =
+issue_right before fields old kind seat sets len h is task names told order =
     let known : number_in (tasks_in before) (second_of fields) ≡ Some seat = ap (λ ts. number_in ts (second_of fields)) (sym h.tasks) ∙ task in
-    let members : set_in (resources_in before) (field_of fields 3) ≡ Some set = ap (λ rs. set_in rs (field_of fields 3)) (sym h.resources) ∙ names in
+    let members : sets_in (resources_in before) kind fields ≡ Some sets = ap (λ rs. sets_in rs kind fields) (sym h.resources) ∙ names in
     record {
       word = is;
       event = refl;
       field = ap is_none told;
       names = rw (known, members) refl;
       order = order;
-      spelled = ap (event_by (head_in before) fields) is ∙ issue_made (head_in before) kind fields seat set len known members told;
+      spelled = ap (event_by (head_in before) fields) is ∙ issue_made (head_in before) kind fields seat sets len known members told;
     }
 
 -- what a request that nothing refuses fits
-pub issue_fits : (old : Reading) (kind : Kind) (seat : ℕ) (set : Set) (len : ℕ) → IsReady old → seat < length old.tasks → IsTrue (all_below (length old.resources) set) → len ≤ LENGTH_LIMIT
-    → request_refusal (normalised kind set set len) ≡ None → Fits (state_of old) (event.Issue seat (normalised kind set set len))
-issue_fits old kind seat set len ready below all within none =
-    let members = kind_below (state_of old).resources kind set len (ap (λ q. all_below q set) ready.over ∙ all) in
+pub issue_fits : (old : Reading) (kind : Kind) (seat : ℕ) (reads writes : Set) (len : ℕ) → IsReady old → seat < length old.tasks → IsTrue (all_below (length old.resources) reads) → IsTrue (all_below (length old.resources) writes)
+    → len ≤ LENGTH_LIMIT → request_refusal (state_of old).groups.groups (normalised kind reads writes len) ≡ None → Fits (state_of old) (event.Issue seat (normalised kind reads writes len))
+issue_fits old kind seat reads writes len ready below all some within none =
+    let over : (state_of old).groups.q ≡ length old.resources = ap (λ (g : ReadGroups). g.q) ready.over ∙ ready.grouped in
+    let members = kind_below (state_of old).groups.q kind reads writes len (ap (λ q. all_below q reads) over ∙ all) (ap (λ q. all_below q writes) over ∙ some) in
     record {
       seat_there = subst (λ n. seat < n) (sym ready.seats) below;
       reads = members.0;
       writes = members.1;
-      admitted = (request_right kind set len none within).1;
+      admitted = (request_right (state_of old).groups.groups kind reads writes len none within).1;
       stamps = ready.stamps;
     }
 
+-- the groups of the state are those that were declared
+pub groups_there : (old : Reading) (groups : ReadGroups) → IsReady old → old.groups ≡ Some groups → (state_of old).groups ≡ groups
+groups_there old groups ready is = ready.over ∙ ap (groups_or (length old.resources)) is
+
 -- ---- requests that are refused
 
-pub refused_empty : (kind : Kind) (set : Set) (n : ℕ) → asked_set kind set set ≡ empty → request_refusal (normalised kind set set n) ≡ Some EmptyRequest
-refused_empty Read set n e = let none : (len set == 0) ≡ true = ap (λ t. len t == 0) e ∙ ap (λ n. n == 0) (len-empty nat_cmp) in rw none refl
-refused_empty Write set n e = let none : (len set == 0) ≡ true = ap (λ t. len t == 0) e ∙ ap (λ n. n == 0) (len-empty nat_cmp) in rw none refl
+pub refused_empty : (groups : List Set) (kind : Kind) (reads writes : Set) (n : ℕ) → asked_set kind reads writes ≡ empty → request_refusal groups (normalised kind reads writes n) ≡ Some EmptyRequest
+refused_empty groups Read reads writes n e = let none : (len reads == 0) ≡ true = ap (λ t. len t == 0) e ∙ ap (λ n. n == 0) (len-empty nat_cmp) in rw none refl
+refused_empty groups Write reads writes n e = let none : (len writes == 0) ≡ true = ap (λ t. len t == 0) e ∙ ap (λ n. n == 0) (len-empty nat_cmp) in rw none refl
+refused_empty groups Mixed reads writes n e = let none : (len writes == 0) ≡ true = ap (λ t. len t == 0) e ∙ ap (λ n. n == 0) (len-empty nat_cmp) in rw none refl
 
--- a read of more than one resource that is in normal form
-pub refused_many : (r : RequestFields) → IsNormal r → IsReadOfMany r → request_refusal r ≡ Some Undeclared
-refused_many r normal many = by_kind r.kind r many.0 normal many
-  where
-    by_kind : (k : Kind) (q : RequestFields) → q.kind ≡ Read → IsNormal q → IsReadOfMany q → request_refusal q ≡ Some Undeclared
-    by_kind k q is n m =
-        let some : (len q.reads == 0) ≡ false = (let more = m.1 in grind (arith, nat_tests)) in
-        let not_one : (len q.reads == 1) ≡ false = (let more = m.1 in grind (arith, nat_tests)) in
-        rw (is, some, not_one) refl
+-- a read in normal form of a set that is not declared
+pub refused_undeclared : (groups : List Set) (r : RequestFields) → IsNormal r → IsUndeclared groups r → request_refusal groups r ≡ Some Undeclared
+refused_undeclared groups r normal undeclared =
+    let some : (len r.reads == 0) ≡ false = some_set Read r.reads r.writes (subst (λ kind. FitsKind kind r.reads r.writes) undeclared.0 normal.sets) in
+    let kind = undeclared.0 in
+    let none = undeclared.1 in
+    rw (kind, some, none) refl
 
--- a request in normal form that is not admitted is such a read
-pub many_not_admitted : (r : RequestFields) → IsNormal r → (IsTrue (is_admitted r) → false ≡ true) → IsReadOfMany r
-many_not_admitted r normal not = by_kind r.kind r refl normal not
+-- a request that is not admitted is such a read
+pub undeclared_of : (groups : List Set) (r : RequestFields) → (IsTrue (is_admitted groups r) → false ≡ true) → IsUndeclared groups r
+undeclared_of groups r not = by_kind r.kind r refl not
   where
-    by_kind : (k : Kind) (q : RequestFields) → q.kind ≡ k → IsNormal q → (IsTrue (is_admitted q) → false ≡ true) → IsReadOfMany q
-    by_kind Write q is n h = absurd (true≢false (sym (h (ap (λ kind. admitted_by kind q.reads) is))))
-    by_kind Read q is n h =
-        let some : (len q.reads == 0) ≡ false = some_set Read q.reads q.writes (subst (λ kind. FitsKind kind q.reads q.writes) is n.sets) in
-        let not_one : len q.reads ≡ 1 → ⊥ = λ one. true≢false (sym (h (ap (λ kind. admitted_by kind q.reads) is ∙ ap (λ m. m == 1) one))) in
-        (is, grind (arith, nat_tests))
+    by_kind : (k : Kind) (q : RequestFields) → q.kind ≡ k → (IsTrue (is_admitted groups q) → false ≡ true) → IsUndeclared groups q
+    by_kind Write q is h = absurd (true≢false (sym (h (ap (λ kind. admitted_by groups kind q.reads) is))))
+    by_kind Mixed q is h = absurd (true≢false (sym (h (ap (λ kind. admitted_by groups kind q.reads) is))))
+    by_kind Read q is h = (
+      is,
+      elim (is_declared groups q.reads) as (λ b. is_declared groups q.reads ≡ b → b ≡ false) [
+        | true ↦ λ e. absurd (true≢false (sym (h (ap (λ kind. admitted_by groups kind q.reads) is ∙ e))))
+        | false ↦ λ e. refl
+      ] refl,
+    )
 
 -- the cause of an error is what it is
 pub err_cause : {T : Type 0} (r : Result T RequestErr) (e : RequestErr) (P : RequestErr → Type 0) → r ≡ Err e → P e → IfErr r P
@@ -211,8 +220,8 @@ pub err_of : {T : Type 0} {x e : RequestErr} → ◌≡◌ {A = Result T Request
 err_of {T} {x} {e} p = cc
 
 -- the record of an issue stands right for the request that is made of its fields
-pub issue_stands : (before : List Row) (fields : Row) (old : Reading) (kind : Kind) (seat : ℕ) (set : Set) (len : ℕ) (r : RequestFields) → HasRead before old → word_of fields ≡ Issue kind
-    → number_in old.tasks (second_of fields) ≡ Some seat → set_in old.resources (field_of fields 3) ≡ Some set → length_in (field_of fields 4) ≡ Some len → is_bad_order before (Issue kind) ≡ false
-    → r ≡ normalised kind set set len → StandsRight before fields (Issue kind) (event.Issue seat r)
-issue_stands before fields old kind seat set len r h is task names told order made =
-    subst (λ q. StandsRight before fields (Issue kind) (event.Issue seat q)) (sym made) (issue_right before fields old kind seat set len h is task names told order)
+pub issue_stands : (before : List Row) (fields : Row) (old : Reading) (kind : Kind) (seat : ℕ) (sets : Set × Set) (len : ℕ) (r : RequestFields) → HasRead before old → word_of fields ≡ Issue kind
+    → number_in old.tasks (second_of fields) ≡ Some seat → sets_in old.resources kind fields ≡ Some sets → length_in (length_field kind fields) ≡ Some len → is_bad_order before (Issue kind) ≡ false
+    → r ≡ normalised kind sets.0 sets.1 len → StandsRight before fields (Issue kind) (event.Issue seat r)
+issue_stands before fields old kind seat sets len r h is task names told order made =
+    subst (λ q. StandsRight before fields (Issue kind) (event.Issue seat q)) (sym made) (issue_right before fields old kind seat sets len h is task names told order)

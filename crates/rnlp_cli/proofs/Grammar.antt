@@ -5,7 +5,6 @@ use Rattle.std.specs.List.{filter_map, cons_option}
 use Rattle.std.specs.Str.{bytes_eq}
 use Rattle.std.proofs.lemmas.Slice.Eq.{bytes_eq-Decides}
 use Rattle.std.proofs.lemmas.List.{append-nil, map-append}
-use Rattle.std.specs.FinSet.{len}
 use Rattle.rset.specs.Names.{is_table}
 use Rattle.rset.specs.Sets.{Set}
 use Rattle.rclaim.specs.declared.event.Event.{Event}
@@ -14,14 +13,14 @@ use Rattle.rnlp_cli.specs.Records.{Row, word_of, second_of}
 use Rattle.rnlp_cli.specs.Fields.{set_in, cap_told}
 use Rattle.rnlp_cli.specs.Heads.{Head, opening_of, cap_or}
 use Rattle.rnlp_cli.specs.Events.{event_by, event_in, events_in, refusal_in}
-use Rattle.rnlp_cli.specs.Faults.{names_in, resources_in, groups_in, tasks_in, first_cap, cap_in, head_in, has_word, code_of, fault_from, first_fault, told_first, is_nil, is_resource, is_group, is_task, is_cap, is_event, is_end, ends_resources, is_bad_name, is_bad_group, is_nothing, is_bad_field, is_unknown, is_bad_order, refused_code, state_after}
+use Rattle.rnlp_cli.specs.Faults.{names_in, resources_in, groups_in, tasks_in, first_cap, cap_in, head_in, has_word, code_of, fault_from, first_fault, told_first, is_nil, is_resource, is_group, is_task, is_cap, is_event, is_end, ends_resources, is_bad_name, is_bad_group, is_bad_field, is_unknown, is_bad_order, refused_code, state_after}
 use Rattle.rnlp_cli.specs.Lists.{Listed, version_row, resource_row, task_row, end_row, head_rows, IsGroupOf, SpellGroups, SpellCap, SpellEvents, are_read_groups, IsEventList}
 use Rattle.rnlp_cli.specs.declared.record.Word.{Word}
 use Rattle.rnlp_cli.specs.declared.record.Word.TheVariants.{Version, Resource, Group, Task, Cap, Issue, Finish, End, Unknown}
 use Rattle.rnlp_cli.specs.declared.list.Code.TheVariants.{BadField, UnknownName, BadOrder, Refused}
 use Rattle.rnlp_cli.specs.declared.list.Refusal.{Refusal}
 use Rattle.rnlp_cli.proofs.Tables.{table-front, table-push, table-empty, groups-front, groups-push}
-use Rattle.rnlp_cli.proofs.Spelled.{spells_event, spelled_right, right_spells, accepted_free, free_comes, accepted-push, accepted-front, after-resources, after-seats, after-issued}
+use Rattle.rnlp_cli.proofs.Spelled.{spells_event, spelled_right, right_spells, accepted_free, free_comes, accepted-push, accepted-front, after-groups, after-seats, after-issued}
 
 -- ---- what the records of a list are
 
@@ -90,7 +89,9 @@ looks (first ∷ second ∷ third ∷ fourth ∷ []) = tt
 looks (first ∷ second ∷ third ∷ fourth ∷ fifth ∷ []) =
     chosen (bytes_eq first (codes "issue") && bytes_eq third (codes "read")) (Looks (first ∷ second ∷ third ∷ fourth ∷ fifth ∷ [])) _ _ (λ _. tt)
     (λ _. chosen (bytes_eq first (codes "issue") && bytes_eq third (codes "write")) (Looks (first ∷ second ∷ third ∷ fourth ∷ fifth ∷ [])) _ _ (λ _. tt) (λ _. tt))
-looks (first ∷ second ∷ third ∷ fourth ∷ fifth ∷ sixth ∷ fields) = tt
+looks (first ∷ second ∷ third ∷ fourth ∷ fifth ∷ sixth ∷ []) =
+    chosen (bytes_eq first (codes "issue") && bytes_eq third (codes "mixed")) (Looks (first ∷ second ∷ third ∷ fourth ∷ fifth ∷ sixth ∷ [])) _ _ (λ _. tt) (λ _. tt)
+looks (first ∷ second ∷ third ∷ fourth ∷ fifth ∷ sixth ∷ seventh ∷ fields) = tt
 
 -- ---- what a growing list of records declares
 
@@ -1003,7 +1004,7 @@ free_event before head grs crs rows events fields rest h few is field names free
       spelled.0,
       here,
       free_comes head fields (word_of fields) spelled.0 (after (opening_of head) events) here
-          (after-resources (opening_of head) events) (after-seats (opening_of head) events) (few_stamps before head grs crs rows events fields rest h few) allowed,
+          (after-groups (opening_of head) events) (after-seats (opening_of head) events) (few_stamps before head grs crs rows events fields rest h few) allowed,
     )
   where
     map_none : (o : Option Refusal) → option_map Refused o ≡ None → o ≡ None

@@ -12,7 +12,7 @@ use Rattle.csv.specs.declared.parser.State.TheVariants as st
 use Rattle.csv.specs.declared.reader.Trim.TheVariants as trim
 use Rattle.csv.proofs.ReadFacts.{rows-more, rows-end}
 use Rattle.rnlp_cli.specs.Records.{Row, AreRowsOf}
-use Rattle.rnlp_cli.specs.Faults.{first_fault, fault_from, code_of, told_first, has_word, is_end, head_in, state_after, cap_in, first_cap, names_in, is_cap, resources_in}
+use Rattle.rnlp_cli.specs.Faults.{first_fault, fault_from, code_of, told_first, has_word, is_end, head_in, state_after, first_cap, names_in, is_cap}
 use Rattle.rnlp_cli.specs.Lists.{Listed, IsEventList}
 use Rattle.rnlp_cli.specs.Report.{Keeps, head_kept}
 use Rattle.rnlp_cli.specs.Reading.{HasRead, head_of, list_in, IsReady, error_at}
@@ -26,14 +26,14 @@ use Rattle.rnlp_cli.specs.declared.list.Code.TheVariants.{NoEnd}
 use Rattle.rnlp_cli.specs.declared.list.Fault.{Fault}
 use Rattle.rnlp_cli.specs.declared.reading.Reading.{Reading}
 use Rattle.rnlp_cli.proofs.Grammar.{passed, spells, spelled_list, events_in-few}
-use Rattle.std.specs.Prelude.{IfSome, option_and_then, nat_le, unwrap_or, ◌&&◌, Bool}
+use Rattle.std.specs.Prelude.{IfSome, option_and_then, nat_le, ◌&&◌, Bool}
 use Rattle.rset.specs.declared.TheConstants.{SEATS}
 use Rattle.std.proofs.lemmas.Bool.Decides.{nat_tests}
 use Rattle.rnlp_cli.specs.Fields.{cap_within, cap_told, number_told}
 use Rattle.rnlp_cli.specs.Heads.{opening_of}
 use Rattle.rnlp_cli.specs.Events.{events_in}
-use Rattle.rnlp_cli.proofs.Readings.{read-head, groups_over}
-use Rattle.rnlp_cli.proofs.Spelled.{after-resources, after-seats, after-issued}
+use Rattle.rnlp_cli.proofs.Readings.{read-head, groups_over, groups_known}
+use Rattle.rnlp_cli.proofs.Spelled.{after-groups, after-seats, after-issued}
 use Rattle.rnlp_cli.proofs.Rows.{rows_around}
 
 -- the bytes of a slice that a reader has left
@@ -140,7 +140,11 @@ ready before reading h few =
     record {
       grouped = groups_over before (length reading.resources) reading.groups h.groups (ap length h.resources) ∙ ap length (sym h.resources);
       cap = subst (λ o. IfSome o (λ cap. (1 ≤ cap) × (cap ≤ SEATS))) (sym h.cap) (first_within (names_in is_cap before));
-      over = ap (λ s. s.resources) h.state ∙ after-resources (opening_of head) (events_in head before) ∙ ap length (sym h.resources);
+      over = ap (λ s. s.groups) h.state ∙ after-groups (opening_of head) (events_in head before)
+          ∙ (λ i. record {
+            q = sym (groups_over before (length reading.resources) reading.groups h.groups (ap length h.resources)) i;
+            groups = sym (groups_known before (length reading.resources) reading.groups h.groups) i;
+          });
       seats = ap (λ s. s.seats) h.state ∙ after-seats (opening_of head) (events_in head before) ∙ ap length (sym h.tasks);
       stamps = subst (λ n. n < 2 ^ 63) (ap (λ s. s.issued) (sym h.state)) stamps;
     }

@@ -1,7 +1,7 @@
 -- What a reader knows after one record more.
 use Rattle.std.proofs.Common.{append_assoc, ◌≡◌, ℕ, Bool, true, false, not, ◌||◌, cond, List, [], ◌∷◌, ◌++◌, Option, Some, None, refl, sym, ap, subst, ◌∙◌, true≢false, ◌<◌, arith}
 use Rattle.std.proofs.lemmas.List.{append-nil}
-use Rattle.std.specs.Prelude.{length, is_some, is_none, unwrap_or}
+use Rattle.std.specs.Prelude.{length, is_some, is_none}
 use Rattle.std.specs.List.{cons_option, filter_map}
 use Rattle.rset.specs.Sets.{Set}
 use Rattle.rexpand.specs.Groups.{ReadGroups}

@@ -8,10 +8,10 @@ use Rattle.rset.specs.declared.TheConstants.{RESOURCES}
 use Rattle.rexpand.specs.declared.TheConstants.{GROUPS}
 use Rattle.rmodel.specs.State.{LockState}
 use Rattle.rmodel.specs.Steps.{after}
-use Rattle.rnlp_cli.specs.Records.{Row, word_of, second_of, field_of}
+use Rattle.rnlp_cli.specs.Records.{Row, word_of, second_of}
 use Rattle.rnlp_cli.specs.Fields.{length_in, set_in, cap_told}
 use Rattle.rnlp_cli.specs.Heads.{Head, opening_of, cap_or}
-use Rattle.rnlp_cli.specs.Events.{event_in, events_in, refusal_in}
+use Rattle.rnlp_cli.specs.Events.{sets_in, length_field, event_in, events_in, refusal_in}
 use Rattle.rnlp_cli.specs.declared.record.Word.{Word}
 use Rattle.rnlp_cli.specs.declared.record.Word.TheVariants.{Version, Resource, Group, Task, Cap, Issue, Finish, End, Unknown}
 use Rattle.rnlp_cli.specs.declared.list.Code.{Code}
@@ -159,7 +159,7 @@ is_bad_field before fields Resource = is_bad_name (resources_in before) (second_
 is_bad_field before fields Group = is_bad_group (groups_in before) (set_in (resources_in before) (second_of fields))
 is_bad_field before fields Task = is_bad_name (tasks_in before) (second_of fields)
 is_bad_field before fields Cap = is_none (cap_told (second_of fields))
-is_bad_field before fields (Issue kind) = is_none (length_in (field_of fields 4))
+is_bad_field before fields (Issue kind) = is_none (length_in (length_field kind fields))
 is_bad_field before fields Finish = false
 is_bad_field before fields End = false
 is_bad_field before fields Unknown = true
@@ -168,7 +168,7 @@ is_bad_field before fields Unknown = true
 abbrev pub is_unknown : List Row → Row → Word → Bool
 is_unknown before fields Group = is_none (set_in (resources_in before) (second_of fields))
 is_unknown before fields (Issue kind) =
-    is_none (number_in (tasks_in before) (second_of fields)) || is_none (set_in (resources_in before) (field_of fields 3))
+    is_none (number_in (tasks_in before) (second_of fields)) || is_none (sets_in (resources_in before) kind fields)
 is_unknown before fields Finish = is_none (number_in (tasks_in before) (second_of fields))
 is_unknown before fields Version = false
 is_unknown before fields Resource = false

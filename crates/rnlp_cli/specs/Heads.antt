@@ -1,10 +1,8 @@
 -- What the head of an event list declares.
-use Rattle.std.specs.Prelude.{ℕ, List, [], length, Option, Some, None, unwrap_or}
-use Rattle.std.specs.List.{filter_map}
+use Rattle.std.specs.Prelude.{ℕ, List, length, Option, Some, None, unwrap_or}
 use Rattle.rset.specs.Sets.{Set}
 use Rattle.rexpand.specs.Groups.{ReadGroups, no_groups}
 use Rattle.rmodel.specs.State.{LockState, opening}
-use Rattle.rnlp_cli.specs.Fields.{set_in, cap_told}
 
 -- its resources, its read groups and its tasks, each in the order of the list, and how many requests may be incomplete at once
 pub record Head : Type 0 where
@@ -13,9 +11,13 @@ pub record Head : Type 0 where
   pub tasks : List (List ℕ)
   pub cap : ℕ
 
+-- its read groups, over its resources
+abbrev pub read_groups : Head → ReadGroups
+read_groups head = record { q = length head.resources; groups = head.groups }
+
 -- the state before the first event: a seat for each task, and as many requests at once as the cap allows
 abbrev pub opening_of : Head → LockState
-opening_of head = opening (length head.resources) (length head.tasks) head.cap
+opening_of head = opening (read_groups head) (length head.tasks) head.cap
 
 -- the cap that was told, and else the number of tasks
 abbrev pub cap_or : List (List ℕ) → Option ℕ → ℕ

@@ -67,11 +67,11 @@ pub record HasRead (before : List Row) (reading : Reading) : Type 0 where
   pub state : state_of reading ≡ state_after before
   pub ended : reading.ended ≡ has_word is_end before
 
--- the groups and the state are over the names that were declared, the cap is one, and the state has stamps left
+-- the groups are over the resources that were declared, the cap is one, and the state is over both and the tasks, and has stamps left
 pub record IsReady (reading : Reading) : Type 0 where
   pub grouped : (groups_of reading).q ≡ length reading.resources
   pub cap : IfSome reading.cap (λ cap. (1 ≤ cap) × (cap ≤ SEATS))
-  pub over : (state_of reading).resources ≡ length reading.resources
+  pub over : (state_of reading).groups ≡ groups_of reading
   pub seats : (state_of reading).seats ≡ length reading.tasks
   pub stamps : (state_of reading).issued < 2 ^ 63
 

@@ -3,10 +3,9 @@ use Rattle.std.specs.Prelude.{◌≡◌, ℕ, Bool, List, [], ◌∷◌, ◌++�
 use Rattle.std.specs.List.{join_with_byte}
 use Rattle.std.specs.FinSet.{union}
 use Rattle.rset.specs.Sets.{Set, rising}
-use Rattle.rclaim.specs.Requests.{asked_set}
 use Rattle.rclaim.specs.Changes.{ChangeLists}
 use Rattle.rclaim.specs.declared.request.Kind.{Kind}
-use Rattle.rclaim.specs.declared.request.Kind.TheVariants.{Read, Write}
+use Rattle.rclaim.specs.declared.request.Kind.TheVariants.{Read, Write, Mixed}
 use Rattle.rclaim.specs.declared.claim.Status.{Status}
 use Rattle.rclaim.specs.declared.claim.Status.TheVariants.{Waiting, Entitled, Satisfied}
 use Rattle.rclaim.specs.declared.changes.StatusChange.{StatusChange}
@@ -37,11 +36,18 @@ set_text resources s = joined (map (name_at resources) (rising s))
 abbrev pub kind_text : Kind → List ℕ
 kind_text Read = codes "read"
 kind_text Write = codes "write"
+kind_text Mixed = codes "mixed"
+
+-- the fields with the sets of a request of this kind: of a mixed one what it reads and what it writes
+abbrev pub set_fields : List (List ℕ) → Kind → Set → Set → Row
+set_fields resources Read reads writes = set_text resources reads ∷ []
+set_fields resources Write reads writes = set_text resources writes ∷ []
+set_fields resources Mixed reads writes = set_text resources reads ∷ set_text resources writes ∷ []
 
 -- the record of an event
 abbrev pub event_row : List (List ℕ) → List (List ℕ) → Event → Row
 event_row resources tasks (Issue seat r) =
-    codes "issue" ∷ name_at tasks seat ∷ kind_text r.kind ∷ set_text resources (asked_set r.kind r.reads r.writes) ∷ decimal r.len ∷ []
+    codes "issue" ∷ name_at tasks seat ∷ kind_text r.kind ∷ (set_fields resources r.kind r.reads r.writes ++ decimal r.len ∷ [])
 event_row resources tasks (Finish seat) = codes "finish" ∷ name_at tasks seat ∷ []
 
 abbrev pub claim_text : Bool → List ℕ

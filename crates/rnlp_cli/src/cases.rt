@@ -1,7 +1,7 @@
 // Worked lists, and what is written of each.
 
 /// Each list with what `replay` writes of it.
-pub const CASES: [(&[u8], &[u8]); 30] = [
+pub const CASES: [(&[u8], &[u8]); 39] = [
     // a read and a write wait for a write without wait lines
     (
         b"rnlp,1
@@ -67,6 +67,106 @@ end
     ),
     // empty list
     (b"", b"error,1,8\n"),
+    // entitlement keeps out only conflicts without wait lines
+    (
+        b"rnlp,1
+resource,a
+resource,b
+resource,c
+resource,e
+group,a+b
+group,b+c
+task,t1
+task,t2
+task,t3
+task,t4
+issue,t1,read,a+b,3
+issue,t2,write,a,2
+issue,t3,read,a,1
+issue,t4,read,b,1
+finish,t1
+finish,t2
+end
+",
+        b"rnlp,1
+resource,a
+resource,b
+resource,c
+resource,e
+group,a+b
+group,b+c
+task,t1
+task,t2
+task,t3
+task,t4
+cap,4
+issue,t1,read,a+b,3
+now,t1,read,satisfied
+grant,t1,a+b
+issue,t2,write,a,2
+now,t2,write,entitled
+issue,t3,read,a,1
+issue,t4,read,b,1
+now,t4,read,satisfied
+grant,t4,b
+finish,t1
+now,t2,write,satisfied
+now,t3,read,entitled
+grant,t2,a
+finish,t2
+now,t3,read,satisfied
+grant,t3,a
+ledger,a,0,0
+ledger,b,0,0
+ledger,c,0,0
+ledger,e,0,0
+end
+",
+    ),
+    // expansion makes a write wait without wait lines
+    (
+        b"rnlp,1
+resource,a
+resource,b
+resource,c
+resource,e
+group,a+b
+group,b+c
+task,t1
+task,t2
+task,t3
+task,t4
+issue,t1,write,a,2
+issue,t2,write,b,5
+finish,t1
+end
+",
+        b"rnlp,1
+resource,a
+resource,b
+resource,c
+resource,e
+group,a+b
+group,b+c
+task,t1
+task,t2
+task,t3
+task,t4
+cap,4
+issue,t1,write,a,2
+now,t1,write,satisfied
+grant,t1,a
+issue,t2,write,b,5
+finish,t1
+now,t2,write,satisfied
+grant,t2,b
+ledger,a,0,0
+ledger,b,0,0
+ledger,c,0,0
+ledger,e,0,0
+end
+",
+    ),
     // finish before any issue
     (
         b"rnlp,1\nresource,a\nresource,b\ntask,t1\nfinish,t1\nend\n",
@@ -345,6 +445,154 @@ ledger,a,0,0
 end
 ",
     ),
+    // mere place locks nothing
+    (
+        b"rnlp,1
+resource,a
+resource,b
+resource,c
+resource,e
+group,a+b
+group,b+c
+task,t1
+task,t2
+task,t3
+task,t4
+issue,t1,write,a,2
+issue,t2,read,b,1
+end
+",
+        b"rnlp,1
+resource,a
+resource,b
+resource,c
+resource,e
+group,a+b
+group,b+c
+task,t1
+task,t2
+task,t3
+task,t4
+cap,4
+issue,t1,write,a,2
+now,t1,write,satisfied
+grant,t1,a
+issue,t2,read,b,1
+now,t2,read,satisfied
+grant,t2,b
+ledger,a,0,0
+ledger,b,0,0
+ledger,c,0,0
+ledger,e,0,0
+end
+",
+    ),
+    // mixed section holds up a write by its reading without wait lines
+    (
+        b"rnlp,1
+resource,a
+resource,b
+resource,c
+resource,e
+group,a+b
+group,b+c
+task,t1
+task,t2
+task,t3
+task,t4
+issue,t1,mixed,a,e,2
+issue,t2,read,a,3
+issue,t3,write,a,1
+finish,t2
+finish,t1
+end
+",
+        b"rnlp,1
+resource,a
+resource,b
+resource,c
+resource,e
+group,a+b
+group,b+c
+task,t1
+task,t2
+task,t3
+task,t4
+cap,4
+issue,t1,mixed,a,e,2
+now,t1,write,satisfied
+grant,t1,a+e
+issue,t2,read,a,3
+now,t2,read,satisfied
+grant,t2,a
+issue,t3,write,a,1
+now,t3,write,entitled
+finish,t2
+finish,t1
+now,t3,write,satisfied
+grant,t3,a
+ledger,a,0,0
+ledger,b,0,0
+ledger,c,0,0
+ledger,e,0,0
+end
+",
+    ),
+    // mixed that names a resource in both sets
+    (
+        b"rnlp,1
+resource,b
+resource,a
+task,t1
+issue,t1,mixed,a+b,a,1
+end
+",
+        b"rnlp,1
+resource,b
+resource,a
+task,t1
+cap,1
+issue,t1,mixed,b,a,1
+now,t1,write,satisfied
+grant,t1,b+a
+ledger,b,0,0
+ledger,a,0,0
+end
+",
+    ),
+    // mixed that reads only what it writes
+    (
+        b"rnlp,1
+resource,b
+resource,a
+task,t1
+issue,t1,mixed,a,a,1
+end
+",
+        b"rnlp,1
+resource,b
+resource,a
+task,t1
+cap,1
+issue,t1,mixed,-,a,1
+now,t1,write,satisfied
+grant,t1,a
+ledger,b,0,0
+ledger,a,0,0
+end
+",
+    ),
+    // mixed without writes
+    (
+        b"rnlp,1
+resource,b
+resource,a
+task,t1
+issue,t1,mixed,a,-,1
+end
+",
+        b"error,5,4,7\n",
+    ),
     // name of seventeen bytes
     (
         b"rnlp,1
@@ -463,9 +711,100 @@ ledger,a,0,0
 end
 ",
     ),
+    // shared place that nobody locks
+    (
+        b"rnlp,1
+resource,a
+resource,b
+resource,c
+resource,e
+group,a+b
+group,b+c
+task,t1
+task,t2
+task,t3
+task,t4
+issue,t1,write,a,2
+issue,t3,write,c,2
+end
+",
+        b"rnlp,1
+resource,a
+resource,b
+resource,c
+resource,e
+group,a+b
+group,b+c
+task,t1
+task,t2
+task,t3
+task,t4
+cap,4
+issue,t1,write,a,2
+now,t1,write,satisfied
+grant,t1,a
+issue,t3,write,c,2
+now,t3,write,satisfied
+grant,t3,c
+ledger,a,0,0
+ledger,b,0,0
+ledger,c,0,0
+ledger,e,0,0
+end
+",
+    ),
     // smallest list
     (
         b"rnlp,1\nresource,a\ntask,t1\nend\n",
         b"rnlp,1\nresource,a\ntask,t1\ncap,1\nledger,a,0,0\nend\n",
+    ),
+    // waiting read keeps write back without wait lines
+    (
+        b"rnlp,1
+resource,a
+resource,b
+resource,c
+resource,e
+group,a+b
+group,b+c
+task,t1
+task,t2
+task,t3
+task,t4
+issue,t1,write,a,2
+issue,t2,read,a+b,3
+issue,t3,write,c,4
+finish,t1
+end
+",
+        b"rnlp,1
+resource,a
+resource,b
+resource,c
+resource,e
+group,a+b
+group,b+c
+task,t1
+task,t2
+task,t3
+task,t4
+cap,4
+issue,t1,write,a,2
+now,t1,write,satisfied
+grant,t1,a
+issue,t2,read,a+b,3
+now,t2,read,entitled
+issue,t3,write,c,4
+finish,t1
+now,t2,read,satisfied
+now,t3,write,satisfied
+grant,t2,a+b
+grant,t3,c
+ledger,a,0,0
+ledger,b,0,0
+ledger,c,0,0
+ledger,e,0,0
+end
+",
     ),
 ];

@@ -16,14 +16,14 @@ ghost use Rattle.rnlp_cli.specs.Report.{Keeps, head_kept, event_row, change_rows
 ghost use Rattle.rnlp_cli.specs.Text.{lines_of};
 ghost use Rattle.rnlp_cli.specs.Reading.{HasRead, IsReady, HasGroups, Takes, Refuses, Notes, IsBadNote, StepsBy, groups_of, head_of, state_of, step_code, error_at};
 
-use crate::fields::{cap_of, length_of, set_of};
+use crate::fields::{cap_of, length_field, length_of, set_of, sets_of};
 use crate::history::push_step;
 use crate::list::{Code, EventList, Fault, Refusal};
 use crate::record::{Word, field_of, word_of};
 use csv::{ByteRecord, ReaderBuilder};
 use rclaim::{Changes, Event, Kind, LENGTH_LIMIT, Request, RequestErr};
 use rexpand::{GROUPS, Groups};
-use rmodel::{Plain, Refused, admit};
+use rmodel::{Machine, Plain, Refused, admit};
 use rset::{NameErr, NameTable, ResourceSet};
 use std::alloc::{AllocError, Global};
 
@@ -293,19 +293,22 @@ impl Reading {
         ensures taken { OnOk result (Takes self.old self.new (fields_of fields.now)) }
         ensures bad { (code : Code) → result ≡ Err (RowErr.Bad code) → Refuses self.old (fields_of fields.now) code }
     {
-        let Some(len) = length_of(field_of(fields, 4)) else {
+        let Some(len) = length_of(length_field(kind, fields)) else {
             return Err(RowErr::Bad(Code::BadField));
         };
         let Some(seat) = self.tasks.number_of(field_of(fields, 1)) else {
             return Err(RowErr::Bad(Code::UnknownName));
         };
-        let Some(set) = set_of(&self.resources, field_of(fields, 3)) else {
+        let Some(sets) = sets_of(&self.resources, kind, fields) else {
             return Err(RowErr::Bad(Code::UnknownName));
         };
         if self.misplaces(Word::Issue(kind)) {
             return Err(RowErr::Bad(Code::BadOrder));
         }
-        match request_of(kind, set, len) {
+        let Some(groups) = &self.groups else {
+            return Err(RowErr::Memory);
+        };
+        match request_of(groups, kind, sets.0, sets.1, len) {
             Ok(request) => self.step(alloc, &Event::Issue { seat, request }),
             Err(cause) => Err(RowErr::Bad(Code::Refused(Refusal::Request(cause)))),
         }
@@ -330,6 +333,7 @@ impl Reading {
     // Takes an event in its place.
     fn step(&mut self, alloc: Global, event: &Event) -> Result<(), RowErr>
         requires names { (0 < length self.old.resources) × (0 < length self.old.tasks) }
+        requires over { (groups_of self.old).q ≡ length self.old.resources }
         requires cap { IfSome self.old.cap (λ cap. (1 ≤ cap) × (cap ≤ SEATS)) }
         requires fits { Fits (state_of self.old) event.now }
         ensures stepped { OnOk result (StepsBy self.old self.new event.now) }
@@ -356,14 +360,19 @@ impl Reading {
     // Makes the machine, if it is not there: all names are declared by now.
     fn make_machine(&mut self, alloc: Global) -> Result<(), AllocError>
         requires names { (0 < length self.old.resources) × (0 < length self.old.tasks) }
+        requires over { (groups_of self.old).q ≡ length self.old.resources }
         requires cap { IfSome self.old.cap (λ cap. (1 ≤ cap) × (cap ≤ SEATS)) }
         ensures made { OnOk result (IsSome self.new.machine × (state_of self.new ≡ state_of self.old)) }
         ensures others { self.new ≡ record self.old { machine = self.new.machine } }
     {
         if self.machine.is_none() {
+            let groups = match &self.groups {
+                Some(groups) => groups.copy(alloc)?,
+                None => Groups::new(alloc, self.resources.len())?,
+            };
             let tasks = self.tasks.len();
             let cap = self.cap.unwrap_or(tasks);
-            self.machine = Some(Plain::new(alloc, self.resources.len(), tasks, cap)?);
+            self.machine = Some(Plain::new(alloc, groups, tasks, cap)?);
         }
         Ok(())
     }
@@ -404,14 +413,20 @@ impl Reading {
     }
 }
 
-// The request of this kind for a set.
-fn request_of(kind: Kind, set: ResourceSet, len: u32) -> Result<Request, RequestErr>
+// The request of this kind for these sets, under read groups.
+fn request_of(
+    groups: &Groups,
+    kind: Kind,
+    reads: ResourceSet,
+    writes: ResourceSet,
+    len: u32,
+) -> Result<Request, RequestErr>
     requires { len ≤ LENGTH_LIMIT }
-    ensures made { IfOk result (λ r. (r ≡ normalised kind set set len) × (request_refusal (normalised kind set set len) ≡ None)) }
-    ensures refused { IfErr result (λ cause. request_refusal (normalised kind set set len) ≡ Some cause) }
+    ensures made { IfOk result (λ r. (r ≡ normalised kind reads writes len) × (request_refusal groups.now.groups (normalised kind reads writes len) ≡ None)) }
+    ensures refused { IfErr result (λ cause. request_refusal groups.now.groups (normalised kind reads writes len) ≡ Some cause) }
 {
-    let request = Request::new(kind, set, set, ResourceSet::empty(), len, 0)?;
-    admit(&request)?;
+    let request = Request::new(kind, reads, writes, ResourceSet::empty(), len, 0)?;
+    admit(groups, &request)?;
     Ok(request)
 }
 

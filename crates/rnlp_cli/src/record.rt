@@ -1,7 +1,7 @@
 // What a record of a list is, by the number of its fields and the words in them.
 ghost use Rattle.std.specs.Prelude.{◌≡◌};
 ghost use Rattle.csv.specs.Records.{fields_of};
-ghost use Rattle.rnlp_cli.specs.Records.{word_of, word_alone, word_with, word_of_five, field_of};
+ghost use Rattle.rnlp_cli.specs.Records.{word_of, word_alone, word_with, word_of_five, word_of_six, field_of};
 
 use csv::ByteRecord;
 use rclaim::Kind;
@@ -19,7 +19,7 @@ pub enum Word {
     Task,
     /// `cap,M`
     Cap,
-    /// `issue,TASK,KIND,SET,LEN`
+    /// `issue,TASK,KIND,SET,LEN`, or `issue,TASK,mixed,READS,WRITES,LEN`
     Issue(Kind),
     /// `finish,TASK`
     Finish,
@@ -37,6 +37,7 @@ pub fn word_of(fields: &ByteRecord) -> Word
         1 => word_alone(field_of(fields, 0)),
         2 => word_with(field_of(fields, 0), field_of(fields, 1)),
         5 => word_of_five(field_of(fields, 0), field_of(fields, 2)),
+        6 => word_of_six(field_of(fields, 0), field_of(fields, 2)),
         _ => Word::Unknown,
     }
 }
@@ -81,6 +82,17 @@ fn word_of_five(first: &[u8], kind: &[u8]) -> Word
         Word::Issue(Kind::Read)
     } else if first == b"issue".as_slice() && kind == b"write".as_slice() {
         Word::Issue(Kind::Write)
+    } else {
+        Word::Unknown
+    }
+}
+
+// What a record of six fields is: its third names the kind of a request.
+fn word_of_six(first: &[u8], kind: &[u8]) -> Word
+    ensures { result ≡ word_of_six first.now kind.now }
+{
+    if first == b"issue".as_slice() && kind == b"mixed".as_slice() {
+        Word::Issue(Kind::Mixed)
     } else {
         Word::Unknown
     }

@@ -31,6 +31,15 @@ fn run(
     Ok((status, sink.written().to_vec(alloc)?))
 }
 
+// The status with which an output is written.
+fn status_with(output: &[u8]) -> ToolStatus {
+    if output.starts_with(b"error") {
+        ToolStatus::Trace
+    } else {
+        ToolStatus::Done
+    }
+}
+
 // A list of so many resources and one task.
 fn list_of(alloc: Global, resources: u8) -> Result<Vec<u8>, Fail> {
     let mut text = String::from_str(alloc, "rnlp,1\n")?;
@@ -221,8 +230,7 @@ fn replays(rt: HostRuntime) -> Result<(), Fail> {
     for (input, output) in REPLAYS {
         let (status, written) = run(rt.alloc(), &["replay"], input, &[], &[])?;
         assert_eq!(rt; written.as_slice(), output);
-        let fits = (status == ToolStatus::Done) != output.starts_with(b"error");
-        assert!(rt; fits && (status == ToolStatus::Done || status == ToolStatus::Trace));
+        assert_eq!(rt; status, status_with(output));
     }
     Ok(())
 }
@@ -232,8 +240,7 @@ fn cases(rt: HostRuntime) -> Result<(), Fail> {
     for (input, output) in CASES {
         let (status, written) = run(rt.alloc(), &["replay"], input, &[], &[])?;
         assert_eq!(rt; written.as_slice(), output);
-        let fits = (status == ToolStatus::Done) != output.starts_with(b"error");
-        assert!(rt; fits && (status == ToolStatus::Done || status == ToolStatus::Trace));
+        assert_eq!(rt; status, status_with(output));
     }
     Ok(())
 }

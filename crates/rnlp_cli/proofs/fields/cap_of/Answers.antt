@@ -1,4 +1,4 @@
-use Rattle.std.proofs.Common.{sym, ap, ◌∙◌}
+use Rattle.std.proofs.Common.{ap, ◌∙◌}
 use Rattle.std.specs.Prelude.{option_and_then}
 use Rattle.rnlp_cli.specs.Fields.{cap_within, cap_told}
 use Rattle.rnlp_cli.proofs.fields.cap_of.Goals as goal
