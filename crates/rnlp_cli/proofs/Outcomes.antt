@@ -1,5 +1,5 @@
 -- How a command ended, from how its parts ended.
-use Rattle.std.proofs.Common.{◌≡◌, ℕ, ◌+◌, ◌≤◌, List, [], ◌∷◌, ◌++◌, map, append_assoc, length, Option, Some, None, refl, sym, ap, subst, ◌∙◌, arith, ◌⊎◌, inl, inr}
+use Rattle.std.proofs.Common.{◌≡◌, ℕ, ◌+◌, ◌≤◌, List, [], ◌∷◌, ◌++◌, map, length, Option, Some, None, refl, sym, ap, subst, ◌∙◌, arith, ◌⊎◌, inl, inr}
 use Rattle.std.proofs.lemmas.List.{drop_all}
 use Rattle.std.proofs.lemmas.Bool.{true≢false}
 use Rattle.std.specs.Prelude.{IfSome, is_none}
@@ -10,9 +10,9 @@ use Rattle.rnlp_cli.specs.Records.{Row, AreRowsOf}
 use Rattle.rnlp_cli.specs.Faults.{first_fault}
 use Rattle.std.proofs.lemmas.Grind.{flat_map-append}
 use Rattle.rnlp_cli.specs.Text.{line, lines_of}
-use Rattle.rnlp_cli.specs.Events.{opening_of}
-use Rattle.rnlp_cli.specs.Lists.{Listed, IsEventList, head_rows, end_row}
-use Rattle.rnlp_cli.specs.Report.{cap_row, ledger_row, history_rows, report_text, report_around, Keeps}
+use Rattle.rnlp_cli.specs.Heads.{opening_of}
+use Rattle.rnlp_cli.specs.Lists.{Listed, IsEventList, end_row}
+use Rattle.rnlp_cli.specs.Report.{ledger_row, history_rows, written_head, report_text, report_around, head_kept, Keeps}
 use Rattle.rnlp_cli.specs.declared.list.EventList.{EventList}
 use Rattle.rnlp_cli.specs.Tool.{IsOutput, IsWritten, IsAnswer, IsRefused}
 use Rattle.rnlp_cli.specs.declared.list.Fault.{Fault}
@@ -31,33 +31,26 @@ no_output bytes fault (rows, are, first) text (list, spelled, is) =
     true≢false (ap is_none (sym none ∙ first))
 
 -- the report of a list, from its parts
-around_is : (kept : EventList) (list : Listed) → Keeps kept list → report_around kept.resources kept.tasks kept.history.items ≡ report_text list
+around_is : (kept : EventList) (list : Listed) → Keeps kept list → report_around (head_kept kept) kept.history.items ≡ report_text list
 around_is kept list keeps =
-    (λ i. report_around (keeps.resources i) (keeps.tasks i) (keeps.history i))
-    ∙ ap (λ xs. lines_of (head ++ cap ∷ []) ++ xs) (sym (flat_map-append line history (ledgers ++ end_row ∷ [])))
-    ∙ sym (flat_map-append line (head ++ cap ∷ []) (history ++ (ledgers ++ end_row ∷ [])))
-    ∙ ap lines_of (append_assoc head (cap ∷ []) (history ++ (ledgers ++ end_row ∷ [])))
+    (λ i. report_around (keeps.head i) (keeps.history i))
+    ∙ ap (λ xs. lines_of (written_head list.head) ++ xs) (sym (flat_map-append line history (ledgers ++ end_row ∷ [])))
+    ∙ sym (flat_map-append line (written_head list.head) (history ++ (ledgers ++ end_row ∷ [])))
   where
-    head : List Row
-    head = head_rows list.resources list.tasks
-
-    cap : Row
-    cap = cap_row (length list.tasks)
-
     history : List Row
-    history = history_rows list.resources list.tasks (opening_of list.resources list.tasks) list.events
+    history = history_rows list.head (opening_of list.head) list.events
 
     ledgers : List Row
-    ledgers = map (λ name. ledger_row name 0 0) list.resources
+    ledgers = map (λ name. ledger_row name 0 0) list.head.resources
 
 -- the report of what was kept of the list that the bytes spell
 pub reported : (bytes : List ℕ) (kept : EventList) (before after : Option (List ℕ)) (failed same : Type 0) (s : ToolStatus)
     → (list : Listed) × (rows : List Row) × AreRowsOf bytes rows × IsEventList rows list × Keeps kept list
-    → IsWritten (report_around kept.resources kept.tasks kept.history.items) before after failed same s → IsAnswer (Some Replay) bytes before after failed same s
+    → IsWritten (report_around (head_kept kept) kept.history.items) before after failed same s → IsAnswer (Some Replay) bytes before after failed same s
 reported bytes kept before after failed same status.Done (list, rows, are, spelled, keeps) h =
-    (report_around kept.resources kept.tasks kept.history.items, (list, (rows, are, spelled), around_is kept list keeps), h)
+    (report_around (head_kept kept) kept.history.items, (list, (rows, are, spelled), around_is kept list keeps), h)
 reported bytes kept before after failed same status.WriteFault (list, rows, are, spelled, keeps) h =
-    (h.0, report_around kept.resources kept.tasks kept.history.items, (list, (rows, are, spelled), around_is kept list keeps), h.1)
+    (h.0, report_around (head_kept kept) kept.history.items, (list, (rows, are, spelled), around_is kept list keeps), h.1)
 reported bytes kept before after failed same status.NoMemory found h = h
 reported bytes kept before after failed same status.Trace found h = absurd h
 reported bytes kept before after failed same status.Words found h = absurd h

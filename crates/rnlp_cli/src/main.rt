@@ -4,6 +4,8 @@
 //! is, what its first fault is and which text is written of it stand in specs/.
 #![tactic(auto)]
 
+#[cfg(test)]
+mod cases;
 mod fields;
 mod history;
 mod list;

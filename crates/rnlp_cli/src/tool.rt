@@ -3,7 +3,7 @@ ghost use Rattle.std.specs.Prelude.{◌≡◌, ◌≢◌, ◌≤◌, ◌<◌, �
 ghost use Rattle.io_ends.specs.Faults.{Rose};
 ghost use Rattle.io_ends.specs.Ends.{Appends, AppendsPrefix, Took, TookAtMost};
 ghost use Rattle.rnlp_cli.specs.Words.{command_in};
-ghost use Rattle.rnlp_cli.specs.Report.{report_around};
+ghost use Rattle.rnlp_cli.specs.Report.{report_around, head_kept};
 ghost use Rattle.rnlp_cli.specs.Tool.{IsOutput, IsFault, IsRead, IsSilent, IsAnswer, IsWritten, IsRefused, LineWritten};
 
 use crate::list::{EventList, Fault};
@@ -96,7 +96,7 @@ fn replay<K: Sink>(alloc: Global, bytes: &[u8], sink: &mut K) -> ToolStatus
 
 // Writes the report of a list.
 fn report<K: Sink>(alloc: Global, list: &EventList, sink: &mut K) -> ToolStatus
-    ensures { IsWritten (report_around list.now.resources list.now.tasks list.now.history.items) (K.written sink.old) (K.written sink.new) (Rose (K.faults sink.old) (K.faults sink.new)) (sink.new ≡ sink.old) result }
+    ensures { IsWritten (report_around (head_kept list.now) list.now.history.items) (K.written sink.old) (K.written sink.new) (Rose (K.faults sink.old) (K.faults sink.new)) (sink.new ≡ sink.old) result }
 {
     let Ok(text) = report_of(alloc, list) else {
         return ToolStatus::NoMemory;
