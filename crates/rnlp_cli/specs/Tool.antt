@@ -12,6 +12,21 @@ use Rattle.rnlp_cli.specs.declared.words.Command.TheVariants.{Replay}
 use Rattle.rnlp_cli.specs.declared.status.ToolStatus.{ToolStatus}
 use Rattle.rnlp_cli.specs.declared.status.ToolStatus.TheVariants as status
 
+-- the exit status of the program
+abbrev pub status_number : ToolStatus → ℕ
+status_number status.Done = 0
+status_number status.Words = 2
+status_number status.ReadFault = 3
+status_number status.WriteFault = 4
+status_number status.Script = 5
+status_number status.TooLong = 6
+status_number status.NoMemory = 7
+status_number status.Trace = 8
+
+-- the most bytes that an event list may have: 64 times 2^20
+abbrev pub list_limit : ℕ
+list_limit = 67108864
+
 -- these bytes spell this event list
 abbrev pub Spells : List ℕ → Listed → Type 0
 Spells bytes list = (rows : List Row) × AreRowsOf bytes rows × IsEventList rows list

@@ -4,7 +4,7 @@ ghost use Rattle.io_ends.specs.Faults.{Rose};
 ghost use Rattle.io_ends.specs.Ends.{Appends, AppendsPrefix, Took, TookAtMost};
 ghost use Rattle.rnlp_cli.specs.Words.{command_in};
 ghost use Rattle.rnlp_cli.specs.Report.{report_around};
-ghost use Rattle.rnlp_cli.specs.Tool.{IsOutput, IsFault, IsRead, IsSilent, IsAnswer, IsWritten, IsRefused, LineWritten};
+ghost use Rattle.rnlp_cli.specs.Tool.{IsOutput, IsFault, IsRead, IsSilent, IsAnswer, IsWritten, IsRefused, LineWritten, list_limit};
 
 use crate::list::{EventList, Fault};
 use crate::reading::{ListErr, read_list};
@@ -41,8 +41,8 @@ pub fn plain_tool<S: Source, K: Sink>(
     ensures write_quiet { result ≢ ToolStatus.WriteFault → result ≢ ToolStatus.Trace → K.faults sink.new ≡ K.faults sink.old }
 
     // Too long is answered exactly where one byte above the limit was taken.
-    ensures too_long { result ≡ ToolStatus.TooLong → Took (S.left source.old) (S.left source.new) (LIST_LIMIT + 1) }
-    ensures within { result ≢ ToolStatus.TooLong → TookAtMost (S.left source.old) (S.left source.new) LIST_LIMIT }
+    ensures too_long { result ≡ ToolStatus.TooLong → Took (S.left source.old) (S.left source.new) (list_limit + 1) }
+    ensures within { result ≢ ToolStatus.TooLong → TookAtMost (S.left source.old) (S.left source.new) list_limit }
 
     // What was read to its end, and what was written of it.
     ensures ended { IsRead result → IfSome (S.left source.old) (λ _. S.left source.new ≡ Some []) }
@@ -62,7 +62,7 @@ pub fn plain_tool<S: Source, K: Sink>(
     ensures no_script { result ≢ ToolStatus.Script }
 
     // Right words, a valid input within the limit and no rise of either count give Done or want of memory.
-    ensures complete { IfSome (S.left source.old) (λ bytes. (text : List ℕ) → length bytes ≤ LIST_LIMIT
+    ensures complete { IfSome (S.left source.old) (λ bytes. (text : List ℕ) → length bytes ≤ list_limit
         → IsOutput (command_in (map string_bytes words.now)) bytes text
         → ¬ Rose (S.faults source.old) (S.faults source.new) → ¬ Rose (K.faults sink.old) (K.faults sink.new)
         → (result ≡ ToolStatus.Done) ⊎ (result ≡ ToolStatus.NoMemory)) }
