@@ -29,9 +29,9 @@ TookAtMost left_before left_after most = (n : ℕ) × (n ≤ most) × Took left_
 abbrev pub Appends : Option (List ℕ) → Option (List ℕ) → List ℕ → Type 0
 Appends written_before written_after bytes = IfSome written_before (λ written. written_after ≡ Some (written ++ bytes))
 
--- where it is told what was written, it has grown by a front part of these bytes
+-- where it is told what was written, it has grown by a front part of these bytes, and not by all of them
 abbrev pub AppendsPrefix : Option (List ℕ) → Option (List ℕ) → List ℕ → Type 0
-AppendsPrefix written_before written_after bytes = (n : ℕ) × (n ≤ length bytes) × Appends written_before written_after (take n bytes)
+AppendsPrefix written_before written_after bytes = (n : ℕ) × (n < length bytes) × Appends written_before written_after (take n bytes)
 
 -- what Ok(n) of a write says: the first n bytes of the piece were appended, and one at least of a piece that is not empty
 pub record Takes (written_before written_after : Option (List ℕ)) (piece : List ℕ) (n : ℕ) : Type 0 where

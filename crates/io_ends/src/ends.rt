@@ -1,5 +1,5 @@
 // The traits of a source and of a sink.
-ghost use Rattle.std.specs.Prelude.{◌≡◌, ◌≤◌, ℕ, List, Option, IfOk, OnErr};
+ghost use Rattle.std.specs.Prelude.{◌≡◌, ◌≤◌, ℕ, List, Option, IfOk, OnOk, OnErr};
 ghost use Rattle.io_ends.specs.Faults.{Rose};
 ghost use Rattle.io_ends.specs.Ends.{Gives, Takes};
 
@@ -20,9 +20,11 @@ pub trait Source {
 
     /// Puts the next bytes into the front of `buf`, and answers how many. For a `buf` that
     /// is not empty, 0 is the end of the input. After `Failed` nothing was taken, and the
-    /// content of `buf` is left open.
+    /// content of `buf` is left open. The count of faults rises with `Failed`, and else it
+    /// stays as it was.
     fn read(&mut self, buf: &mut [u8]) -> Result<usize, Failed>
         ensures given { IfOk result (Gives (left self.old) (left self.new) buf.old buf.new) }
+        ensures quiet { OnOk result (faults self.new ≡ faults self.old) }
         ensures failed { OnErr result (Rose (faults self.old) (faults self.new)) }
         ensures kept { OnErr result (left self.new ≡ left self.old) }
         ensures counted { faults self.old ≤ faults self.new };
@@ -37,9 +39,11 @@ pub trait Sink {
     ghost faults: { Self → ℕ };
 
     /// Appends the first bytes of `piece`, and answers how many: at least one, where `piece`
-    /// is not empty. After `Failed` nothing was appended.
+    /// is not empty. After `Failed` nothing was appended. The count of faults rises with
+    /// `Failed`, and else it stays as it was.
     fn write(&mut self, piece: &[u8]) -> Result<usize, Failed>
         ensures taken { IfOk result (Takes (written self.old) (written self.new) piece.now) }
+        ensures quiet { OnOk result (faults self.new ≡ faults self.old) }
         ensures failed { OnErr result (Rose (faults self.old) (faults self.new)) }
         ensures kept { OnErr result (written self.new ≡ written self.old) }
         ensures counted { faults self.old ≤ faults self.new };

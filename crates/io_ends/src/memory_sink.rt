@@ -1,5 +1,5 @@
 // A sink into memory.
-ghost use Rattle.std.specs.Prelude.{◌≡◌, ◌≤◌, ◌<◌, ◌-◌, ◌↔◌, ◌⊎◌, [], length, min, Some, IfOk, OnErr, IsErr, is_err, if◌then◌else◌};
+ghost use Rattle.std.specs.Prelude.{◌≡◌, ◌≤◌, ◌<◌, ◌-◌, ◌↔◌, ◌⊎◌, [], length, min, Some, IfOk, OnOk, OnErr, IsErr, is_err, if◌then◌else◌};
 ghost use Rattle.io_ends.specs.Faults.{Rose, one_more};
 ghost use Rattle.io_ends.specs.Ends.{Takes};
 ghost use Rattle.io_ends.specs.Memory.{SinkContent, NextFails};
@@ -57,6 +57,7 @@ impl Sink for MemSink {
 
     fn write(&mut self, piece: &[u8]) -> Result<usize, Failed>
         ensures taken { IfOk result (Takes (Some self.old.written) (Some self.new.written) piece.now) }
+        ensures quiet { OnOk result (self.new.faults ≡ self.old.faults) }
         ensures failed { OnErr result (Rose self.old.faults self.new.faults) }
         ensures kept { OnErr result (Some self.new.written ≡ Some self.old.written) }
         ensures counted { self.old.faults ≤ self.new.faults }

@@ -48,8 +48,9 @@ pub fn read_all<S: Source>(alloc: Global, source: &mut S, limit: usize) -> Resul
     ensures ended { OnOk result (IfSome (S.left source.old) (λ _. S.left source.new ≡ Some [])) }
     ensures within { IfOk result (λ all. vec_len all ≤ limit) }
 
-    // A fault has its cause, and `TooLong` is answered exactly where one byte above the limit was taken.
+    // A fault has its cause, and no fault goes untold. `TooLong` is answered exactly where one byte above the limit was taken.
     ensures fault { IsErrOf result ReadErr.ReadFault → Rose (S.faults source.old) (S.faults source.new) }
+    ensures quiet { ¬ IsErrOf result ReadErr.ReadFault → S.faults source.new ≡ S.faults source.old }
     ensures too_long { IsErrOf result ReadErr.TooLong → Took (S.left source.old) (S.left source.new) (limit + 1) }
     ensures fault_within { IsErrOf result ReadErr.ReadFault → TookAtMost (S.left source.old) (S.left source.new) limit }
     ensures memory_within { IsErrOf result ReadErr.Memory → TookAtMost (S.left source.old) (S.left source.new) limit }
@@ -98,6 +99,7 @@ fn read_behind<S: Source>(source: &mut S, buffer: &mut [u8], filled: usize) -> R
     requires { filled < length buffer.old }
     ensures front { take filled buffer.new ≡ take filled buffer.old }
     ensures given { IfOk result (Gives (S.left source.old) (S.left source.new) (drop filled buffer.old) (drop filled buffer.new)) }
+    ensures quiet { OnOk result (S.faults source.new ≡ S.faults source.old) }
     ensures failed { OnErr result (Rose (S.faults source.old) (S.faults source.new)) }
     ensures kept { OnErr result (S.left source.new ≡ S.left source.old) }
     ensures counted { S.faults source.old ≤ S.faults source.new }

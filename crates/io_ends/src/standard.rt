@@ -1,5 +1,5 @@
 // The standard streams as a source and a sink. They are the trusted edge: no contract says which bytes go through them.
-ghost use Rattle.std.specs.Prelude.{◌≡◌, ◌≤◌, None, IfOk, OnErr, is_err, if◌then◌else◌};
+ghost use Rattle.std.specs.Prelude.{◌≡◌, ◌≤◌, None, IfOk, OnOk, OnErr, is_err, if◌then◌else◌};
 ghost use Rattle.io_ends.specs.Faults.{Rose, one_more};
 ghost use Rattle.io_ends.specs.Ends.{Gives, Takes};
 
@@ -39,6 +39,7 @@ impl Source for StdinSource {
 
     fn read(&mut self, buf: &mut [u8]) -> Result<usize, Failed>
         ensures given { IfOk result (Gives None None buf.old buf.new) }
+        ensures quiet { OnOk result (self.new ≡ self.old) }
         ensures failed { OnErr result (Rose self.old self.new) }
         ensures counted { self.old ≤ self.new }
         ensures faults { self.new ≡ (if is_err result then one_more self.old else self.old) }
@@ -83,6 +84,7 @@ impl Sink for StdoutSink {
 
     fn write(&mut self, piece: &[u8]) -> Result<usize, Failed>
         ensures taken { IfOk result (Takes None None piece.now) }
+        ensures quiet { OnOk result (self.new ≡ self.old) }
         ensures failed { OnErr result (Rose self.old self.new) }
         ensures counted { self.old ≤ self.new }
         ensures faults { self.new ≡ (if is_err result then one_more self.old else self.old) }

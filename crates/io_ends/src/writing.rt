@@ -1,5 +1,5 @@
 // Writing the whole of some bytes.
-ghost use Rattle.std.specs.Prelude.{◌≤◌, OnOk, OnErr};
+ghost use Rattle.std.specs.Prelude.{◌≡◌, ◌≤◌, OnOk, OnErr};
 ghost use Rattle.io_ends.specs.Faults.{Rose};
 ghost use Rattle.io_ends.specs.Ends.{Appends, AppendsPrefix};
 
@@ -18,9 +18,10 @@ impl From<Failed> for WriteFault {
 }
 
 /// Writes all of `bytes`, in as many writes as the sink wants. It takes no memory. After an
-/// error a front part of `bytes` was written.
+/// error a front part of `bytes` was written, and not all of it.
 pub fn write_all<K: Sink>(sink: &mut K, bytes: &[u8]) -> Result<(), WriteFault>
     ensures whole { OnOk result (Appends (K.written sink.old) (K.written sink.new) bytes.now) }
+    ensures quiet { OnOk result (K.faults sink.new ≡ K.faults sink.old) }
     ensures fault { OnErr result (Rose (K.faults sink.old) (K.faults sink.new)) }
     ensures prefix { OnErr result (AppendsPrefix (K.written sink.old) (K.written sink.new) bytes.now) }
     ensures counted { K.faults sink.old ≤ K.faults sink.new }

@@ -7,6 +7,8 @@ pub mod ChangeSteps
 pub mod NewClaims
 pub mod Soundness
 pub mod Barred
+pub mod AtRest
+pub mod WriteSteps
 pub mod ChangesTold
 pub mod PlainSteps
 pub mod Stable

@@ -1,7 +1,7 @@
 -- Steps: which events are accepted, what an event does, and the state after a list of events.
-use Rattle.std.specs.Prelude.{◌≡◌, ℕ, ◌+◌, ◌^◌, ◌<◌, ◌==◌, Bool, not, ◌&&◌, ◌||◌, Option, Some, None, IsTrue, List, [], ◌∷◌, ◌++◌, map, filter, if◌then◌else◌}
+use Rattle.std.specs.Prelude.{◌≡◌, ℕ, ◌+◌, ◌^◌, ◌<◌, ◌==◌, nat_lt, Bool, not, ◌&&◌, ◌||◌, Option, Some, None, IsTrue, List, [], ◌∷◌, ◌++◌, map, filter, if◌then◌else◌}
 use Rattle.std.specs.List.{list_any, count_by}
-use Rattle.std.specs.FinSet.{empty, union}
+use Rattle.std.specs.FinSet.{empty, union, len}
 use Rattle.rset.specs.Sets.{Set, all_below}
 use Rattle.rclaim.specs.declared.claim.Claim.{Claim}
 use Rattle.rmodel.specs.declared.claimed.Claimed.{Claimed}
@@ -72,6 +72,10 @@ changed s (Issue seat r) = record s { issued = s.issued + 1; claims = s.claims +
 changed s (Finish seat) = record s { claims = filter (λ x. not (x.claim.seat == seat)) s.claims }
 changed s (Rise seat) = record s { claims = filter (λ x. not ((x.claim.seat == seat) && not x.claim.write_half)) s.claims }
 changed s (Ask seat part) = record s { claims = map (asking seat part) s.claims }
+
+-- some claim asks for something
+abbrev pub some_asks : List Claimed → Bool
+some_asks xs = list_any (λ x. nat_lt 0 (len x.asked)) xs
 
 -- some satisfied claim conflicts with c on this part
 abbrev pub is_kept_from : List Claimed → Claim → Set → Bool

@@ -1,11 +1,18 @@
 // What is asked for is granted, where it comes to a claim.
-ghost use Rattle.std.specs.Prelude.{◌≡◌, ◌<◌, length, slice_index_or, vec_capacity};
+ghost use Rattle.std.specs.Prelude.{◌≡◌, ◌<◌, length, slice_index_or};
 ghost use Rattle.rmodel.specs.declared.claimed.Claimed.{Claimed};
-ghost use Rattle.rmodel.specs.Steps.{is_kept_from, gets_asked, with_asked, given};
+ghost use Rattle.rmodel.specs.Steps.{some_asks, is_kept_from, gets_asked, with_asked, given};
 
 use crate::claimed::{Claimed, conflicts_on};
 use rclaim::Claim;
 use rset::ResourceSet;
+
+/// Whether some claim asks for something.
+pub(crate) fn some_asks(claims: &[Claimed]) -> bool
+    ensures { result ≡ some_asks claims.now }
+{
+    claims.iter().any(|x| x.asked.len() > 0)
+}
 
 /// Whether some satisfied claim conflicts with the claim on this part.
 fn is_kept_from(claims: &[Claimed], claim: &Claim, part: ResourceSet) -> bool
@@ -41,7 +48,7 @@ fn with_asked_at(claims: &[Claimed], i: usize) -> Claimed
 }
 
 /// Grants what is asked for, where it comes to a claim.
-fn give_all(claims: &mut [Claimed])
+pub(crate) fn give(claims: &mut [Claimed])
     ensures { claims.new ≡ given claims.old }
 {
     for i in 0..claims.len() {
@@ -49,13 +56,4 @@ fn give_all(claims: &mut [Claimed])
             claims[i] = with_asked_at(claims, i);
         }
     }
-}
-
-/// Grants what is asked for, where it comes to a claim of the list.
-pub(crate) fn give(claims: &mut Vec<Claimed>)
-    ensures items { claims.new.items ≡ given claims.old.items }
-    ensures len { length claims.new.items ≡ length claims.old.items }
-    ensures capacity { vec_capacity claims.new ≡ vec_capacity claims.old }
-{
-    give_all(claims);
 }

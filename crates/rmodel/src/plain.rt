@@ -8,13 +8,11 @@ ghost use Rattle.rmodel.specs.WellFormed.{IsSound};
 
 use crate::claimed::Claimed;
 use crate::claims::push_claims;
-use crate::give::give;
 use crate::list::{
-    ask, copy_into, has_request, holds_of, incomplete, is_not_holding, is_part_of, may_ask,
+    ask, has_request, holds_of, incomplete, is_not_holding, is_part_of, may_ask,
     may_rise, remove_read_half, remove_seat, status_in,
 };
 use crate::settle::settle;
-use crate::tell::tell_changes;
 use crate::{Granted, Machine, Refused};
 use rclaim::{Changes, Event, STATUS_ROOM, Status};
 use rexpand::Groups;
@@ -175,9 +173,6 @@ impl Plain {
         ensures statuses { self.new.last.statuses ≡ status_changes self.old.state.claims self.new.state.claims }
         ensures grants { self.new.last.grants ≡ grant_changes self.old.state.claims self.new.state.claims }
     {
-        copy_into(&mut self.before, &self.claims);
-        settle(&mut self.claims);
-        give(&mut self.claims);
-        tell_changes(&self.before, &self.claims, &mut self.changes);
+        settle(&mut self.claims, &mut self.before, &mut self.changes);
     }
 }

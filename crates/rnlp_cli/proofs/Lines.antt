@@ -8,7 +8,7 @@ use Rattle.rnlp_cli.specs.Records.{Row}
 use Rattle.rnlp_cli.specs.Text.{line, lines_of}
 
 -- one name more is one line more
-pub lines-more : (f : List ℕ → Row) (names : List (List ℕ)) (i : ℕ) (name : List ℕ) → slice_get names i ≡ Some name
+pub lines-more : {X : Type 0} (f : X → Row) (names : List X) (i : ℕ) (name : X) → slice_get names i ≡ Some name
     → lines_of (map f (take (i + 1) names)) ≡ lines_of (map f (take i names)) ++ line (f name)
 lines-more f names i name at =
     let within = slice_get_within names i name at in

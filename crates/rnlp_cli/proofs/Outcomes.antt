@@ -1,5 +1,5 @@
 -- How a command ended, from how its parts ended.
-use Rattle.std.proofs.Common.{◌≡◌, ℕ, ◌+◌, ◌≤◌, List, [], ◌∷◌, ◌++◌, map, append_assoc, length, Option, Some, None, refl, sym, ap, subst, ◌∙◌, arith, ◌⊎◌, inl, inr}
+use Rattle.std.proofs.Common.{◌≡◌, ℕ, ◌+◌, ◌≤◌, List, [], ◌∷◌, ◌++◌, map, length, Option, Some, None, refl, sym, ap, subst, ◌∙◌, arith, ◌⊎◌, inl, inr}
 use Rattle.std.proofs.lemmas.List.{drop_all}
 use Rattle.std.proofs.lemmas.Bool.{true≢false}
 use Rattle.std.specs.Prelude.{IfSome, is_none}
@@ -10,9 +10,9 @@ use Rattle.rnlp_cli.specs.Records.{Row, AreRowsOf}
 use Rattle.rnlp_cli.specs.Faults.{first_fault}
 use Rattle.std.proofs.lemmas.Grind.{flat_map-append}
 use Rattle.rnlp_cli.specs.Text.{line, lines_of}
-use Rattle.rnlp_cli.specs.Events.{opening_of}
-use Rattle.rnlp_cli.specs.Lists.{Listed, IsEventList, head_rows, end_row}
-use Rattle.rnlp_cli.specs.Report.{cap_row, ledger_row, history_rows, report_text, report_around, Keeps}
+use Rattle.rnlp_cli.specs.Heads.{opening_of}
+use Rattle.rnlp_cli.specs.Lists.{Listed, IsEventList, end_row}
+use Rattle.rnlp_cli.specs.Report.{ledger_row, history_rows, written_head, report_text, report_around, head_kept, Keeps}
 use Rattle.rnlp_cli.specs.declared.list.EventList.{EventList}
 use Rattle.rnlp_cli.specs.Tool.{IsOutput, IsWritten, IsAnswer, IsRefused}
 use Rattle.rnlp_cli.specs.declared.list.Fault.{Fault}
@@ -31,55 +31,48 @@ no_output bytes fault (rows, are, first) text (list, spelled, is) =
     true≢false (ap is_none (sym none ∙ first))
 
 -- the report of a list, from its parts
-around_is : (kept : EventList) (list : Listed) → Keeps kept list → report_around kept.resources kept.tasks kept.history.items ≡ report_text list
+around_is : (kept : EventList) (list : Listed) → Keeps kept list → report_around (head_kept kept) kept.history.items ≡ report_text list
 around_is kept list keeps =
-    (λ i. report_around (keeps.resources i) (keeps.tasks i) (keeps.history i))
-    ∙ ap (λ xs. lines_of (head ++ cap ∷ []) ++ xs) (sym (flat_map-append line history (ledgers ++ end_row ∷ [])))
-    ∙ sym (flat_map-append line (head ++ cap ∷ []) (history ++ (ledgers ++ end_row ∷ [])))
-    ∙ ap lines_of (append_assoc head (cap ∷ []) (history ++ (ledgers ++ end_row ∷ [])))
+    (λ i. report_around (keeps.head i) (keeps.history i))
+    ∙ ap (λ xs. lines_of (written_head list.head) ++ xs) (sym (flat_map-append line history (ledgers ++ end_row ∷ [])))
+    ∙ sym (flat_map-append line (written_head list.head) (history ++ (ledgers ++ end_row ∷ [])))
   where
-    head : List Row
-    head = head_rows list.resources list.tasks
-
-    cap : Row
-    cap = cap_row (length list.tasks)
-
     history : List Row
-    history = history_rows list.resources list.tasks (opening_of list.resources list.tasks) list.events
+    history = history_rows list.head (opening_of list.head) list.events
 
     ledgers : List Row
-    ledgers = map (λ name. ledger_row name 0 0) list.resources
+    ledgers = map (λ name. ledger_row name 0 0) list.head.resources
 
 -- the report of what was kept of the list that the bytes spell
-pub reported : (bytes : List ℕ) (kept : EventList) (before after : Option (List ℕ)) (failed same : Type 0) (s : ToolStatus)
+pub reported : (bytes : List ℕ) (kept : EventList) (before after : Option (List ℕ)) (quiet failed same : Type 0) (s : ToolStatus)
     → (list : Listed) × (rows : List Row) × AreRowsOf bytes rows × IsEventList rows list × Keeps kept list
-    → IsWritten (report_around kept.resources kept.tasks kept.history.items) before after failed same s → IsAnswer (Some Replay) bytes before after failed same s
-reported bytes kept before after failed same status.Done (list, rows, are, spelled, keeps) h =
-    (report_around kept.resources kept.tasks kept.history.items, (list, (rows, are, spelled), around_is kept list keeps), h)
-reported bytes kept before after failed same status.WriteFault (list, rows, are, spelled, keeps) h =
-    (h.0, report_around kept.resources kept.tasks kept.history.items, (list, (rows, are, spelled), around_is kept list keeps), h.1)
-reported bytes kept before after failed same status.NoMemory found h = h
-reported bytes kept before after failed same status.Trace found h = absurd h
-reported bytes kept before after failed same status.Words found h = absurd h
-reported bytes kept before after failed same status.ReadFault found h = absurd h
-reported bytes kept before after failed same status.Script found h = absurd h
-reported bytes kept before after failed same status.TooLong found h = absurd h
+    → IsWritten (report_around (head_kept kept) kept.history.items) before after quiet failed same s → IsAnswer (Some Replay) bytes before after quiet failed same s
+reported bytes kept before after quiet failed same status.Done (list, rows, are, spelled, keeps) h =
+    (h.0, report_around (head_kept kept) kept.history.items, (list, (rows, are, spelled), around_is kept list keeps), h.1)
+reported bytes kept before after quiet failed same status.WriteFault (list, rows, are, spelled, keeps) h =
+    (h.0, report_around (head_kept kept) kept.history.items, (list, (rows, are, spelled), around_is kept list keeps), h.1)
+reported bytes kept before after quiet failed same status.NoMemory found h = h
+reported bytes kept before after quiet failed same status.Trace found h = absurd h
+reported bytes kept before after quiet failed same status.Words found h = absurd h
+reported bytes kept before after quiet failed same status.ReadFault found h = absurd h
+reported bytes kept before after quiet failed same status.Script found h = absurd h
+reported bytes kept before after quiet failed same status.TooLong found h = absurd h
 
-pub refused : (bytes : List ℕ) (fault : Fault) (before after : Option (List ℕ)) (failed same : Type 0) (s : ToolStatus) → IsRefused fault before after failed same s
-    → (rows : List Row) × AreRowsOf bytes rows × (first_fault rows ≡ Some fault) → IsAnswer (Some Replay) bytes before after failed same s
-refused bytes fault before after failed same status.Trace h found = (no_output bytes fault found, fault, found, h)
-refused bytes fault before after failed same status.NoMemory h found = h
-refused bytes fault before after failed same status.Done h found = absurd h
-refused bytes fault before after failed same status.WriteFault h found = absurd h
-refused bytes fault before after failed same status.Words h found = absurd h
-refused bytes fault before after failed same status.ReadFault h found = absurd h
-refused bytes fault before after failed same status.Script h found = absurd h
-refused bytes fault before after failed same status.TooLong h found = absurd h
+pub refused : (bytes : List ℕ) (fault : Fault) (before after : Option (List ℕ)) (quiet failed same : Type 0) (s : ToolStatus) → IsRefused fault before after quiet failed same s
+    → (rows : List Row) × AreRowsOf bytes rows × (first_fault rows ≡ Some fault) → IsAnswer (Some Replay) bytes before after quiet failed same s
+refused bytes fault before after quiet failed same status.Trace h found = (no_output bytes fault found, fault, found, h)
+refused bytes fault before after quiet failed same status.NoMemory h found = h
+refused bytes fault before after quiet failed same status.Done h found = absurd h
+refused bytes fault before after quiet failed same status.WriteFault h found = absurd h
+refused bytes fault before after quiet failed same status.Words h found = absurd h
+refused bytes fault before after quiet failed same status.ReadFault h found = absurd h
+refused bytes fault before after quiet failed same status.Script h found = absurd h
+refused bytes fault before after quiet failed same status.TooLong h found = absurd h
 
 -- a command is the one that there is
-pub of_command : (command : Command) (bytes : List ℕ) (before after : Option (List ℕ)) (failed same : Type 0) (s : ToolStatus) → IsAnswer (Some Replay) bytes before after failed same s
-    → IsAnswer (Some command) bytes before after failed same s
-of_command Replay bytes before after failed same s h = h
+pub of_command : (command : Command) (bytes : List ℕ) (before after : Option (List ℕ)) (quiet failed same : Type 0) (s : ToolStatus) → IsAnswer (Some Replay) bytes before after quiet failed same s
+    → IsAnswer (Some command) bytes before after quiet failed same s
+of_command Replay bytes before after quiet failed same s h = h
 
 -- a source that was read to its end gave no more than the limit
 pub took_all : (left later : Option (List ℕ)) (all : List ℕ) (limit : ℕ) → IfSome left (λ bytes. all ≡ bytes) → IfSome left (λ _. later ≡ Some []) → length all ≤ limit → TookAtMost left later limit
@@ -89,25 +82,25 @@ took_all (Some bytes) later all limit whole ended within =
     (length bytes, omega arith, (omega arith, ended ∙ ap Some (sym (drop_all (length bytes) bytes (omega arith)))))
 
 -- with no fault, a valid input is answered by its output, or want of memory
-pub completed : (command : Option Command) (bytes text : List ℕ) (before after : Option (List ℕ)) (failed same : Type 0) (s : ToolStatus) → IsAnswer command bytes before after failed same s
+pub completed : (command : Option Command) (bytes text : List ℕ) (before after : Option (List ℕ)) (quiet failed same : Type 0) (s : ToolStatus) → IsAnswer command bytes before after quiet failed same s
     → IsOutput command bytes text → ¬ failed → (s ≡ status.Done) ⊎ (s ≡ status.NoMemory)
-completed command bytes text before after failed same status.Done h out fine = inl refl
-completed command bytes text before after failed same status.NoMemory h out fine = inr refl
-completed command bytes text before after failed same status.WriteFault h out fine = absurd (fine h.0)
-completed command bytes text before after failed same status.Trace h out fine = absurd (h.0 text out)
-completed command bytes text before after failed same status.Words h out fine = absurd h
-completed command bytes text before after failed same status.ReadFault h out fine = absurd h
-completed command bytes text before after failed same status.Script h out fine = absurd h
-completed command bytes text before after failed same status.TooLong h out fine = absurd h
+completed command bytes text before after quiet failed same status.Done h out fine = inl refl
+completed command bytes text before after quiet failed same status.NoMemory h out fine = inr refl
+completed command bytes text before after quiet failed same status.WriteFault h out fine = absurd (fine h.0)
+completed command bytes text before after quiet failed same status.Trace h out fine = absurd (h.0 text out)
+completed command bytes text before after quiet failed same status.Words h out fine = absurd h
+completed command bytes text before after quiet failed same status.ReadFault h out fine = absurd h
+completed command bytes text before after quiet failed same status.Script h out fine = absurd h
+completed command bytes text before after quiet failed same status.TooLong h out fine = absurd h
 
 -- the same, where the input is what the source had left
-pub completed_told : (left : Option (List ℕ)) (limit : ℕ) (named command : Option Command) (all now : List ℕ) (before after : Option (List ℕ)) (calm failed same : Type 0) (s : ToolStatus)
-    → named ≡ command → now ≡ all → IfSome left (λ bytes. all ≡ bytes) → IsAnswer command now before after failed same s
+pub completed_told : (left : Option (List ℕ)) (limit : ℕ) (named command : Option Command) (all now : List ℕ) (before after : Option (List ℕ)) (calm quiet failed same : Type 0) (s : ToolStatus)
+    → named ≡ command → now ≡ all → IfSome left (λ bytes. all ≡ bytes) → IsAnswer command now before after quiet failed same s
     → IfSome left (λ bytes. (text : List ℕ) → length bytes ≤ limit → IsOutput named bytes text → calm → ¬ failed → (s ≡ status.Done) ⊎ (s ≡ status.NoMemory))
-completed_told None limit named command all now before after calm failed same s is same_bytes whole h = tt
-completed_told (Some bytes) limit named command all now before after calm failed same s is same_bytes whole h =
-    λ text within out _ fine. completed command bytes text before after failed same s
-    (subst (λ xs. IsAnswer command xs before after failed same s) (same_bytes ∙ whole) h)
+completed_told None limit named command all now before after calm quiet failed same s is same_bytes whole h = tt
+completed_told (Some bytes) limit named command all now before after calm quiet failed same s is same_bytes whole h =
+    λ text within out _ fine. completed command bytes text before after quiet failed same s
+    (subst (λ xs. IsAnswer command xs before after quiet failed same s) (same_bytes ∙ whole) h)
     (subst (λ n. IsOutput n bytes text) is out) fine
 
 -- an input of which one byte above the limit was taken is not within it

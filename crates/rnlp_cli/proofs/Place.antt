@@ -1,5 +1,5 @@
 -- Where the reader of a list is in its text, and what one read more says.
-use Rattle.std.proofs.Common.{◌≡◌, ℕ, ◌+◌, ◌^◌, ◌<◌, Bor, true, false, cond, List, [], ◌∷◌, ◌++◌, length, Option, Some, None, refl, sym, ap, subst, ◌∙◌, arith, append_assoc, length-append}
+use Rattle.std.proofs.Common.{◌≡◌, ℕ, ◌+◌, ◌^◌, ◌<◌, Bor, ◌≤◌, true, false, cond, List, [], ◌∷◌, ◌++◌, length, Option, Some, None, refl, sym, ap, subst, ◌∙◌, arith, append_assoc, length-append}
 use Rattle.std.proofs.lemmas.Bool.{true≢false}
 use Rattle.std.proofs.lemmas.List.{append-nil}
 use Rattle.std.specs.Prelude.{Result, Ok, Err, IfOk}
@@ -12,13 +12,13 @@ use Rattle.csv.specs.declared.parser.State.TheVariants as st
 use Rattle.csv.specs.declared.reader.Trim.TheVariants as trim
 use Rattle.csv.proofs.ReadFacts.{rows-more, rows-end}
 use Rattle.rnlp_cli.specs.Records.{Row, AreRowsOf}
-use Rattle.rnlp_cli.specs.Faults.{first_fault, fault_from, code_of, told_first, has_word, is_end, resources_in, tasks_in, state_after}
+use Rattle.rnlp_cli.specs.Faults.{first_fault, fault_from, code_of, told_first, has_word, is_end, head_in, state_after, first_cap, names_in, is_cap}
 use Rattle.rnlp_cli.specs.Lists.{Listed, IsEventList}
-use Rattle.rnlp_cli.specs.Report.{Keeps}
-use Rattle.rnlp_cli.specs.Reading.{HasRead, list_in, IsReady, error_at}
+use Rattle.rnlp_cli.specs.Report.{Keeps, head_kept}
+use Rattle.rnlp_cli.specs.Reading.{HasRead, head_of, list_in, IsReady, error_at}
 use Rattle.rnlp_cli.specs.declared.list.EventList.{EventList}
 use Rattle.rnlp_cli.specs.declared.reading.RowErr.{RowErr}
-use Rattle.rnlp_cli.specs.declared.reading.RowErr.TheVariants as row
+use Rattle.rnlp_cli.specs.declared.reading.RowErr.TheVariants as why
 use Rattle.rnlp_cli.specs.declared.reading.ListErr.{ListErr}
 use Rattle.rnlp_cli.specs.declared.reading.ListErr.TheVariants as list
 use Rattle.rnlp_cli.specs.declared.list.Code.{Code}
@@ -26,8 +26,14 @@ use Rattle.rnlp_cli.specs.declared.list.Code.TheVariants.{NoEnd}
 use Rattle.rnlp_cli.specs.declared.list.Fault.{Fault}
 use Rattle.rnlp_cli.specs.declared.reading.Reading.{Reading}
 use Rattle.rnlp_cli.proofs.Grammar.{passed, spells, spelled_list, events_in-few}
-use Rattle.rnlp_cli.specs.Events.{events_in, opening_of}
-use Rattle.rnlp_cli.proofs.Spelled.{after-resources, after-seats, after-issued}
+use Rattle.std.specs.Prelude.{IfSome, option_and_then, nat_le, ◌&&◌, Bool}
+use Rattle.rset.specs.declared.TheConstants.{SEATS}
+use Rattle.std.proofs.lemmas.Bool.Decides.{nat_tests}
+use Rattle.rnlp_cli.specs.Fields.{cap_within, cap_told, number_told}
+use Rattle.rnlp_cli.specs.Heads.{opening_of}
+use Rattle.rnlp_cli.specs.Events.{events_in}
+use Rattle.rnlp_cli.proofs.Readings.{read-head, groups_over, groups_known}
+use Rattle.rnlp_cli.proofs.Spelled.{after-groups, after-seats, after-issued}
 use Rattle.rnlp_cli.proofs.Rows.{rows_around}
 
 -- the bytes of a slice that a reader has left
@@ -109,17 +115,37 @@ no_end bytes reader was line before left h none =
     ∙ ap (λ b. cond b None (Some (record { line = length before + 1; code = NoEnd }))) none
     ∙ ap (λ n. Some (record { line = n; code = NoEnd })) h.counted
 
+-- a cap that is told is one
+within : (o : Option ℕ) → IfSome (option_and_then cap_within o) (λ cap. (1 ≤ cap) × (cap ≤ SEATS))
+within None = tt
+within (Some n) = at (nat_le 1 n) (nat_le n SEATS) refl refl
+  where
+    at : (a b : Bool) → nat_le 1 n ≡ a → nat_le n SEATS ≡ b → IfSome (cond (a && b) (Some n) None) (λ cap. (1 ≤ cap) × (cap ≤ SEATS))
+    at true true p q = (grind (arith, nat_tests), grind (arith, nat_tests))
+    at true false p q = tt
+    at false b p q = tt
+
+first_within : (fields : List (List ℕ)) → IfSome (first_cap fields) (λ cap. (1 ≤ cap) × (cap ≤ SEATS))
+unfolding cap_told
+first_within [] = tt
+first_within (field ∷ fields) = within (number_told field)
+
 -- a reader that has read not too many records is ready for the next
 pub ready : (before : List Row) (reading : Reading) → HasRead before reading → length before < 2 ^ 62 → IsReady reading
 ready before reading h few =
-    let rs = resources_in before in
-    let ts = tasks_in before in
-    let issued = after-issued (opening_of rs ts) (events_in rs ts before) in
-    let many = events_in-few rs ts before in
+    let head = head_in before in
+    let issued = after-issued (opening_of head) (events_in head before) in
+    let many = events_in-few head before in
     let stamps : (state_after before).issued < 2 ^ 63 = omega arith in
     record {
-      over = ap (λ s. s.resources) h.state ∙ after-resources (opening_of rs ts) (events_in rs ts before) ∙ ap length (sym h.resources);
-      seats = ap (λ s. s.seats) h.state ∙ after-seats (opening_of rs ts) (events_in rs ts before) ∙ ap length (sym h.tasks);
+      grouped = groups_over before (length reading.resources) reading.groups h.groups (ap length h.resources) ∙ ap length (sym h.resources);
+      cap = subst (λ o. IfSome o (λ cap. (1 ≤ cap) × (cap ≤ SEATS))) (sym h.cap) (first_within (names_in is_cap before));
+      over = ap (λ s. s.groups) h.state ∙ after-groups (opening_of head) (events_in head before)
+          ∙ (λ i. record {
+            q = sym (groups_over before (length reading.resources) reading.groups h.groups (ap length h.resources)) i;
+            groups = sym (groups_known before (length reading.resources) reading.groups h.groups) i;
+          });
+      seats = ap (λ s. s.seats) h.state ∙ after-seats (opening_of head) (events_in head before) ∙ ap length (sym h.tasks);
       stamps = subst (λ n. n < 2 ^ 63) (ap (λ s. s.issued) (sym h.state)) stamps;
     }
 
@@ -132,20 +158,20 @@ whole bytes reader was line before left h few ended =
     ap first_fault (sym (append-nil before)) ∙ h.free [] ∙ ap (λ b. cond b None (Some (record { line = length before + 1; code = NoEnd }))) ended in
     let list = spells before (omega arith) none in
     let said = spelled_list before list.0 list.1 in
-    let events : list.0.events ≡ events_in (resources_in before) (tasks_in before) before = sym ((λ i. events_in (said.0 i) (said.1 i) before) ∙ said.2) in
-    subst (IsEventList before) (λ i. record { resources = sym said.0 i; tasks = sym said.1 i; events = events i }) list.1
+    let events : list.0.events ≡ events_in (head_in before) before = sym (ap (λ head. events_in head before) said.0 ∙ said.1) in
+    subst (IsEventList before) (λ i. record { head = sym said.0 i; events = events i }) list.1
 
 -- what `read_list` says at `Ok`, from what the reader's end says there
 pub list_ok : (r : Result EventList ListErr) (bytes : List ℕ) (reading : Reading) (before : List Row) → AreRowsOf bytes before → HasRead before reading
     → (has_word is_end before ≡ true → IsEventList before (list_in before))
-    → IfOk r (λ kept. (reading.ended ≡ true) × (kept.resources ≡ reading.resources) × (kept.tasks ≡ reading.tasks) × (kept.history.items ≡ reading.history.items))
+    → IfOk r (λ kept. (reading.ended ≡ true) × (head_kept kept ≡ head_of reading) × (kept.history.items ≡ reading.history.items))
     → IfOk r (λ kept. (list : Listed) × (rows : List Row) × AreRowsOf bytes rows × IsEventList rows list × Keeps kept list)
 list_ok (Ok kept) bytes reading before rows read spelled h = (
   list_in before,
   before,
   rows,
   spelled (sym read.ended ∙ h.0),
-  record { resources = h.1 ∙ read.resources; tasks = h.2 ∙ read.tasks; history = h.3 ∙ read.history },
+  record { head = h.1 ∙ read-head before reading read; history = h.2 ∙ read.history },
 )
 list_ok (Err e) bytes reading before rows read spelled h = tt
 
@@ -153,9 +179,9 @@ pub err_is : {T E : Type 0} {x y : E} → ◌≡◌ {A = Result T E} (Err x) (Er
 err_is {T} {E} {x} {y} e = cc
 
 -- the fault that a record's error makes is at its line and has its code
-pub bad_at : (line : ℕ) (e : RowErr) (fault : Fault) → error_at line e ≡ list.Bad fault → (code : Code) × (e ≡ row.Bad code) × (fault ≡ record { line = line; code = code })
-bad_at line (row.Bad code) fault h = (code, refl, cc)
-bad_at line row.Memory fault h = cc
+pub bad_at : (line : ℕ) (e : RowErr) (fault : Fault) → error_at line e ≡ list.Bad fault → (code : Code) × (e ≡ why.Bad code) × (fault ≡ record { line = line; code = code })
+bad_at line (why.Bad code) fault h = (code, refl, cc)
+bad_at line why.Memory fault h = cc
 
 -- the lines are not too many
 pub few_before : (bytes : List ℕ) (reader : Reader (Bor (List ℕ))) (was : Reading) (line : ℕ) (before : List Row) (left : List ℕ) → IsAt bytes reader was line before left → line < 2 ^ 62 → length before < 2 ^ 62

@@ -1,23 +1,23 @@
 -- A record by the number of its fields.
 use Rattle.std.proofs.Common.{◌≡◌, [], ◌∷◌, length, refl, arith}
 use Rattle.csv.specs.Records.{field_at}
-use Rattle.rnlp_cli.specs.Records.{Row, word_of, word_alone, word_with, word_of_five, field_of, second_of}
+use Rattle.rnlp_cli.specs.Records.{Row, word_of, word_alone, word_with, word_of_five, word_of_six, field_of, second_of}
 use Rattle.rnlp_cli.specs.declared.record.Word.TheVariants.{Unknown}
 
-pub one-field : (row : Row) → length row ≡ 1 → word_alone (field_of row 0) ≡ word_of row
+pub one-field : (fields : Row) → length fields ≡ 1 → word_alone (field_of fields 0) ≡ word_of fields
 unfolding word_of field_at
 one-field [] h = absurd (omega (arith, h))
 one-field (a ∷ []) h = refl
 one-field (a ∷ b ∷ fields) h = absurd (omega (arith, h))
 
-pub two-fields : (row : Row) → length row ≡ 2 → word_with (field_of row 0) (field_of row 1) ≡ word_of row
+pub two-fields : (fields : Row) → length fields ≡ 2 → word_with (field_of fields 0) (field_of fields 1) ≡ word_of fields
 unfolding word_of field_at
 two-fields [] h = absurd (omega (arith, h))
 two-fields (a ∷ []) h = absurd (omega (arith, h))
 two-fields (a ∷ b ∷ []) h = refl
 two-fields (a ∷ b ∷ c ∷ fields) h = absurd (omega (arith, h))
 
-pub five-fields : (row : Row) → length row ≡ 5 → word_of_five (field_of row 0) (field_of row 2) ≡ word_of row
+pub five-fields : (fields : Row) → length fields ≡ 5 → word_of_five (field_of fields 0) (field_of fields 2) ≡ word_of fields
 unfolding word_of field_at
 five-fields [] h = absurd (omega (arith, h))
 five-fields (a ∷ []) h = absurd (omega (arith, h))
@@ -27,18 +27,30 @@ five-fields (a ∷ b ∷ c ∷ d ∷ []) h = absurd (omega (arith, h))
 five-fields (a ∷ b ∷ c ∷ d ∷ e ∷ []) h = refl
 five-fields (a ∷ b ∷ c ∷ d ∷ e ∷ f ∷ fields) h = absurd (omega (arith, h))
 
--- any other number of fields is no record
-pub other-fields : (row : Row) → (length row ≡ 1 → ⊥) → (length row ≡ 2 → ⊥) → (length row ≡ 5 → ⊥) → Unknown ≡ word_of row
-unfolding word_of
-other-fields [] one two five = refl
-other-fields (a ∷ []) one two five = absurd (one refl)
-other-fields (a ∷ b ∷ []) one two five = absurd (two refl)
-other-fields (a ∷ b ∷ c ∷ []) one two five = refl
-other-fields (a ∷ b ∷ c ∷ d ∷ []) one two five = refl
-other-fields (a ∷ b ∷ c ∷ d ∷ e ∷ []) one two five = absurd (five refl)
-other-fields (a ∷ b ∷ c ∷ d ∷ e ∷ f ∷ fields) one two five = refl
+pub six-fields : (fields : Row) → length fields ≡ 6 → word_of_six (field_of fields 0) (field_of fields 2) ≡ word_of fields
+unfolding word_of field_at
+six-fields [] h = absurd (omega (arith, h))
+six-fields (a ∷ []) h = absurd (omega (arith, h))
+six-fields (a ∷ b ∷ []) h = absurd (omega (arith, h))
+six-fields (a ∷ b ∷ c ∷ []) h = absurd (omega (arith, h))
+six-fields (a ∷ b ∷ c ∷ d ∷ []) h = absurd (omega (arith, h))
+six-fields (a ∷ b ∷ c ∷ d ∷ e ∷ []) h = absurd (omega (arith, h))
+six-fields (a ∷ b ∷ c ∷ d ∷ e ∷ f ∷ []) h = refl
+six-fields (a ∷ b ∷ c ∷ d ∷ e ∷ f ∷ g ∷ fields) h = absurd (omega (arith, h))
 
-pub second-field : (row : Row) → field_of row 1 ≡ second_of row
+-- any other number of fields is no record
+pub other-fields : (fields : Row) → (length fields ≡ 1 → ⊥) → (length fields ≡ 2 → ⊥) → (length fields ≡ 5 → ⊥) → (length fields ≡ 6 → ⊥) → Unknown ≡ word_of fields
+unfolding word_of
+other-fields [] one two five six = refl
+other-fields (a ∷ []) one two five six = absurd (one refl)
+other-fields (a ∷ b ∷ []) one two five six = absurd (two refl)
+other-fields (a ∷ b ∷ c ∷ []) one two five six = refl
+other-fields (a ∷ b ∷ c ∷ d ∷ []) one two five six = refl
+other-fields (a ∷ b ∷ c ∷ d ∷ e ∷ []) one two five six = absurd (five refl)
+other-fields (a ∷ b ∷ c ∷ d ∷ e ∷ f ∷ []) one two five six = absurd (six refl)
+other-fields (a ∷ b ∷ c ∷ d ∷ e ∷ f ∷ g ∷ fields) one two five six = refl
+
+pub second-field : (fields : Row) → field_of fields 1 ≡ second_of fields
 unfolding field_at
 second-field [] = refl
 second-field (a ∷ []) = refl

@@ -10,11 +10,12 @@ use Rattle.std.specs.Ordering.{nat_cmp}
 use Rattle.rset.specs.Sets.{Set, all_below}
 use Rattle.rset.specs.Names.{number_in}
 use Rattle.rset.proofs.NameLemmas.{number_below}
-use Rattle.rset.proofs.SetsBelow.{all_below_empty, all_below_insert}
+use Rattle.rset.proofs.SetLemmas.{all_below_empty, all_below_insert, all_below_difference, difference_apart}
+use Rattle.rexpand.specs.Groups.{ReadGroups}
 use Rattle.rclaim.specs.Requests.{RequestFields, normalised, asked_set, FitsKind, IsNormal}
 use Rattle.rclaim.specs.declared.TheConstants.{LENGTH_LIMIT}
 use Rattle.rclaim.specs.declared.request.Kind.{Kind}
-use Rattle.rclaim.specs.declared.request.Kind.TheVariants.{Read, Write}
+use Rattle.rclaim.specs.declared.request.Kind.TheVariants.{Read, Write, Mixed}
 use Rattle.rclaim.specs.declared.request.RequestErr.{RequestErr}
 use Rattle.rclaim.specs.declared.request.RequestErr.TheVariants.{EmptyRequest, Undeclared}
 use Rattle.rclaim.specs.declared.event.Event.{Event}
@@ -24,10 +25,11 @@ use Rattle.rmodel.specs.State.{LockState}
 use Rattle.rmodel.specs.Steps.{refusal, after, next, Comes, AreAccepted}
 use Rattle.rnlp_cli.specs.Records.{Row, second_of, field_of}
 use Rattle.rnlp_cli.specs.Fields.{number_told, length_in, gather, set_in}
-use Rattle.rnlp_cli.specs.Events.{issue_in, event_by, request_refusal, refusal_by, refusal_in}
-use Rattle.rnlp_cli.specs.Faults.{is_event, is_bad_field, is_unknown, resources_in, tasks_in}
+use Rattle.rnlp_cli.specs.Heads.{Head, read_groups}
+use Rattle.rnlp_cli.specs.Events.{sets_in, length_field, issue_in, event_by, request_refusal, refusal_by, refusal_in}
+use Rattle.rnlp_cli.specs.Faults.{is_event, is_bad_field, is_unknown, resources_in, tasks_in, head_in}
 use Rattle.rnlp_cli.specs.declared.record.Word.{Word}
-use Rattle.rnlp_cli.specs.declared.record.Word.TheVariants.{Version, Resource, Task, Issue, Finish, End, Unknown}
+use Rattle.rnlp_cli.specs.declared.record.Word.TheVariants.{Version, Resource, Group, Task, Cap, Issue, Finish, End, Unknown}
 use Rattle.rnlp_cli.specs.declared.list.Refusal.TheVariants.{Step}
 
 some_is : {X : Type 0} {x y : X} → Some x ≡ Some y → x ≡ y
@@ -51,74 +53,80 @@ is_there (Some x) h = (x, refl)
 
 -- ---- what a record that spells an event has in its fields
 
-pub record IssueSpelled (resources tasks : List (List ℕ)) (kind : Kind) (row : Row) (e : Event) : Type 0 where
+pub record IssueSpelled (head : Head) (kind : Kind) (fields : Row) (e : Event) : Type 0 where
   pub seat : ℕ
-  pub set : Set
+  pub sets : Set × Set
   pub len : ℕ
-  pub task : number_in tasks (second_of row) ≡ Some seat
-  pub names : set_in resources (field_of row 3) ≡ Some set
-  pub length : length_in (field_of row 4) ≡ Some len
-  pub is : e ≡ event.Issue seat (normalised kind set set len)
+  pub task : number_in head.tasks (second_of fields) ≡ Some seat
+  pub names : sets_in head.resources kind fields ≡ Some sets
+  pub length : length_in (length_field kind fields) ≡ Some len
+  pub is : e ≡ event.Issue seat (normalised kind sets.0 sets.1 len)
 
-pub issue_spelled : (resources tasks : List (List ℕ)) (kind : Kind) (row : Row) (e : Event) → issue_in resources tasks kind row ≡ Some e → IssueSpelled resources tasks kind row e
-issue_spelled resources tasks kind row e h =
-    let a = and_then_some _ (number_in tasks (second_of row)) e h in
-    let b = and_then_some _ (set_in resources (field_of row 3)) e a.2 in
-    let c = map_some _ (length_in (field_of row 4)) e b.2 in
-    record { seat = a.0; set = b.0; len = c.0; task = a.1; names = b.1; length = c.1; is = sym c.2 }
+pub issue_spelled : (head : Head) (kind : Kind) (fields : Row) (e : Event) → issue_in head kind fields ≡ Some e → IssueSpelled head kind fields e
+issue_spelled head kind fields e h =
+    let a = and_then_some _ (number_in head.tasks (second_of fields)) e h in
+    let b = and_then_some _ (sets_in head.resources kind fields) e a.2 in
+    let c = map_some _ (length_in (length_field kind fields)) e b.2 in
+    record { seat = a.0; sets = b.0; len = c.0; task = a.1; names = b.1; length = c.1; is = sym c.2 }
 
 -- an event stands in a record of an event alone
-pub spells_event : (resources tasks : List (List ℕ)) (row : Row) (w : Word) (e : Event) → event_by resources tasks row w ≡ Some e → is_event w ≡ true
-spells_event resources tasks row (Issue kind) e h = refl
-spells_event resources tasks row Finish e h = refl
-spells_event resources tasks row Version e h = absurd (some_none h)
-spells_event resources tasks row Resource e h = absurd (some_none h)
-spells_event resources tasks row Task e h = absurd (some_none h)
-spells_event resources tasks row End e h = absurd (some_none h)
-spells_event resources tasks row Unknown e h = absurd (some_none h)
+pub spells_event : (head : Head) (fields : Row) (w : Word) (e : Event) → event_by head fields w ≡ Some e → is_event w ≡ true
+spells_event head fields (Issue kind) e h = refl
+spells_event head fields Finish e h = refl
+spells_event head fields Version e h = absurd (some_none h)
+spells_event head fields Resource e h = absurd (some_none h)
+spells_event head fields Group e h = absurd (some_none h)
+spells_event head fields Task e h = absurd (some_none h)
+spells_event head fields Cap e h = absurd (some_none h)
+spells_event head fields End e h = absurd (some_none h)
+spells_event head fields Unknown e h = absurd (some_none h)
 
 or_false : (a b : Bool) → a ≡ false → b ≡ false → (a || b) ≡ false
 or_false a b p q = rw (p, q) refl
 
 -- its fields are right and its names known
-pub spelled_right : (before : List Row) (row : Row) (w : Word) (e : Event) → event_by (resources_in before) (tasks_in before) row w ≡ Some e
-    → (is_bad_field before row w ≡ false) × (is_unknown before row w ≡ false)
-spelled_right before row (Issue kind) e h =
-    let s = issue_spelled (resources_in before) (tasks_in before) kind row e h in
+pub spelled_right : (before : List Row) (fields : Row) (w : Word) (e : Event) → event_by (head_in before) fields w ≡ Some e
+    → (is_bad_field before fields w ≡ false) × (is_unknown before fields w ≡ false)
+spelled_right before fields (Issue kind) e h =
+    let s = issue_spelled (head_in before) kind fields e h in
     (ap is_none s.length, or_false _ _ (ap is_none s.task) (ap is_none s.names))
-spelled_right before row Finish e h = let s = map_some event.Finish (number_in (tasks_in before) (second_of row)) e h in (refl, ap is_none s.1)
-spelled_right before row Version e h = absurd (some_none h)
-spelled_right before row Resource e h = absurd (some_none h)
-spelled_right before row Task e h = absurd (some_none h)
-spelled_right before row End e h = absurd (some_none h)
-spelled_right before row Unknown e h = absurd (some_none h)
+spelled_right before fields Finish e h = let s = map_some event.Finish (number_in (tasks_in before) (second_of fields)) e h in (refl, ap is_none s.1)
+spelled_right before fields Version e h = absurd (some_none h)
+spelled_right before fields Resource e h = absurd (some_none h)
+spelled_right before fields Group e h = absurd (some_none h)
+spelled_right before fields Task e h = absurd (some_none h)
+spelled_right before fields Cap e h = absurd (some_none h)
+spelled_right before fields End e h = absurd (some_none h)
+spelled_right before fields Unknown e h = absurd (some_none h)
 
 neither_of : (a b : Bool) → (a || b) ≡ false → (a ≡ false) × (b ≡ false)
 neither_of true b h = absurd (true≢false h)
 neither_of false b h = (refl, h)
 
-pub issue_made : (resources tasks : List (List ℕ)) (kind : Kind) (row : Row) (seat : ℕ) (set : Set) (len : ℕ) → number_in tasks (second_of row) ≡ Some seat
-    → set_in resources (field_of row 3) ≡ Some set → length_in (field_of row 4) ≡ Some len → issue_in resources tasks kind row ≡ Some (event.Issue seat (normalised kind set set len))
-issue_made resources tasks kind row seat set len a b c = rw (a, b, c) refl
+pub issue_made : (head : Head) (kind : Kind) (fields : Row) (seat : ℕ) (sets : Set × Set) (len : ℕ) → number_in head.tasks (second_of fields) ≡ Some seat
+    → sets_in head.resources kind fields ≡ Some sets → length_in (length_field kind fields) ≡ Some len → issue_in head kind fields ≡ Some (event.Issue seat (normalised kind sets.0 sets.1 len))
+issue_made head kind fields seat sets len a b c = rw (a, b, c) refl
 
-pub finish_made : (tasks : List (List ℕ)) (row : Row) (seat : ℕ) → number_in tasks (second_of row) ≡ Some seat → option_map event.Finish (number_in tasks (second_of row)) ≡ Some (event.Finish seat)
-finish_made tasks row seat a = rw a refl
+pub finish_made : (tasks : List (List ℕ)) (fields : Row) (seat : ℕ) → number_in tasks (second_of fields) ≡ Some seat → option_map event.Finish (number_in tasks (second_of fields)) ≡ Some (event.Finish seat)
+finish_made tasks fields seat a = rw a refl
 
 -- a record of an event whose fields are right and whose names are known spells one
-pub right_spells : (before : List Row) (row : Row) (w : Word) → is_event w ≡ true → is_bad_field before row w ≡ false → is_unknown before row w ≡ false
-    → (e : Event) × (event_by (resources_in before) (tasks_in before) row w ≡ Some e)
-right_spells before row (Issue kind) is field names =
-    let known = neither_of (is_none (number_in (tasks_in before) (second_of row))) _ names in
-    let seat = is_there (number_in (tasks_in before) (second_of row)) known.0 in
-    let set = is_there (set_in (resources_in before) (field_of row 3)) known.1 in
-    let len = is_there (length_in (field_of row 4)) field in
-    (event.Issue seat.0 (normalised kind set.0 set.0 len.0), issue_made (resources_in before) (tasks_in before) kind row seat.0 set.0 len.0 seat.1 set.1 len.1)
-right_spells before row Finish is field names = let seat = is_there (number_in (tasks_in before) (second_of row)) names in (event.Finish seat.0, finish_made (tasks_in before) row seat.0 seat.1)
-right_spells before row Version is field names = absurd (true≢false (sym is))
-right_spells before row Resource is field names = absurd (true≢false (sym is))
-right_spells before row Task is field names = absurd (true≢false (sym is))
-right_spells before row End is field names = absurd (true≢false (sym is))
-right_spells before row Unknown is field names = absurd (true≢false (sym is))
+pub right_spells : (before : List Row) (fields : Row) (w : Word) → is_event w ≡ true → is_bad_field before fields w ≡ false → is_unknown before fields w ≡ false
+    → (e : Event) × (event_by (head_in before) fields w ≡ Some e)
+right_spells before fields (Issue kind) is field names =
+    let known = neither_of (is_none (number_in (tasks_in before) (second_of fields))) _ names in
+    let seat = is_there (number_in (tasks_in before) (second_of fields)) known.0 in
+    let sets = is_there (sets_in (resources_in before) kind fields) known.1 in
+    let len = is_there (length_in (length_field kind fields)) field in
+    (event.Issue seat.0 (normalised kind sets.0.0 sets.0.1 len.0), issue_made (head_in before) kind fields seat.0 sets.0 len.0 seat.1 sets.1 len.1)
+right_spells before fields Finish is field names = let seat = is_there (number_in (tasks_in before) (second_of fields)) names in (event.Finish seat.0, finish_made (tasks_in before) fields seat.0 seat.1)
+right_spells before fields Version is field names = absurd (true≢false (sym is))
+right_spells before fields Resource is field names = absurd (true≢false (sym is))
+right_spells before fields Group is field names = absurd (true≢false (sym is))
+right_spells before fields Task is field names = absurd (true≢false (sym is))
+right_spells before fields Cap is field names = absurd (true≢false (sym is))
+right_spells before fields End is field names = absurd (true≢false (sym is))
+right_spells before fields Unknown is field names = absurd (true≢false (sym is))
 
 -- ---- what such an event fits
 
@@ -141,6 +149,27 @@ set_below names field s h =
     by_choice _ (bytes_eq field (codes "-")) (Some empty) (gather names empty (slice_split (λ b. b == 43) field)) s h
     (λ _ one. ap (all_below (length names)) (sym (some_is one)) ∙ all_below_empty (length names))
     (λ _ pieces. gather_below names (slice_split (λ b. b == 43) field) empty s (all_below_empty (length names)) pieces)
+
+-- and so are those of the sets that an issue names
+pub sets_below : (names : List (List ℕ)) (kind : Kind) (fields : Row) (sets : Set × Set) → sets_in names kind fields ≡ Some sets
+    → (all_below (length names) sets.0 ≡ true) × (all_below (length names) sets.1 ≡ true)
+sets_below names kind fields sets h = by_kind kind h
+  where
+    one : option_map (λ set. (set, set)) (set_in names (field_of fields 3)) ≡ Some sets → (all_below (length names) sets.0 ≡ true) × (all_below (length names) sets.1 ≡ true)
+    one e =
+        let m = map_some (λ (set : Set). (set, set)) (set_in names (field_of fields 3)) sets e in
+        let below = set_below names (field_of fields 3) m.0 m.1 in
+        (ap (λ (p : Set × Set). all_below (length names) p.0) (sym m.2) ∙ below, ap (λ (p : Set × Set). all_below (length names) p.1) (sym m.2) ∙ below)
+
+    by_kind : (k : Kind) → sets_in names k fields ≡ Some sets → (all_below (length names) sets.0 ≡ true) × (all_below (length names) sets.1 ≡ true)
+    by_kind Read e = one e
+    by_kind Write e = one e
+    by_kind Mixed e =
+        let a = and_then_some (λ (reads : Set). option_map (λ (writes : Set). (reads, writes)) (set_in names (field_of fields 4))) (set_in names (field_of fields 3)) sets e in
+        let b = map_some (λ (writes : Set). (a.0, writes)) (set_in names (field_of fields 4)) sets a.2 in (
+          ap (λ (p : Set × Set). all_below (length names) p.0) (sym b.2) ∙ set_below names (field_of fields 3) a.0 a.1,
+          ap (λ (p : Set × Set). all_below (length names) p.1) (sym b.2) ∙ set_below names (field_of fields 4) b.0 b.1,
+        )
 
 both_of : (a b : Bool) → (a && b) ≡ true → (a ≡ true) × (b ≡ true)
 both_of true b h = (refl, h)
@@ -168,22 +197,26 @@ has_members : (s : Set) → s ≢ empty → (len s == 0) ≡ false
 has_members s h = elim (len s == 0) as (λ b. (len s == 0) ≡ b → b ≡ false) [ true ↦ λ e. absurd (h (empty_of_len s (grind (arith, nat_tests)))) | false ↦ λ _. refl ] refl
 
 -- a request that nothing refuses is in normal form, and admitted
-pub request_right : (kind : Kind) (set : Set) (n : ℕ) → request_refusal (normalised kind set set n) ≡ None → n ≤ LENGTH_LIMIT
-    → IsNormal (normalised kind set set n) × IsTrue (is_admitted (normalised kind set set n))
-request_right Read set n h within =
-    let tests = no_refusal (len set == 0) _ EmptyRequest Undeclared h in
-    (record { sets = (not_empty set tests.0, refl); first = refl; len = within; later = refl }, tests.1)
-request_right Write set n h within =
-    let tests = no_refusal (len set == 0) _ EmptyRequest Undeclared h in
-    (record { sets = (refl, not_empty set tests.0); first = refl; len = within; later = refl }, tests.1)
+pub request_right : (groups : List Set) (kind : Kind) (reads writes : Set) (n : ℕ) → request_refusal groups (normalised kind reads writes n) ≡ None → n ≤ LENGTH_LIMIT
+    → IsNormal (normalised kind reads writes n) × IsTrue (is_admitted groups (normalised kind reads writes n))
+request_right groups Read reads writes n h within =
+    let tests = no_refusal (len reads == 0) _ EmptyRequest Undeclared h in
+    (record { sets = (not_empty reads tests.0, refl); first = refl; len = within; later = refl }, tests.1)
+request_right groups Write reads writes n h within =
+    let tests = no_refusal (len writes == 0) _ EmptyRequest Undeclared h in
+    (record { sets = (refl, not_empty writes tests.0); first = refl; len = within; later = refl }, tests.1)
+request_right groups Mixed reads writes n h within =
+    let tests = no_refusal (len writes == 0) _ EmptyRequest Undeclared h in
+    (record { sets = (difference_apart reads writes, not_empty writes tests.0); first = refl; len = within; later = refl }, tests.1)
 
 pub some_set : (kind : Kind) (reads writes : Set) → FitsKind kind reads writes → (len (asked_set kind reads writes) == 0) ≡ false
 some_set Read reads writes fits = has_members reads fits.0
 some_set Write reads writes fits = has_members writes fits.1
+some_set Mixed reads writes fits = has_members writes fits.1
 
 -- and one that is both is refused by nothing
-pub right_request : (r : RequestFields) → IsNormal r → IsTrue (is_admitted r) → request_refusal r ≡ None
-right_request r normal admitted = let some = some_set r.kind r.reads r.writes normal.sets in rw (some, admitted) refl
+pub right_request : (groups : List Set) (r : RequestFields) → IsNormal r → IsTrue (is_admitted groups r) → request_refusal groups r ≡ None
+right_request groups r normal admitted = let some = some_set r.kind r.reads r.writes normal.sets in rw (some, admitted) refl
 
 not_refused : (s : LockState) (e : Event) (o : Option RequestErr) → o ≡ None → refusal s e ≡ None → refusal_by s e o ≡ None
 not_refused s e None p h = ap (option_map Step) h
@@ -191,7 +224,7 @@ not_refused s e (Some cause) p h = absurd (some_none (sym p))
 
 -- an accepted event is not refused
 pub accepted_free : (s : LockState) (e : Event) → Comes s e → refusal_in s e ≡ None
-accepted_free s (event.Issue seat r) comes = not_refused s (event.Issue seat r) (request_refusal r) (right_request r comes.normal comes.fits.admitted) comes.accepted
+accepted_free s (event.Issue seat r) comes = not_refused s (event.Issue seat r) (request_refusal s.groups.groups r) (right_request s.groups.groups r comes.normal comes.fits.admitted) comes.accepted
 accepted_free s (event.Finish seat) comes = ap (option_map Step) comes.accepted
 
 map_none : {X Y : Type 0} (f : X → Y) (o : Option X) → option_map f o ≡ None → o ≡ None
@@ -202,34 +235,39 @@ refused_by_none : (s : LockState) (e : Event) (o : Option RequestErr) → refusa
 refused_by_none s e None h = (refl, map_none Step (refusal s e) h)
 refused_by_none s e (Some cause) h = absurd (some_none (sym h))
 
-pub kind_below : (q : ℕ) (kind : Kind) (set : Set) (n : ℕ) → all_below q set ≡ true → IsTrue (all_below q (normalised kind set set n).reads) × IsTrue (all_below q (normalised kind set set n).writes)
-kind_below q Read set n below = (below, all_below_empty q)
-kind_below q Write set n below = (all_below_empty q, below)
+pub kind_below : (q : ℕ) (kind : Kind) (reads writes : Set) (n : ℕ) → all_below q reads ≡ true → all_below q writes ≡ true
+    → IsTrue (all_below q (normalised kind reads writes n).reads) × IsTrue (all_below q (normalised kind reads writes n).writes)
+kind_below q Read reads writes n a b = (a, all_below_empty q)
+kind_below q Write reads writes n a b = (all_below_empty q, b)
+kind_below q Mixed reads writes n a b = (all_below_difference q reads writes a, b)
 
 -- a spelled event that is not refused comes to the state
-pub free_comes : (resources tasks : List (List ℕ)) (row : Row) (w : Word) (e : Event) (s : LockState) → event_by resources tasks row w ≡ Some e
-    → s.resources ≡ length resources → s.seats ≡ length tasks → s.issued < 2 ^ 63 → refusal_in s e ≡ None → Comes s e
-free_comes resources tasks row (Issue kind) e s h rs ts stamps free =
-    let told = issue_spelled resources tasks kind row e h in
-    let r : RequestFields = normalised kind told.set told.set told.len in
-    let none = refused_by_none s (event.Issue told.seat r) (request_refusal r) (ap (refusal_in s) (sym told.is) ∙ free) in
-    let right = request_right kind told.set told.len none.0 (length_within (field_of row 4) told.len told.length) in
-    let below = kind_below s.resources kind told.set told.len (ap (λ q. all_below q told.set) rs ∙ set_below resources (field_of row 3) told.set told.names) in
-    let seat : told.seat < s.seats = subst (λ n. told.seat < n) (sym ts) (number_below tasks (second_of row) told.seat told.task) in
+pub free_comes : (head : Head) (fields : Row) (w : Word) (e : Event) (s : LockState) → event_by head fields w ≡ Some e
+    → s.groups ≡ read_groups head → s.seats ≡ length head.tasks → s.issued < 2 ^ 63 → refusal_in s e ≡ None → Comes s e
+free_comes head fields (Issue kind) e s h rs ts stamps free =
+    let told = issue_spelled head kind fields e h in
+    let r : RequestFields = normalised kind told.sets.0 told.sets.1 told.len in
+    let none = refused_by_none s (event.Issue told.seat r) (request_refusal s.groups.groups r) (ap (refusal_in s) (sym told.is) ∙ free) in
+    let right = request_right s.groups.groups kind told.sets.0 told.sets.1 told.len none.0 (length_within (length_field kind fields) told.len told.length) in
+    let all = sets_below head.resources kind fields told.sets told.names in
+    let below = kind_below s.groups.q kind told.sets.0 told.sets.1 told.len (ap (λ (g : ReadGroups). all_below g.q told.sets.0) rs ∙ all.0) (ap (λ (g : ReadGroups). all_below g.q told.sets.1) rs ∙ all.1) in
+    let seat : told.seat < s.seats = subst (λ n. told.seat < n) (sym ts) (number_below head.tasks (second_of fields) told.seat told.task) in
     subst (Comes s) (sym told.is) (record {
       fits = record { seat_there = seat; reads = below.0; writes = below.1; admitted = right.1; stamps = stamps };
       normal = right.0;
       accepted = none.1;
     })
-free_comes resources tasks row Finish e s h rs ts stamps free =
-    let told = map_some event.Finish (number_in tasks (second_of row)) e h in
-    let seat : told.0 < s.seats = subst (λ n. told.0 < n) (sym ts) (number_below tasks (second_of row) told.0 told.1) in
+free_comes head fields Finish e s h rs ts stamps free =
+    let told = map_some event.Finish (number_in head.tasks (second_of fields)) e h in
+    let seat : told.0 < s.seats = subst (λ n. told.0 < n) (sym ts) (number_below head.tasks (second_of fields) told.0 told.1) in
     subst (Comes s) told.2 (record { fits = seat; normal = tt; accepted = map_none Step _ (ap (refusal_in s) told.2 ∙ free) })
-free_comes resources tasks row Version e s h rs ts stamps free = absurd (some_none h)
-free_comes resources tasks row Resource e s h rs ts stamps free = absurd (some_none h)
-free_comes resources tasks row Task e s h rs ts stamps free = absurd (some_none h)
-free_comes resources tasks row End e s h rs ts stamps free = absurd (some_none h)
-free_comes resources tasks row Unknown e s h rs ts stamps free = absurd (some_none h)
+free_comes head fields Version e s h rs ts stamps free = absurd (some_none h)
+free_comes head fields Resource e s h rs ts stamps free = absurd (some_none h)
+free_comes head fields Group e s h rs ts stamps free = absurd (some_none h)
+free_comes head fields Task e s h rs ts stamps free = absurd (some_none h)
+free_comes head fields Cap e s h rs ts stamps free = absurd (some_none h)
+free_comes head fields End e s h rs ts stamps free = absurd (some_none h)
+free_comes head fields Unknown e s h rs ts stamps free = absurd (some_none h)
 
 -- ---- what lists of events leave of a state
 
@@ -245,9 +283,9 @@ pub accepted-front : (s : LockState) (es more : List Event) (e : Event) → AreA
 accepted-front s [] more e all = all.0
 accepted-front s (x ∷ es) more e all = accepted-front (next s x) es more e all.1
 
-next-resources : (s : LockState) (e : Event) → (next s e).resources ≡ s.resources
-next-resources s (event.Issue seat r) = refl
-next-resources s (event.Finish seat) = refl
+next-groups : (s : LockState) (e : Event) → (next s e).groups ≡ s.groups
+next-groups s (event.Issue seat r) = refl
+next-groups s (event.Finish seat) = refl
 
 next-seats : (s : LockState) (e : Event) → (next s e).seats ≡ s.seats
 next-seats s (event.Issue seat r) = refl
@@ -257,9 +295,9 @@ next-issued : (s : LockState) (e : Event) → (next s e).issued ≤ s.issued + 1
 next-issued s (event.Issue seat r) = omega arith
 next-issued s (event.Finish seat) = omega arith
 
-pub after-resources : (s : LockState) (es : List Event) → (after s es).resources ≡ s.resources
-after-resources s [] = refl
-after-resources s (e ∷ es) = after-resources (next s e) es ∙ next-resources s e
+pub after-groups : (s : LockState) (es : List Event) → (after s es).groups ≡ s.groups
+after-groups s [] = refl
+after-groups s (e ∷ es) = after-groups (next s e) es ∙ next-groups s e
 
 pub after-seats : (s : LockState) (es : List Event) → (after s es).seats ≡ s.seats
 after-seats s [] = refl

@@ -1,5 +1,5 @@
--- A table that grows by one name.
-use Rattle.std.proofs.Common.{◌≡◌, ℕ, Bool, true, false, not, ◌&&◌, ◌||◌, ◌==◌, List, [], ◌∷◌, ◌++◌, length, refl, sym, ap, ◌∙◌, arith, length-append}
+-- A table that grows by one name, and groups that grow by one.
+use Rattle.std.proofs.Common.{◌≡◌, ℕ, Bool, true, false, not, ◌&&◌, ◌||◌, ◌==◌, List, [], ◌∷◌, ◌++◌, length, Some, refl, sym, ap, ◌∙◌, arith, length-append}
 use Rattle.std.specs.Prelude.{nat_le}
 use Rattle.std.specs.List.{list_any, list_all}
 use Rattle.std.proofs.lemmas.Bool.Decides.{nat_tests}
@@ -7,7 +7,11 @@ use Rattle.std.proofs.lemmas.Bool.{true≢false}
 use Rattle.std.proofs.lemmas.Cmp.{nat_list_eq_equiv}
 use Rattle.rset.specs.Names.{is_name, knows, same_name, all_differ, is_table}
 use Rattle.rset.specs.declared.TheConstants.{RESOURCES}
-use Rattle.rnlp_cli.specs.Faults.{is_bad_name}
+use Rattle.std.specs.FinSet.{len}
+use Rattle.rset.specs.Sets.{Set}
+use Rattle.rexpand.specs.declared.TheConstants.{GROUPS}
+use Rattle.rnlp_cli.specs.Faults.{is_bad_name, is_bad_group}
+use Rattle.rnlp_cli.specs.Lists.{has_member, are_read_groups}
 
 and_assoc : (a b c : Bool) → (a && (b && c)) ≡ ((a && b) && c)
 and_assoc true b c = refl
@@ -95,3 +99,23 @@ table-push names name h fits =
 pub table-empty : is_table [] ≡ true
 unfolding is_table all_differ
 table-empty = refl
+
+-- ---- read groups
+
+-- a group among others was none that those before it refuse
+pub groups-front : (before after : List Set) (group : Set) → are_read_groups (before ++ group ∷ after) ≡ true → is_bad_group before (Some group) ≡ false
+groups-front before after group h =
+    let parts = both_of (list_all has_member (before ++ group ∷ after)) _ h in
+    let members = both_of (list_all has_member before) _ (sym (all-append has_member before (group ∷ after)) ∙ parts.0) in
+    let some : (len group == 0) ≡ false = not_true (len group == 0) (both_of (has_member group) _ members.1).0 in
+    let room : (length before == GROUPS) ≡ false = (let all = parts.1 in let size = length-append before (group ∷ after) in grind (arith, nat_tests)) in
+    rw (some, room) refl
+
+-- groups with one more that they do not refuse are groups
+pub groups-push : (groups : List Set) (group : Set) → are_read_groups groups ≡ true → is_bad_group groups (Some group) ≡ false → are_read_groups (groups ++ group ∷ []) ≡ true
+groups-push groups group h fits =
+    let parts = both_of (list_all has_member groups) _ h in
+    let room = neither_of (len group == 0) _ fits in
+    let members : list_all has_member (groups ++ group ∷ []) ≡ true = all-append has_member groups (group ∷ []) ∙ rw (parts.0, room.0) refl in
+    let few : nat_le (length (groups ++ group ∷ [])) GROUPS ≡ true = (let full = room.1 in let size = length-append groups (group ∷ []) in grind (arith, nat_tests)) in
+    rw (members, few) refl

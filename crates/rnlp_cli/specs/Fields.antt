@@ -1,10 +1,11 @@
--- What the fields of an event spell: lengths, and sets of resources by their names.
+-- What the fields of a record spell: lengths, caps, and sets of resources by their names.
 use Rattle.std.specs.Prelude.{ℕ, ◌+◌, ◌-◌, ◌*◌, ◌^◌, Bool, ◌&&◌, ◌==◌, nat_le, nat_lt, List, [], ◌∷◌, length, Option, Some, None, codes, option_and_then, if◌then◌else◌}
 use Rattle.std.specs.List.{list_all, slice_split}
 use Rattle.std.specs.Str.{bytes_eq}
 use Rattle.std.specs.FinSet.{empty, insert}
 use Rattle.rset.specs.Sets.{Set}
 use Rattle.rset.specs.Names.{number_in}
+use Rattle.rset.specs.declared.TheConstants.{SEATS}
 use Rattle.rclaim.specs.declared.TheConstants.{LENGTH_LIMIT}
 
 -- a decimal digit
@@ -31,6 +32,14 @@ number_told field = if is_number field then Some (read_on 0 field) else None
 -- the length that a field tells, if it is a number within the limit
 unfoldable pub length_in : List ℕ → Option ℕ
 length_in field = option_and_then (λ n. if nat_le n LENGTH_LIMIT then Some n else None) (number_told field)
+
+-- a cap is a number from 1 to the number of seats
+abbrev pub cap_within : ℕ → Option ℕ
+cap_within n = if nat_le 1 n && nat_le n SEATS then Some n else None
+
+-- the cap that a field tells, if it tells one
+unfoldable pub cap_told : List ℕ → Option ℕ
+cap_told field = option_and_then cap_within (number_told field)
 
 -- these resources, and those that the pieces name
 unfoldable pub gather : List (List ℕ) → Set → List (List ℕ) → Option Set

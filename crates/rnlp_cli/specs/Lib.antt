@@ -1,6 +1,7 @@
 pub mod Words
 pub mod Records
 pub mod Fields
+pub mod Heads
 pub mod Events
 pub mod Faults
 pub mod Lists

@@ -4,9 +4,9 @@ use Rattle.std.specs.Str.{bytes_eq}
 use Rattle.csv.specs.Reading.{AreRecords, default_config, strip_bom}
 use Rattle.csv.specs.Records.{field_at}
 use Rattle.csv.specs.declared.parser.State.TheVariants as st
-use Rattle.rclaim.specs.declared.request.Kind.TheVariants.{Read, Write}
+use Rattle.rclaim.specs.declared.request.Kind.TheVariants.{Read, Write, Mixed}
 use Rattle.rnlp_cli.specs.declared.record.Word.{Word}
-use Rattle.rnlp_cli.specs.declared.record.Word.TheVariants.{Version, Resource, Task, Issue, Finish, End, Unknown}
+use Rattle.rnlp_cli.specs.declared.record.Word.TheVariants.{Version, Resource, Group, Task, Cap, Issue, Finish, End, Unknown}
 
 -- the fields of a record
 abbrev pub Row : Type 0
@@ -18,7 +18,7 @@ AreRowsOf bytes rows = AreRecords default_config st.StartRecord (strip_bom bytes
 
 -- the field at a place counted from 0, or nothing
 abbrev pub field_of : Row → ℕ → List ℕ
-field_of row place = unwrap_or (field_at row place) []
+field_of fields place = unwrap_or (field_at fields place) []
 
 -- the second field, or nothing
 abbrev pub second_of : Row → List ℕ
@@ -35,7 +35,9 @@ abbrev pub word_with : List ℕ → List ℕ → Word
 word_with first second =
     if bytes_eq first (codes "finish") then Finish
     else if bytes_eq first (codes "resource") then Resource
+    else if bytes_eq first (codes "group") then Group
     else if bytes_eq first (codes "task") then Task
+    else if bytes_eq first (codes "cap") then Cap
     else if bytes_eq first (codes "rnlp") && bytes_eq second (codes "1") then Version
     else Unknown
 
@@ -46,6 +48,10 @@ word_of_five first kind =
     else if bytes_eq first (codes "issue") && bytes_eq kind (codes "write") then Issue Write
     else Unknown
 
+-- what a record of six fields is: its third field names the kind of a request
+abbrev pub word_of_six : List ℕ → List ℕ → Word
+word_of_six first kind = if bytes_eq first (codes "issue") && bytes_eq kind (codes "mixed") then Issue Mixed else Unknown
+
 -- what a record is
 unfoldable pub word_of : Row → Word
 word_of [] = Unknown
@@ -54,4 +60,5 @@ word_of (first ∷ second ∷ []) = word_with first second
 word_of (first ∷ second ∷ third ∷ []) = Unknown
 word_of (first ∷ second ∷ third ∷ fourth ∷ []) = Unknown
 word_of (first ∷ second ∷ third ∷ fourth ∷ fifth ∷ []) = word_of_five first third
-word_of (first ∷ second ∷ third ∷ fourth ∷ fifth ∷ sixth ∷ fields) = Unknown
+word_of (first ∷ second ∷ third ∷ fourth ∷ fifth ∷ sixth ∷ []) = word_of_six first third
+word_of (first ∷ second ∷ third ∷ fourth ∷ fifth ∷ sixth ∷ seventh ∷ fields) = Unknown

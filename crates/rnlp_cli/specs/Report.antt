@@ -1,12 +1,11 @@
 -- The report of an event list, as records.
-use Rattle.std.specs.Prelude.{◌≡◌, ℕ, Bool, List, [], ◌∷◌, ◌++◌, length, map, slice_index_or, codes, decimal, if◌then◌else◌}
+use Rattle.std.specs.Prelude.{◌≡◌, ℕ, Bool, List, [], ◌∷◌, ◌++◌, map, slice_index_or, codes, decimal, if◌then◌else◌}
 use Rattle.std.specs.List.{join_with_byte}
 use Rattle.std.specs.FinSet.{union}
 use Rattle.rset.specs.Sets.{Set, rising}
-use Rattle.rclaim.specs.Requests.{asked_set}
 use Rattle.rclaim.specs.Changes.{ChangeLists}
 use Rattle.rclaim.specs.declared.request.Kind.{Kind}
-use Rattle.rclaim.specs.declared.request.Kind.TheVariants.{Read, Write}
+use Rattle.rclaim.specs.declared.request.Kind.TheVariants.{Read, Write, Mixed}
 use Rattle.rclaim.specs.declared.claim.Status.{Status}
 use Rattle.rclaim.specs.declared.claim.Status.TheVariants.{Waiting, Entitled, Satisfied}
 use Rattle.rclaim.specs.declared.changes.StatusChange.{StatusChange}
@@ -17,7 +16,7 @@ use Rattle.rmodel.specs.State.{LockState}
 use Rattle.rmodel.specs.Steps.{next}
 use Rattle.rmodel.specs.Changes.{changes_between}
 use Rattle.rnlp_cli.specs.Records.{Row}
-use Rattle.rnlp_cli.specs.Events.{opening_of}
+use Rattle.rnlp_cli.specs.Heads.{Head, opening_of}
 use Rattle.rnlp_cli.specs.Lists.{Listed, head_rows, end_row}
 use Rattle.rnlp_cli.specs.Text.{lines_of}
 use Rattle.rnlp_cli.specs.declared.list.EventList.{EventList}
@@ -37,11 +36,18 @@ set_text resources s = joined (map (name_at resources) (rising s))
 abbrev pub kind_text : Kind → List ℕ
 kind_text Read = codes "read"
 kind_text Write = codes "write"
+kind_text Mixed = codes "mixed"
+
+-- the fields with the sets of a request of this kind: of a mixed one what it reads and what it writes
+abbrev pub set_fields : List (List ℕ) → Kind → Set → Set → Row
+set_fields resources Read reads writes = set_text resources reads ∷ []
+set_fields resources Write reads writes = set_text resources writes ∷ []
+set_fields resources Mixed reads writes = set_text resources reads ∷ set_text resources writes ∷ []
 
 -- the record of an event
 abbrev pub event_row : List (List ℕ) → List (List ℕ) → Event → Row
 event_row resources tasks (Issue seat r) =
-    codes "issue" ∷ name_at tasks seat ∷ kind_text r.kind ∷ set_text resources (asked_set r.kind r.reads r.writes) ∷ decimal r.len ∷ []
+    codes "issue" ∷ name_at tasks seat ∷ kind_text r.kind ∷ (set_fields resources r.kind r.reads r.writes ++ decimal r.len ∷ [])
 event_row resources tasks (Finish seat) = codes "finish" ∷ name_at tasks seat ∷ []
 
 abbrev pub claim_text : Bool → List ℕ
@@ -65,17 +71,21 @@ abbrev pub change_rows : List (List ℕ) → List (List ℕ) → ChangeLists →
 change_rows resources tasks changes = map (now_row tasks) changes.statuses ++ map (grant_row resources tasks) changes.grants
 
 -- the record of an event, and those of what it changes in a state
-abbrev pub step_rows : List (List ℕ) → List (List ℕ) → LockState → Event → List Row
-step_rows resources tasks s e = event_row resources tasks e ∷ change_rows resources tasks (changes_between s (next s e))
+abbrev pub step_rows : Head → LockState → Event → List Row
+step_rows head s e = event_row head.resources head.tasks e ∷ change_rows head.resources head.tasks (changes_between s (next s e))
 
 -- the records of events and of what each changes, from a state on
-unfoldable pub history_rows : List (List ℕ) → List (List ℕ) → LockState → List Event → List Row
-history_rows resources tasks s [] = []
-history_rows resources tasks s (e ∷ events) = step_rows resources tasks s e ++ history_rows resources tasks (next s e) events
+unfoldable pub history_rows : Head → LockState → List Event → List Row
+history_rows head s [] = []
+history_rows head s (e ∷ events) = step_rows head s e ++ history_rows head (next s e) events
 
 -- the text of the history of a list
 abbrev pub history_text : Listed → List ℕ
-history_text list = lines_of (history_rows list.resources list.tasks (opening_of list.resources list.tasks) list.events)
+history_text list = lines_of (history_rows list.head (opening_of list.head) list.events)
+
+-- a read group
+abbrev pub group_row : List (List ℕ) → Set → Row
+group_row resources group = codes "group" ∷ set_text resources group ∷ []
 
 -- how many requests may be incomplete at once
 abbrev pub cap_row : ℕ → Row
@@ -85,24 +95,30 @@ cap_row cap = codes "cap" ∷ decimal cap ∷ []
 abbrev pub ledger_row : List ℕ → ℕ → ℕ → Row
 ledger_row name balance edits = codes "ledger" ∷ name ∷ decimal balance ∷ decimal edits ∷ []
 
--- the report: the head with its cap, the history, a ledger of each resource, and `end`
+-- the records of a head as it is written: its groups in order, and its cap
+abbrev pub written_head : Head → List Row
+written_head head = head_rows head.resources (map (group_row head.resources) head.groups) head.tasks (cap_row head.cap ∷ [])
+
+-- the report: the head, the history, a ledger of each resource, and `end`
 abbrev pub report_rows : Listed → List Row
 report_rows list =
-    head_rows list.resources list.tasks
-    ++ (cap_row (length list.tasks) ∷ (history_rows list.resources list.tasks (opening_of list.resources list.tasks) list.events
-    ++ (map (λ name. ledger_row name 0 0) list.resources ++ end_row ∷ [])))
+    written_head list.head
+    ++ (history_rows list.head (opening_of list.head) list.events
+    ++ (map (λ name. ledger_row name 0 0) list.head.resources ++ end_row ∷ []))
 
 -- the one spelling of the report
 abbrev pub report_text : Listed → List ℕ
 report_text list = lines_of (report_rows list)
 
--- the report of these resources and tasks round the text of a history
-abbrev pub report_around : List (List ℕ) → List (List ℕ) → List ℕ → List ℕ
-report_around resources tasks history =
-    lines_of (head_rows resources tasks ++ cap_row (length tasks) ∷ []) ++ (history ++ lines_of (map (λ name. ledger_row name 0 0) resources ++ end_row ∷ []))
+-- the report of a head round the text of a history
+abbrev pub report_around : Head → List ℕ → List ℕ
+report_around head history = lines_of (written_head head) ++ (history ++ lines_of (map (λ name. ledger_row name 0 0) head.resources ++ end_row ∷ []))
+
+-- the head that the reader has kept
+abbrev pub head_kept : EventList → Head
+head_kept kept = record { resources = kept.resources; groups = kept.groups.groups; tasks = kept.tasks; cap = kept.cap }
 
 -- the reader has kept this of a list
 pub record Keeps (kept : EventList) (list : Listed) : Type 0 where
-  pub resources : kept.resources ≡ list.resources
-  pub tasks : kept.tasks ≡ list.tasks
+  pub head : head_kept kept ≡ list.head
   pub history : kept.history.items ≡ history_text list

@@ -1,11 +1,43 @@
-// What the fields of an event spell.
+// What the fields of a record spell.
 ghost use Rattle.std.specs.Prelude.{◌≡◌, ◌≤◌, IfSome, IsTrue, length};
 ghost use Rattle.rclaim.specs.declared.TheConstants.{LENGTH_LIMIT};
-ghost use Rattle.rnlp_cli.specs.Fields.{length_in, number_told, digit_behind, set_in};
+ghost use Rattle.rset.specs.declared.TheConstants.{SEATS};
+ghost use Rattle.rnlp_cli.specs.Fields.{length_in, cap_within, cap_told, number_told, digit_behind, set_in};
 ghost use Rattle.rset.specs.Sets.{all_below};
+ghost use Rattle.csv.specs.Records.{fields_of};
+ghost use Rattle.rnlp_cli.specs.Events.{sets_in, length_field};
 
-use rclaim::LENGTH_LIMIT;
-use rset::{NameTable, ResourceSet};
+use crate::record::field_of;
+use csv::ByteRecord;
+use rclaim::{Kind, LENGTH_LIMIT};
+use rset::{NameTable, ResourceSet, SEATS};
+
+/// The sets that the record of a request of this kind names, to read and to write; None where a piece of one is no
+/// declared name. Only a mixed request has two fields with sets.
+pub fn sets_of(
+    names: &NameTable,
+    kind: Kind,
+    fields: &ByteRecord,
+) -> Option<(ResourceSet, ResourceSet)>
+    ensures value { result ≡ sets_in names.now kind (fields_of fields.now) }
+    ensures below { IfSome result (λ sets. IsTrue (all_below (length names.now) sets.0) × IsTrue (all_below (length names.now) sets.1)) }
+{
+    let reads = set_of(names, field_of(fields, 3))?;
+    match kind {
+        Kind::Read | Kind::Write => Some((reads, reads)),
+        Kind::Mixed => Some((reads, set_of(names, field_of(fields, 4))?)),
+    }
+}
+
+/// The field with the length of a request of this kind.
+pub fn length_field(kind: Kind, fields: &ByteRecord) -> &[u8]
+    ensures { result.now ≡ length_field kind (fields_of fields.now) }
+{
+    match kind {
+        Kind::Read | Kind::Write => field_of(fields, 4),
+        Kind::Mixed => field_of(fields, 5),
+    }
+}
 
 /// The length that a field tells; None where it is no number, or above the limit.
 pub fn length_of(field: &[u8]) -> Option<u32>
@@ -17,6 +49,26 @@ pub fn length_of(field: &[u8]) -> Option<u32>
         return None;
     }
     Some(number as u32)
+}
+
+/// The cap that a field tells; None where it is no number from 1 to [`SEATS`].
+pub fn cap_of(field: &[u8]) -> Option<u8>
+    ensures value { result ≡ cap_told field.now }
+    ensures bounds { IfSome result (λ cap. (1 ≤ cap) × (cap ≤ SEATS)) }
+{
+    cap_within(number_of(field)?)
+}
+
+// The number as a cap; None where it is none.
+fn cap_within(number: u64) -> Option<u8>
+    ensures value { result ≡ cap_within number }
+    ensures bounds { IfSome result (λ cap. (1 ≤ cap) × (cap ≤ SEATS)) }
+{
+    if number == 0 || number > u64::from(SEATS) {
+        None
+    } else {
+        Some(number as u8)
+    }
 }
 
 // The number that a field tells; None where it is none.

@@ -1,8 +1,8 @@
 // The records of a history: its events, and what each of them changes.
-ghost use Rattle.std.specs.Prelude.{◌≡◌, ◌++◌, ◌∷◌, map, OnOk, decimal};
-ghost use Rattle.rclaim.specs.Requests.{asked_set};
+ghost use Rattle.std.specs.Prelude.{◌≡◌, ◌++◌, ◌∷◌, [], map, OnOk, decimal};
+ghost use Rattle.std.specs.List.{flat_map};
 ghost use Rattle.rnlp_cli.specs.Text.{line, lines_of, behind_comma};
-ghost use Rattle.rnlp_cli.specs.Report.{name_at, event_row, now_row, grant_row, change_rows, set_text, kind_text, status_text};
+ghost use Rattle.rnlp_cli.specs.Report.{name_at, event_row, now_row, grant_row, change_rows, set_text, set_fields, kind_text, status_text};
 
 use crate::text::{push_field, push_number};
 use rclaim::{Changes, Event, GrantChange, Kind, Request, Status, StatusChange};
@@ -49,23 +49,33 @@ fn push_event(
     Ok(())
 }
 
-// Appends the kind, the set and the length of a request.
+// Appends the kind, the sets and the length of a request.
 fn push_request(
     text: &mut Vec<u8>,
     resources: &NameTable,
     request: &Request,
 ) -> Result<(), AllocError>
     ensures { OnOk result (text.new.items ≡ text.old.items ++ (behind_comma (kind_text request.now.kind)
-        ++ (behind_comma (set_text resources.now (asked_set request.now.kind request.now.reads request.now.writes))
-        ++ behind_comma (decimal request.now.len)))) }
+        ++ flat_map behind_comma (set_fields resources.now request.now.kind request.now.reads request.now.writes ++ decimal request.now.len ∷ []))) }
 {
-    let set = match request.kind() {
-        Kind::Read => request.reads(),
-        Kind::Write => request.writes(),
-    };
     push_field(text, kind_word(request.kind()))?;
-    push_set(text, resources, set)?;
+    push_sets(text, resources, request)?;
     push_number(text, u64::from(request.len()))
+}
+
+// Appends the sets of a request.
+fn push_sets(text: &mut Vec<u8>, resources: &NameTable, request: &Request) -> Result<(), AllocError>
+    ensures { OnOk result (text.new.items ≡ text.old.items
+        ++ flat_map behind_comma (set_fields resources.now request.now.kind request.now.reads request.now.writes)) }
+{
+    match request.kind() {
+        Kind::Read => push_set(text, resources, request.reads()),
+        Kind::Write => push_set(text, resources, request.writes()),
+        Kind::Mixed => {
+            push_set(text, resources, request.reads())?;
+            push_set(text, resources, request.writes())
+        }
+    }
 }
 
 fn kind_word(kind: Kind) -> &'static [u8]
@@ -74,6 +84,7 @@ fn kind_word(kind: Kind) -> &'static [u8]
     match kind {
         Kind::Read => b"read",
         Kind::Write => b"write",
+        Kind::Mixed => b"mixed",
     }
 }
 
@@ -88,8 +99,12 @@ fn name_at(names: &NameTable, n: u8) -> &[u8]
     }
 }
 
-// Appends the names of a set as one field more.
-fn push_set(text: &mut Vec<u8>, resources: &NameTable, set: ResourceSet) -> Result<(), AllocError>
+/// Appends the names of a set as one field more.
+pub fn push_set(
+    text: &mut Vec<u8>,
+    resources: &NameTable,
+    set: ResourceSet,
+) -> Result<(), AllocError>
     ensures { OnOk result (text.new.items ≡ text.old.items ++ behind_comma (set_text resources.now set)) }
 {
     if set.is_empty() {

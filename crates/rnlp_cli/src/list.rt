@@ -1,5 +1,6 @@
 // An event list, and what is wrong with a text that is none.
 use rclaim::RequestErr;
+use rexpand::Groups;
 use rmodel::Refused;
 use rset::NameTable;
 
@@ -8,8 +9,12 @@ use rset::NameTable;
 pub struct EventList {
     /// The resources, numbered in the order of the list.
     pub resources: NameTable,
-    /// The tasks, numbered likewise.
+    /// The read groups, in the order of the list.
+    pub groups: Groups,
+    /// The tasks, numbered as the resources are.
     pub tasks: NameTable,
+    /// How many requests may be incomplete at once.
+    pub cap: u8,
     /// The text of its history: the record of each event, in order, and of what it changes.
     pub history: Vec<u8>,
 }
@@ -26,8 +31,8 @@ pub enum Refusal {
 /// What is wrong with a record. The first of these, in this order, is told.
 #[derive(Clone, Copy, Debug, PartialEq, Eq)]
 pub enum Code {
-    /// It is no record of this kind of input, a name that it declares is bad, repeated or past the limit, or its
-    /// length is none.
+    /// It is no record of this kind of input, a name that it declares is bad, repeated or past the limit, a group has
+    /// no member or is past the limit, or its length or its cap is none.
     BadField,
     /// It names a task or a resource that is not declared.
     UnknownName,

@@ -4,9 +4,18 @@
 //! is, what its first fault is and which text is written of it stand in specs/.
 #![tactic(auto)]
 
+ghost use Rattle.std.specs.Prelude.{◌≡◌, ◌⊎◌, map, string_bytes, IfErr, IfSome};
+ghost use Rattle.io_ends.specs.Faults.{Rose};
+ghost use Rattle.rnlp_cli.specs.Words.{own_text};
+ghost use Rattle.rnlp_cli.specs.Tool.{IsWritten};
+
+#[cfg(test)]
+mod cases;
 mod fields;
 mod history;
 mod list;
+#[cfg(test)]
+mod pins;
 mod reading;
 mod record;
 mod report;
@@ -17,7 +26,7 @@ mod text;
 mod tool;
 mod words;
 
-use io_ends::{StdinSource, StdoutSink, write_all};
+use io_ends::{Sink, Source, StdinSource, StdoutSink, write_all};
 pub use list::{Code, EventList, Fault, Refusal};
 pub use status::ToolStatus;
 use std::alloc::Global;
@@ -45,11 +54,13 @@ fn main(rt: HostRuntime) -> ExitCode {
         Err(status) => status,
     };
     explain(&rt, status);
-    ExitCode::from(status as u8)
+    ExitCode::from(status.number())
 }
 
 // The words after the program's name, or the status where there are none to be had.
-fn words_of<R: Env + AllocGlobal>(rt: &R) -> Result<Vec<String>, ToolStatus> {
+fn words_of<R: Env + AllocGlobal>(rt: &R) -> Result<Vec<String>, ToolStatus>
+    ensures { IfErr result (λ status. (status ≡ ToolStatus.Words) ⊎ (status ≡ ToolStatus.NoMemory)) }
+{
     match env::args(rt) {
         Ok(args) => args
             .skip(1)
@@ -61,12 +72,16 @@ fn words_of<R: Env + AllocGlobal>(rt: &R) -> Result<Vec<String>, ToolStatus> {
 }
 
 // Answers the words that ask about the program itself, and else runs the tool that they name.
-fn answer(
+fn answer<S: Source, K: Sink>(
     alloc: Global,
     words: &[String],
-    source: &mut StdinSource,
-    sink: &mut StdoutSink,
-) -> ToolStatus {
+    source: &mut S,
+    sink: &mut K,
+) -> ToolStatus
+    // The text is written, or a front part of it where the sink failed. No memory is taken.
+    ensures own { IfSome (own_text (map string_bytes words.now)) (λ text.
+        (source.new ≡ source.old) × IsWritten text (K.written sink.old) (K.written sink.new) (K.faults sink.new ≡ K.faults sink.old) (Rose (K.faults sink.old) (K.faults sink.new)) ⊥ result) }
+{
     let text = match words {
         [word] if word.as_str() == "--help" => HELP,
         [word] if word.as_str() == "--version" => VERSION,

@@ -1,24 +1,29 @@
 // Reading an event list, record by record.
-ghost use Rattle.std.specs.Prelude.{◌≡◌, ◌<◌, ◌≤◌, ◌++◌, ◌∷◌, [], List, length, true, false, None, Some, IsSome, OnOk, IfOk, IfErr, option_map};
+ghost use Rattle.std.specs.Prelude.{◌≡◌, ◌<◌, ◌≤◌, ◌++◌, ◌∷◌, [], List, length, ◌||◌, ◌==◌, if◌then◌else◌, ℕ, true, false, None, Some, IsSome, IsTrue, OnOk, IfOk, IfErr, IfSome, option_map};
 ghost use Rattle.csv.specs.Records.{fields_of};
+ghost use Rattle.rset.specs.Sets.{all_below};
+ghost use Rattle.rset.specs.declared.TheConstants.{SEATS};
+ghost use Rattle.rexpand.specs.declared.TheConstants.{GROUPS};
 ghost use Rattle.rclaim.specs.Requests.{normalised};
 ghost use Rattle.rmodel.specs.Steps.{Fits, refusal, next};
 ghost use Rattle.rmodel.specs.Changes.{changes_between};
+ghost use Rattle.rnlp_cli.specs.Fields.{cap_told};
 ghost use Rattle.rnlp_cli.specs.Records.{Row, AreRowsOf, word_of};
 ghost use Rattle.rnlp_cli.specs.Events.{request_refusal};
-ghost use Rattle.rnlp_cli.specs.Faults.{first_fault, is_bad_order, is_bad_name, is_event};
+ghost use Rattle.rnlp_cli.specs.Faults.{first_fault, is_bad_order, is_bad_name, is_bad_group, is_event, is_group, is_end, has_word};
 ghost use Rattle.rnlp_cli.specs.Lists.{Listed, IsEventList};
-ghost use Rattle.rnlp_cli.specs.Report.{Keeps, event_row, change_rows};
+ghost use Rattle.rnlp_cli.specs.Report.{Keeps, head_kept, event_row, change_rows};
 ghost use Rattle.rnlp_cli.specs.Text.{lines_of};
-ghost use Rattle.rnlp_cli.specs.Reading.{HasRead, IsReady, Takes, Refuses, Notes, IsBadNote, StepsBy, state_of, step_code, error_at};
+ghost use Rattle.rnlp_cli.specs.Reading.{HasRead, IsReady, HasGroups, Takes, Refuses, Notes, IsBadNote, StepsBy, groups_of, head_of, state_of, step_code, error_at};
 
-use crate::fields::{length_of, set_of};
+use crate::fields::{cap_of, length_field, length_of, set_of, sets_of};
 use crate::history::push_step;
 use crate::list::{Code, EventList, Fault, Refusal};
 use crate::record::{Word, field_of, word_of};
 use csv::{ByteRecord, ReaderBuilder};
 use rclaim::{Changes, Event, Kind, LENGTH_LIMIT, Request, RequestErr};
-use rmodel::{Plain, Refused, admit};
+use rexpand::{GROUPS, Groups};
+use rmodel::{Machine, Plain, Refused, admit};
 use rset::{NameErr, NameTable, ResourceSet};
 use std::alloc::{AllocError, Global};
 
@@ -43,16 +48,16 @@ pub fn read_list(alloc: Global, bytes: &[u8]) -> Result<EventList, ListErr>
         .has_headers(false)
         .flexible(true)
         .from_reader(alloc, bytes);
-    let mut row = ByteRecord::new(alloc);
+    let mut fields = ByteRecord::new(alloc);
     let mut reading = Reading::new(alloc);
     for line in 1..MOST_RECORDS {
-        let Ok(found) = reader.read_byte_record(&mut row) else {
+        let Ok(found) = reader.read_byte_record(&mut fields) else {
             return Err(ListErr::Memory);
         };
         if !found {
             return reading.finish(line);
         }
-        if let Err(e) = reading.take(alloc, &row) {
+        if let Err(e) = reading.take(alloc, &fields) {
             return Err(e.at(line));
         }
     }
@@ -82,7 +87,10 @@ impl RowErr {
 struct Reading {
     begun: bool,
     resources: NameTable,
+    // Made at the first group or task: no resource is declared behind it.
+    groups: Option<Groups>,
     tasks: NameTable,
+    cap: Option<u8>,
     // Made at the first event.
     machine: Option<Plain>,
     history: Vec<u8>,
@@ -96,7 +104,9 @@ impl Reading {
         Reading {
             begun: false,
             resources: NameTable::new(alloc),
+            groups: None,
             tasks: NameTable::new(alloc),
+            cap: None,
             machine: None,
             history: Vec::new(alloc),
             ended: false,
@@ -104,27 +114,29 @@ impl Reading {
     }
 
     // Takes the next record, or tells what is wrong with it.
-    fn take(&mut self, alloc: Global, row: &ByteRecord) -> Result<(), RowErr>
+    fn take(&mut self, alloc: Global, fields: &ByteRecord) -> Result<(), RowErr>
         requires { IsReady self.old }
-        ensures taken { OnOk result (Takes self.old self.new (fields_of row.now)) }
-        ensures bad { (code : Code) → result ≡ Err (RowErr.Bad code) → Refuses self.old (fields_of row.now) code }
+        ensures taken { OnOk result (Takes self.old self.new (fields_of fields.now)) }
+        ensures bad { (code : Code) → result ≡ Err (RowErr.Bad code) → Refuses self.old (fields_of fields.now) code }
     {
-        match word_of(row) {
-            Word::Issue(kind) => self.issue(alloc, kind, row),
-            Word::Finish => self.finish_of(alloc, row),
-            word => self.head(word, row),
+        match word_of(fields) {
+            Word::Issue(kind) => self.issue(alloc, kind, fields),
+            Word::Finish => self.finish_of(alloc, fields),
+            Word::Group => self.group(alloc, fields),
+            word => self.head(alloc, word, fields),
         }
     }
 
-    // Takes a record of the head, or the end.
-    fn head(&mut self, word: Word, row: &ByteRecord) -> Result<(), RowErr>
-        requires word { word ≡ word_of (fields_of row.now) }
+    // Takes a record of the head that declares a name or the cap, or the end.
+    fn head(&mut self, alloc: Global, word: Word, fields: &ByteRecord) -> Result<(), RowErr>
+        requires word { word ≡ word_of (fields_of fields.now) }
         requires head { is_event word ≡ false }
-        ensures taken { OnOk result (Takes self.old self.new (fields_of row.now)) }
-        ensures bad { (code : Code) → result ≡ Err (RowErr.Bad code) → Refuses self.old (fields_of row.now) code }
+        requires name { is_group word ≡ false }
+        ensures taken { OnOk result (Takes self.old self.new (fields_of fields.now)) }
+        ensures bad { (code : Code) → result ≡ Err (RowErr.Bad code) → Refuses self.old (fields_of fields.now) code }
     {
         let misplaced = self.misplaces(word);
-        match self.note(word, field_of(row, 1)) {
+        match self.note(alloc, word, field_of(fields, 1)) {
             Ok(()) if misplaced => Err(RowErr::Bad(Code::BadOrder)),
             Ok(()) => Ok(()),
             Err(e) => Err(e),
@@ -135,20 +147,30 @@ impl Reading {
     fn misplaces(&self, word: Word) -> bool
         ensures order { (before : List Row) → HasRead before self.now → result ≡ is_bad_order before word }
         ensures ready { is_event word ≡ true → result ≡ false → (0 < length self.now.resources) × (0 < length self.now.tasks) }
+        ensures some { is_group word ≡ true → result ≡ false → 0 < length self.now.resources }
     {
         let no_task = self.tasks.len() == 0;
         match word {
             Word::Version => self.begun,
-            Word::Resource => !self.begun || !no_task || self.machine.is_some(),
-            Word::Task => self.resources.len() == 0 || self.machine.is_some() || self.ended,
+            Word::Resource => !self.begun || self.groups.is_some() || self.machine.is_some(),
+            Word::Group => self.resources.len() == 0 || !no_task || self.machine.is_some(),
+            Word::Task => self.resources.len() == 0 || self.cap.is_some() || self.is_behind(),
+            Word::Cap => no_task || self.cap.is_some() || self.is_behind(),
             Word::Issue(_) | Word::Finish => self.resources.len() == 0 || no_task || self.ended,
             Word::End => no_task || self.ended,
             Word::Unknown => false,
         }
     }
 
+    // Whether an event was read, or the end.
+    fn is_behind(&self) -> bool
+        ensures { (before : List Row) → HasRead before self.now → result ≡ (has_word is_event before || has_word is_end before) }
+    {
+        self.machine.is_some() || self.ended
+    }
+
     // Notes a record of the head, of which `name` is the second field.
-    fn note(&mut self, word: Word, name: &[u8]) -> Result<(), RowErr>
+    fn note(&mut self, alloc: Global, word: Word, name: &[u8]) -> Result<(), RowErr>
         ensures noted { OnOk result (Notes self.old self.new word name.now) }
         ensures bad { (code : Code) → result ≡ Err (RowErr.Bad code) → (is_event word ≡ false) → (code ≡ Code.BadField) × IsBadNote self.old word name.now }
     {
@@ -156,48 +178,150 @@ impl Reading {
         match word {
             Word::Version => Ok(()),
             Word::Resource => declare(&mut self.resources, name),
-            Word::Task => declare(&mut self.tasks, name),
+            Word::Task => {
+                declare(&mut self.tasks, name)?;
+                self.make_groups(alloc)
+            }
+            Word::Cap => self.note_cap(name),
             Word::End => {
                 self.ended = true;
                 Ok(())
             }
-            Word::Issue(_) | Word::Finish | Word::Unknown => Err(RowErr::Bad(Code::BadField)),
+            Word::Group | Word::Issue(_) | Word::Finish | Word::Unknown => {
+                Err(RowErr::Bad(Code::BadField))
+            }
+        }
+    }
+
+    // Notes the cap that a field tells.
+    fn note_cap(&mut self, field: &[u8]) -> Result<(), RowErr>
+        ensures noted { OnOk result ((cap : ℕ) × (cap_told field.now ≡ Some cap) × (self.new ≡ record self.old { cap = Some cap })) }
+        ensures bad { (code : Code) → result ≡ Err (RowErr.Bad code) → (code ≡ Code.BadField) × (cap_told field.now ≡ None) }
+    {
+        self.cap = cap_of(field);
+        if self.cap.is_some() {
+            Ok(())
+        } else {
+            Err(RowErr::Bad(Code::BadField))
+        }
+    }
+
+    // Makes the groups, if they are not there: all resources are declared by now.
+    fn make_groups(&mut self, alloc: Global) -> Result<(), RowErr>
+        ensures made { OnOk result (HasGroups self.old self.new) }
+        ensures others { self.new ≡ record self.old { groups = self.new.groups } }
+        ensures memory { IfErr result (λ e. e ≡ RowErr.Memory) }
+    {
+        if self.groups.is_none() && self.resources.len() > 0 {
+            let Ok(groups) = Groups::new(alloc, self.resources.len()) else {
+                return Err(RowErr::Memory);
+            };
+            self.groups = Some(groups);
+        }
+        Ok(())
+    }
+
+    // Takes a read group.
+    fn group(&mut self, alloc: Global, fields: &ByteRecord) -> Result<(), RowErr>
+        requires word { word_of (fields_of fields.now) ≡ Word.Group }
+        requires ready { IsReady self.old }
+        ensures taken { OnOk result (Takes self.old self.new (fields_of fields.now)) }
+        ensures bad { (code : Code) → result ≡ Err (RowErr.Bad code) → Refuses self.old (fields_of fields.now) code }
+    {
+        let Some(set) = set_of(&self.resources, field_of(fields, 1)) else {
+            return Err(RowErr::Bad(self.code_of_unknown()));
+        };
+        if self.refuses_group(set) {
+            return Err(RowErr::Bad(Code::BadField));
+        }
+        if self.misplaces(Word::Group) {
+            return Err(RowErr::Bad(Code::BadOrder));
+        }
+        self.declare_group(alloc, set)
+    }
+
+    // The code of a group that names no resource that there is.
+    fn code_of_unknown(&self) -> Code
+        ensures { result ≡ (if is_bad_group (groups_of self.now).groups None then Code.BadField else Code.UnknownName) }
+    {
+        if self.has_all_groups() {
+            Code::BadField
+        } else {
+            Code::UnknownName
+        }
+    }
+
+    // Whether no such group can be declared: it has no member, or there are as many as there may be.
+    fn refuses_group(&self, group: ResourceSet) -> bool
+        ensures { result ≡ is_bad_group (groups_of self.now).groups (Some group) }
+    {
+        group.len() == 0 || self.has_all_groups()
+    }
+
+    // Whether there are as many groups as there may be.
+    fn has_all_groups(&self) -> bool
+        ensures { result ≡ (length (groups_of self.now).groups == GROUPS) }
+    {
+        match &self.groups {
+            Some(groups) => groups.len() == GROUPS,
+            None => false,
+        }
+    }
+
+    // Adds a group behind the others.
+    fn declare_group(&mut self, alloc: Global, set: ResourceSet) -> Result<(), RowErr>
+        requires some { 0 < length self.old.resources }
+        requires over { (groups_of self.old).q ≡ length self.old.resources }
+        requires below { IsTrue (all_below (length self.old.resources) set) }
+        ensures declared { OnOk result (self.new ≡ record self.old { groups = Some (record (groups_of self.old) { groups = (groups_of self.old).groups ++ set ∷ [] }) }) }
+        ensures memory { IfErr result (λ e. e ≡ RowErr.Memory) }
+    {
+        self.make_groups(alloc)?;
+        let Some(groups) = &mut self.groups else {
+            return Err(RowErr::Memory);
+        };
+        match groups.declare(set) {
+            Ok(()) => Ok(()),
+            Err(_) => Err(RowErr::Memory),
         }
     }
 
     // Takes an issue of this kind.
-    fn issue(&mut self, alloc: Global, kind: Kind, row: &ByteRecord) -> Result<(), RowErr>
-        requires word { word_of (fields_of row.now) ≡ Word.Issue kind }
+    fn issue(&mut self, alloc: Global, kind: Kind, fields: &ByteRecord) -> Result<(), RowErr>
+        requires word { word_of (fields_of fields.now) ≡ Word.Issue kind }
         requires ready { IsReady self.old }
-        ensures taken { OnOk result (Takes self.old self.new (fields_of row.now)) }
-        ensures bad { (code : Code) → result ≡ Err (RowErr.Bad code) → Refuses self.old (fields_of row.now) code }
+        ensures taken { OnOk result (Takes self.old self.new (fields_of fields.now)) }
+        ensures bad { (code : Code) → result ≡ Err (RowErr.Bad code) → Refuses self.old (fields_of fields.now) code }
     {
-        let Some(len) = length_of(field_of(row, 4)) else {
+        let Some(len) = length_of(length_field(kind, fields)) else {
             return Err(RowErr::Bad(Code::BadField));
         };
-        let Some(seat) = self.tasks.number_of(field_of(row, 1)) else {
+        let Some(seat) = self.tasks.number_of(field_of(fields, 1)) else {
             return Err(RowErr::Bad(Code::UnknownName));
         };
-        let Some(set) = set_of(&self.resources, field_of(row, 3)) else {
+        let Some(sets) = sets_of(&self.resources, kind, fields) else {
             return Err(RowErr::Bad(Code::UnknownName));
         };
         if self.misplaces(Word::Issue(kind)) {
             return Err(RowErr::Bad(Code::BadOrder));
         }
-        match request_of(kind, set, len) {
+        let Some(groups) = &self.groups else {
+            return Err(RowErr::Memory);
+        };
+        match request_of(groups, kind, sets.0, sets.1, len) {
             Ok(request) => self.step(alloc, &Event::Issue { seat, request }),
             Err(cause) => Err(RowErr::Bad(Code::Refused(Refusal::Request(cause)))),
         }
     }
 
     // Takes a finish.
-    fn finish_of(&mut self, alloc: Global, row: &ByteRecord) -> Result<(), RowErr>
-        requires word { word_of (fields_of row.now) ≡ Word.Finish }
+    fn finish_of(&mut self, alloc: Global, fields: &ByteRecord) -> Result<(), RowErr>
+        requires word { word_of (fields_of fields.now) ≡ Word.Finish }
         requires ready { IsReady self.old }
-        ensures taken { OnOk result (Takes self.old self.new (fields_of row.now)) }
-        ensures bad { (code : Code) → result ≡ Err (RowErr.Bad code) → Refuses self.old (fields_of row.now) code }
+        ensures taken { OnOk result (Takes self.old self.new (fields_of fields.now)) }
+        ensures bad { (code : Code) → result ≡ Err (RowErr.Bad code) → Refuses self.old (fields_of fields.now) code }
     {
-        let Some(seat) = self.tasks.number_of(field_of(row, 1)) else {
+        let Some(seat) = self.tasks.number_of(field_of(fields, 1)) else {
             return Err(RowErr::Bad(Code::UnknownName));
         };
         if self.misplaces(Word::Finish) {
@@ -209,6 +333,8 @@ impl Reading {
     // Takes an event in its place.
     fn step(&mut self, alloc: Global, event: &Event) -> Result<(), RowErr>
         requires names { (0 < length self.old.resources) × (0 < length self.old.tasks) }
+        requires over { (groups_of self.old).q ≡ length self.old.resources }
+        requires cap { IfSome self.old.cap (λ cap. (1 ≤ cap) × (cap ≤ SEATS)) }
         requires fits { Fits (state_of self.old) event.now }
         ensures stepped { OnOk result (StepsBy self.old self.new event.now) }
         ensures refused { (code : Code) → result ≡ Err (RowErr.Bad code) → Some code ≡ option_map step_code (refusal (state_of self.old) event.now) }
@@ -233,34 +359,49 @@ impl Reading {
 
     // Makes the machine, if it is not there: all names are declared by now.
     fn make_machine(&mut self, alloc: Global) -> Result<(), AllocError>
-        requires { (0 < length self.old.resources) × (0 < length self.old.tasks) }
+        requires names { (0 < length self.old.resources) × (0 < length self.old.tasks) }
+        requires over { (groups_of self.old).q ≡ length self.old.resources }
+        requires cap { IfSome self.old.cap (λ cap. (1 ≤ cap) × (cap ≤ SEATS)) }
         ensures made { OnOk result (IsSome self.new.machine × (state_of self.new ≡ state_of self.old)) }
         ensures others { self.new ≡ record self.old { machine = self.new.machine } }
     {
         if self.machine.is_none() {
+            let groups = match &self.groups {
+                Some(groups) => groups.copy(alloc)?,
+                None => Groups::new(alloc, self.resources.len())?,
+            };
             let tasks = self.tasks.len();
-            self.machine = Some(Plain::new(alloc, self.resources.len(), tasks, tasks)?);
+            let cap = self.cap.unwrap_or(tasks);
+            self.machine = Some(Plain::new(alloc, groups, tasks, cap)?);
         }
         Ok(())
     }
 
     // The list, where the records had their end.
     fn finish(self, line: u64) -> Result<EventList, ListErr>
-        ensures list { IfOk result (λ list. (self.ended ≡ true) × (list.resources ≡ self.resources) × (list.tasks ≡ self.tasks) × (list.history.items ≡ self.history.items)) }
+        ensures list { IfOk result (λ list. (self.ended ≡ true) × (head_kept list ≡ head_of self) × (list.history.items ≡ self.history.items)) }
         ensures no_end { (fault : Fault) → result ≡ Err (ListErr.Bad fault) → (self.ended ≡ false) × (fault ≡ record { line = line; code = Code.NoEnd }) }
     {
         let Reading {
             begun: _,
             resources,
+            groups,
             tasks,
+            cap,
             machine: _,
             history,
             ended,
         } = self;
         if ended {
+            let Some(groups) = groups else {
+                return Err(ListErr::Memory);
+            };
+            let cap = cap.unwrap_or(tasks.len());
             Ok(EventList {
                 resources,
+                groups,
                 tasks,
+                cap,
                 history,
             })
         } else {
@@ -272,14 +413,20 @@ impl Reading {
     }
 }
 
-// The request of this kind for a set.
-fn request_of(kind: Kind, set: ResourceSet, len: u32) -> Result<Request, RequestErr>
+// The request of this kind for these sets, under read groups.
+fn request_of(
+    groups: &Groups,
+    kind: Kind,
+    reads: ResourceSet,
+    writes: ResourceSet,
+    len: u32,
+) -> Result<Request, RequestErr>
     requires { len ≤ LENGTH_LIMIT }
-    ensures made { IfOk result (λ r. (r ≡ normalised kind set set len) × (request_refusal (normalised kind set set len) ≡ None)) }
-    ensures refused { IfErr result (λ cause. request_refusal (normalised kind set set len) ≡ Some cause) }
+    ensures made { IfOk result (λ r. (r ≡ normalised kind reads writes len) × (request_refusal groups.now.groups (normalised kind reads writes len) ≡ None)) }
+    ensures refused { IfErr result (λ cause. request_refusal groups.now.groups (normalised kind reads writes len) ≡ Some cause) }
 {
-    let request = Request::new(kind, set, set, ResourceSet::empty(), len, 0)?;
-    admit(&request)?;
+    let request = Request::new(kind, reads, writes, ResourceSet::empty(), len, 0)?;
+    admit(groups, &request)?;
     Ok(request)
 }
 

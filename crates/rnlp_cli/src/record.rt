@@ -1,7 +1,7 @@
 // What a record of a list is, by the number of its fields and the words in them.
 ghost use Rattle.std.specs.Prelude.{◌≡◌};
 ghost use Rattle.csv.specs.Records.{fields_of};
-ghost use Rattle.rnlp_cli.specs.Records.{word_of, word_alone, word_with, word_of_five, field_of};
+ghost use Rattle.rnlp_cli.specs.Records.{word_of, word_alone, word_with, word_of_five, word_of_six, field_of};
 
 use csv::ByteRecord;
 use rclaim::Kind;
@@ -13,9 +13,13 @@ pub enum Word {
     Version,
     /// `resource,NAME`
     Resource,
+    /// `group,SET`
+    Group,
     /// `task,NAME`
     Task,
-    /// `issue,TASK,KIND,SET,LEN`
+    /// `cap,M`
+    Cap,
+    /// `issue,TASK,KIND,SET,LEN`, or `issue,TASK,mixed,READS,WRITES,LEN`
     Issue(Kind),
     /// `finish,TASK`
     Finish,
@@ -26,13 +30,14 @@ pub enum Word {
 }
 
 /// What a record is.
-pub fn word_of(row: &ByteRecord) -> Word
-    ensures { result ≡ word_of (fields_of row.now) }
+pub fn word_of(fields: &ByteRecord) -> Word
+    ensures { result ≡ word_of (fields_of fields.now) }
 {
-    match row.len() {
-        1 => word_alone(field_of(row, 0)),
-        2 => word_with(field_of(row, 0), field_of(row, 1)),
-        5 => word_of_five(field_of(row, 0), field_of(row, 2)),
+    match fields.len() {
+        1 => word_alone(field_of(fields, 0)),
+        2 => word_with(field_of(fields, 0), field_of(fields, 1)),
+        5 => word_of_five(field_of(fields, 0), field_of(fields, 2)),
+        6 => word_of_six(field_of(fields, 0), field_of(fields, 2)),
         _ => Word::Unknown,
     }
 }
@@ -56,8 +61,12 @@ fn word_with(first: &[u8], second: &[u8]) -> Word
         Word::Finish
     } else if first == b"resource".as_slice() {
         Word::Resource
+    } else if first == b"group".as_slice() {
+        Word::Group
     } else if first == b"task".as_slice() {
         Word::Task
+    } else if first == b"cap".as_slice() {
+        Word::Cap
     } else if first == b"rnlp".as_slice() && second == b"1".as_slice() {
         Word::Version
     } else {
@@ -78,11 +87,22 @@ fn word_of_five(first: &[u8], kind: &[u8]) -> Word
     }
 }
 
-/// The field at a place counted from 0; empty where there is none.
-pub fn field_of(row: &ByteRecord, place: usize) -> &[u8]
-    ensures { result.now ≡ field_of (fields_of row.now) place }
+// What a record of six fields is: its third names the kind of a request.
+fn word_of_six(first: &[u8], kind: &[u8]) -> Word
+    ensures { result ≡ word_of_six first.now kind.now }
 {
-    match row.get(place) {
+    if first == b"issue".as_slice() && kind == b"mixed".as_slice() {
+        Word::Issue(Kind::Mixed)
+    } else {
+        Word::Unknown
+    }
+}
+
+/// The field at a place counted from 0; empty where there is none.
+pub fn field_of(fields: &ByteRecord, place: usize) -> &[u8]
+    ensures { result.now ≡ field_of (fields_of fields.now) place }
+{
+    match fields.get(place) {
         Some(field) => field,
         None => &[],
     }

@@ -1,23 +1,26 @@
 // The report of an event list.
 ghost use Rattle.std.specs.Prelude.{◌≡◌, ◌++◌, ◌∷◌, [], length, map, IfOk, OnOk};
 ghost use Rattle.rnlp_cli.specs.Text.{line, lines_of};
-ghost use Rattle.rnlp_cli.specs.Report.{ledger_row, cap_row, report_around};
+ghost use Rattle.rnlp_cli.specs.Report.{group_row, ledger_row, cap_row, report_around, head_kept};
 
+use crate::history::push_set;
 use crate::list::EventList;
 use crate::text::push_line;
 use itoa::Buffer;
-use rset::NameTable;
+use rexpand::Groups;
+use rset::{NameTable, ResourceSet};
 use std::alloc::{AllocError, Global};
 
 /// The text of the report of a list.
 pub fn report_of(alloc: Global, list: &EventList) -> Result<Vec<u8>, AllocError>
-    ensures { IfOk result (λ text. text.items ≡ report_around list.now.resources list.now.tasks list.now.history.items) }
+    ensures { IfOk result (λ text. text.items ≡ report_around (head_kept list.now) list.now.history.items) }
 {
     let mut text = Vec::new(alloc);
     push_line(&mut text, b"rnlp", &[b"1".as_slice()])?;
     push_names(&mut text, b"resource", &list.resources)?;
+    push_groups(&mut text, &list.resources, &list.groups)?;
     push_names(&mut text, b"task", &list.tasks)?;
-    push_cap(&mut text, list.tasks.len())?;
+    push_cap(&mut text, list.cap)?;
     text.extend_from_slice(&list.history)?;
     push_ledgers(&mut text, &list.resources)?;
     push_line(&mut text, b"end", &[])?;
@@ -31,6 +34,26 @@ fn push_names(text: &mut Vec<u8>, word: &[u8], names: &NameTable) -> Result<(), 
     for n in 0..names.len() {
         push_line(text, word, &[names.name_of(n)])?;
     }
+    Ok(())
+}
+
+// A line for each read group.
+fn push_groups(text: &mut Vec<u8>, names: &NameTable, groups: &Groups) -> Result<(), AllocError>
+    ensures { OnOk result (text.new.items ≡ text.old.items ++ lines_of (map (group_row names.now) groups.now.groups)) }
+{
+    for n in 0..groups.len() {
+        push_group(text, names, groups.at(n))?;
+    }
+    Ok(())
+}
+
+// The line of one read group.
+fn push_group(text: &mut Vec<u8>, names: &NameTable, group: ResourceSet) -> Result<(), AllocError>
+    ensures { OnOk result (text.new.items ≡ text.old.items ++ line (group_row names.now group)) }
+{
+    text.extend_from_slice(b"group")?;
+    push_set(text, names, group)?;
+    text.push(b'\n')?;
     Ok(())
 }
 

@@ -1,4 +1,5 @@
 // Runs of `plain_tool` over memory, with their exact outputs.
+use crate::cases::CASES;
 use crate::{ToolStatus, plain_tool};
 use io_ends::{MemSink, MemSource};
 use std::alloc::Global;
@@ -8,6 +9,9 @@ use std::test::Fail;
 const SMALLEST: &[u8] = b"rnlp,1\nresource,a\ntask,t1\nend\n";
 
 const SMALLEST_REPORT: &[u8] = b"rnlp,1\nresource,a\ntask,t1\ncap,1\nledger,a,0,0\nend\n";
+
+// More bytes than any output here has.
+const ROOM: usize = 200_000;
 
 // The status of a run, and what it wrote. The reads and writes with these numbers fail.
 fn run(
@@ -22,9 +26,18 @@ fn run(
         owned.push(String::from_str(alloc, word)?)?;
     }
     let mut source = MemSource::new(input.to_vec(alloc)?, reads.to_vec(alloc)?);
-    let mut sink = MemSink::new(alloc, 10_000, writes.to_vec(alloc)?)?;
+    let mut sink = MemSink::new(alloc, ROOM, writes.to_vec(alloc)?)?;
     let status = plain_tool(alloc, &owned, &mut source, &mut sink);
     Ok((status, sink.written().to_vec(alloc)?))
+}
+
+// The status with which an output is written.
+fn status_with(output: &[u8]) -> ToolStatus {
+    if output.starts_with(b"error") {
+        ToolStatus::Trace
+    } else {
+        ToolStatus::Done
+    }
 }
 
 // A list of so many resources and one task.
@@ -47,7 +60,7 @@ const WRONG_WORDS: [&[&str]; 5] = [
 ];
 
 // Lists and what is written of them.
-const REPLAYS: [(&[u8], &[u8]); 22] = [
+const REPLAYS: [(&[u8], &[u8]); 32] = [
     (SMALLEST, SMALLEST_REPORT),
     // quotes, carriage returns, blank lines, a byte order mark, no newline at the end
     (
@@ -79,9 +92,44 @@ const REPLAYS: [(&[u8], &[u8]); 22] = [
     // fields
     (b"rnlp,01\nresource,a\ntask,t1\nend\n", b"error,1,1\n"),
     (b"rnlp,1\nresource,a,b\ntask,t1\nend\n", b"error,2,1\n"),
+    (b"rnlp,1\nresource,a\ncap,1\ntask,t1\nend\n", b"error,3,3\n"),
+    (b"rnlp,1\nresource,a\ntask,t1\ncap,0\nend\n", b"error,4,1\n"),
+    (
+        b"rnlp,1\nresource,a\ntask,t1\ncap,65\nend\n",
+        b"error,4,1\n",
+    ),
+    (
+        b"rnlp,1\nresource,a\ntask,t1\ncap,64\nend\n",
+        b"rnlp,1\nresource,a\ntask,t1\ncap,64\nledger,a,0,0\nend\n",
+    ),
+    (
+        b"rnlp,1\nresource,a\ntask,t1\ncap,1\ncap,1\nend\n",
+        b"error,5,3\n",
+    ),
+    (
+        b"rnlp,1\nresource,a\ntask,t1\ncap,1\ntask,t2\nend\n",
+        b"error,5,3\n",
+    ),
+    // groups
     (
         b"rnlp,1\nresource,a\ngroup,a\ntask,t1\nend\n",
+        b"rnlp,1\nresource,a\ngroup,a\ntask,t1\ncap,1\nledger,a,0,0\nend\n",
+    ),
+    (
+        b"rnlp,1\nresource,a\ngroup,-\ntask,t1\nend\n",
         b"error,3,1\n",
+    ),
+    (
+        b"rnlp,1\nresource,a\ngroup,b\ntask,t1\nend\n",
+        b"error,3,2\n",
+    ),
+    (
+        b"rnlp,1\nresource,a\ntask,t1\ngroup,a\nend\n",
+        b"error,4,3\n",
+    ),
+    (
+        b"rnlp,1\nresource,a\ngroup,a\nresource,b\ntask,t1\nend\n",
+        b"error,4,3\n",
     ),
     // order
     (b"resource,a\ntask,t1\nend\n", b"error,1,3\n"),
@@ -182,8 +230,70 @@ fn replays(rt: HostRuntime) -> Result<(), Fail> {
     for (input, output) in REPLAYS {
         let (status, written) = run(rt.alloc(), &["replay"], input, &[], &[])?;
         assert_eq!(rt; written.as_slice(), output);
-        let fits = (status == ToolStatus::Done) != output.starts_with(b"error");
-        assert!(rt; fits && (status == ToolStatus::Done || status == ToolStatus::Trace));
+        assert_eq!(rt; status, status_with(output));
+    }
+    Ok(())
+}
+
+#[test]
+fn cases(rt: HostRuntime) -> Result<(), Fail> {
+    for (input, output) in CASES {
+        let (status, written) = run(rt.alloc(), &["replay"], input, &[], &[])?;
+        assert_eq!(rt; written.as_slice(), output);
+        assert_eq!(rt; status, status_with(output));
+    }
+    Ok(())
+}
+
+// A list of so many groups.
+fn groups_of(alloc: Global, groups: u16) -> Result<Vec<u8>, Fail> {
+    let mut text = String::from_str(alloc, "rnlp,1\nresource,a\n")?;
+    for _ in 0..groups {
+        text.push_str("group,a\n")?;
+    }
+    text.push_str("task,t1\nend\n")?;
+    Ok(text.as_bytes().to_vec(alloc)?)
+}
+
+#[test]
+fn groups_up_to_the_limit(rt: HostRuntime) -> Result<(), Fail> {
+    let alloc = rt.alloc();
+    let (status, _) = run(alloc, &["replay"], &groups_of(alloc, 256)?, &[], &[])?;
+    assert_eq!(rt; status, ToolStatus::Done);
+    let (status, written) = run(alloc, &["replay"], &groups_of(alloc, 257)?, &[], &[])?;
+    assert_eq!(rt; status, ToolStatus::Trace);
+    assert_eq!(rt; written.as_slice(), b"error,259,1\n".as_slice());
+    Ok(())
+}
+
+#[test]
+fn many_records(rt: HostRuntime) -> Result<(), Fail> {
+    let alloc = rt.alloc();
+    let mut text = String::from_str(alloc, HEAD)?;
+    for _ in 0..2_000u16 {
+        text.push_str("issue,t1,write,a,1\nfinish,t1\n")?;
+    }
+    text.push_str("end\n")?;
+    let (status, written) = run(alloc, &["replay"], text.as_bytes(), &[], &[])?;
+    assert_eq!(rt; status, ToolStatus::Done);
+    assert!(rt; written.ends_with(b"finish,t1\nledger,a,0,0\nledger,b,0,0\nend\n"));
+    Ok(())
+}
+
+#[test]
+fn numbers(rt: HostRuntime) -> Result<(), Fail> {
+    let numbers = [
+        (ToolStatus::Done, 0),
+        (ToolStatus::Words, 2),
+        (ToolStatus::ReadFault, 3),
+        (ToolStatus::WriteFault, 4),
+        (ToolStatus::Script, 5),
+        (ToolStatus::TooLong, 6),
+        (ToolStatus::NoMemory, 7),
+        (ToolStatus::Trace, 8),
+    ];
+    for (status, number) in numbers {
+        assert_eq!(rt; status as u8, number);
     }
     Ok(())
 }

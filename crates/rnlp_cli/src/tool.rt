@@ -3,8 +3,8 @@ ghost use Rattle.std.specs.Prelude.{◌≡◌, ◌≢◌, ◌≤◌, ◌<◌, �
 ghost use Rattle.io_ends.specs.Faults.{Rose};
 ghost use Rattle.io_ends.specs.Ends.{Appends, AppendsPrefix, Took, TookAtMost};
 ghost use Rattle.rnlp_cli.specs.Words.{command_in};
-ghost use Rattle.rnlp_cli.specs.Report.{report_around};
-ghost use Rattle.rnlp_cli.specs.Tool.{IsOutput, IsFault, IsRead, IsSilent, IsAnswer, IsWritten, IsRefused, LineWritten};
+ghost use Rattle.rnlp_cli.specs.Report.{report_around, head_kept};
+ghost use Rattle.rnlp_cli.specs.Tool.{IsOutput, IsFault, IsRead, IsSilent, IsAnswer, IsWritten, IsRefused, LineWritten, list_limit};
 
 use crate::list::{EventList, Fault};
 use crate::reading::{ListErr, read_list};
@@ -36,9 +36,13 @@ pub fn plain_tool<S: Source, K: Sink>(
     ensures read_fault { result ≡ ToolStatus.ReadFault → Rose (S.faults source.old) (S.faults source.new) }
     ensures write_fault { result ≡ ToolStatus.WriteFault → Rose (K.faults sink.old) (K.faults sink.new) }
 
+    // No fault goes untold: with every other answer the count is as it was. Under an error line `trace` tells it.
+    ensures read_quiet { result ≢ ToolStatus.ReadFault → S.faults source.new ≡ S.faults source.old }
+    ensures write_quiet { result ≢ ToolStatus.WriteFault → result ≢ ToolStatus.Trace → K.faults sink.new ≡ K.faults sink.old }
+
     // Too long is answered exactly where one byte above the limit was taken.
-    ensures too_long { result ≡ ToolStatus.TooLong → Took (S.left source.old) (S.left source.new) (LIST_LIMIT + 1) }
-    ensures within { result ≢ ToolStatus.TooLong → TookAtMost (S.left source.old) (S.left source.new) LIST_LIMIT }
+    ensures too_long { result ≡ ToolStatus.TooLong → Took (S.left source.old) (S.left source.new) (list_limit + 1) }
+    ensures within { result ≢ ToolStatus.TooLong → TookAtMost (S.left source.old) (S.left source.new) list_limit }
 
     // What was read to its end, and what was written of it.
     ensures ended { IsRead result → IfSome (S.left source.old) (λ _. S.left source.new ≡ Some []) }
@@ -54,11 +58,11 @@ pub fn plain_tool<S: Source, K: Sink>(
     ensures trace { result ≡ ToolStatus.Trace → IfSome (S.left source.old) (λ bytes.
         ((text : List ℕ) → ¬ IsOutput (command_in (map string_bytes words.now)) bytes text)
         × (fault : Fault) × IsFault (command_in (map string_bytes words.now)) bytes fault
-        × LineWritten fault (K.written sink.old) (K.written sink.new) (Rose (K.faults sink.old) (K.faults sink.new))) }
+        × LineWritten fault (K.written sink.old) (K.written sink.new) (K.faults sink.new ≡ K.faults sink.old) (Rose (K.faults sink.old) (K.faults sink.new))) }
     ensures no_script { result ≢ ToolStatus.Script }
 
     // Right words, a valid input within the limit and no rise of either count give Done or want of memory.
-    ensures complete { IfSome (S.left source.old) (λ bytes. (text : List ℕ) → length bytes ≤ LIST_LIMIT
+    ensures complete { IfSome (S.left source.old) (λ bytes. (text : List ℕ) → length bytes ≤ list_limit
         → IsOutput (command_in (map string_bytes words.now)) bytes text
         → ¬ Rose (S.faults source.old) (S.faults source.new) → ¬ Rose (K.faults sink.old) (K.faults sink.new)
         → (result ≡ ToolStatus.Done) ⊎ (result ≡ ToolStatus.NoMemory)) }
@@ -76,7 +80,7 @@ pub fn plain_tool<S: Source, K: Sink>(
 
 // Answers a command for an input that was read.
 fn answer<K: Sink>(alloc: Global, command: Command, bytes: &[u8], sink: &mut K) -> ToolStatus
-    ensures { IsAnswer (Some command) bytes.now (K.written sink.old) (K.written sink.new) (Rose (K.faults sink.old) (K.faults sink.new)) (sink.new ≡ sink.old) result }
+    ensures { IsAnswer (Some command) bytes.now (K.written sink.old) (K.written sink.new) (K.faults sink.new ≡ K.faults sink.old) (Rose (K.faults sink.old) (K.faults sink.new)) (sink.new ≡ sink.old) result }
 {
     match command {
         Command::Replay => replay(alloc, bytes, sink),
@@ -85,7 +89,7 @@ fn answer<K: Sink>(alloc: Global, command: Command, bytes: &[u8], sink: &mut K) 
 
 // Writes the report of an event list.
 fn replay<K: Sink>(alloc: Global, bytes: &[u8], sink: &mut K) -> ToolStatus
-    ensures { IsAnswer (Some Command.Replay) bytes.now (K.written sink.old) (K.written sink.new) (Rose (K.faults sink.old) (K.faults sink.new)) (sink.new ≡ sink.old) result }
+    ensures { IsAnswer (Some Command.Replay) bytes.now (K.written sink.old) (K.written sink.new) (K.faults sink.new ≡ K.faults sink.old) (Rose (K.faults sink.old) (K.faults sink.new)) (sink.new ≡ sink.old) result }
 {
     match read_list(alloc, bytes) {
         Ok(list) => report(alloc, &list, sink),
@@ -96,7 +100,7 @@ fn replay<K: Sink>(alloc: Global, bytes: &[u8], sink: &mut K) -> ToolStatus
 
 // Writes the report of a list.
 fn report<K: Sink>(alloc: Global, list: &EventList, sink: &mut K) -> ToolStatus
-    ensures { IsWritten (report_around list.now.resources list.now.tasks list.now.history.items) (K.written sink.old) (K.written sink.new) (Rose (K.faults sink.old) (K.faults sink.new)) (sink.new ≡ sink.old) result }
+    ensures { IsWritten (report_around (head_kept list.now) list.now.history.items) (K.written sink.old) (K.written sink.new) (K.faults sink.new ≡ K.faults sink.old) (Rose (K.faults sink.old) (K.faults sink.new)) (sink.new ≡ sink.old) result }
 {
     let Ok(text) = report_of(alloc, list) else {
         return ToolStatus::NoMemory;
@@ -109,7 +113,7 @@ fn report<K: Sink>(alloc: Global, list: &EventList, sink: &mut K) -> ToolStatus
 
 // Writes the line of a fault.
 fn refuse<K: Sink>(alloc: Global, fault: Fault, sink: &mut K) -> ToolStatus
-    ensures { IsRefused fault (K.written sink.old) (K.written sink.new) (Rose (K.faults sink.old) (K.faults sink.new)) (sink.new ≡ sink.old) result }
+    ensures { IsRefused fault (K.written sink.old) (K.written sink.new) (K.faults sink.new ≡ K.faults sink.old) (Rose (K.faults sink.old) (K.faults sink.new)) (sink.new ≡ sink.old) result }
 {
     let Ok(text) = error_line(alloc, fault) else {
         return ToolStatus::NoMemory;

@@ -1,4 +1,4 @@
-use Rattle.std.proofs.Common.{◌≡◌, ◌<◌, take, drop, length, rules, arith, length-drop}
+use Rattle.std.proofs.Common.{◌≡◌, ◌∙◌, ◌<◌, take, drop, length, rules, arith, length-drop}
 use Rattle.std.proofs.lemmas.List.{with_items_is, places}
 use Rattle.io_ends.proofs.Taking.{HoldsTaken-more, HoldsTaken-whole}
 use Rattle.io_ends.proofs.reading.read_all.Goals as goal
@@ -25,5 +25,5 @@ loop-filled-preserved g c =
       filled = omega (arith, given.fits, c.in_ok-make_room.ensures.room, c.deref_mut.ensures.len, length-drop filled c.deref_mut.result.now);
       short = c.make_room.ensures.short;
       held = rw now (HoldsTaken-more _ _ _ c.loop-filled.bytes.items (drop filled c.deref_mut.result.now) c.read_behind.new.buffer filled c.in_ok-given.given before.held front given);
-      counted = omega (arith, before.counted, c.read_behind.ensures.counted);
+      quiet = c.in_ok-given.ensures.quiet ∙ before.quiet;
     }

@@ -1,4 +1,4 @@
-use Rattle.std.proofs.Common.{arith, length-drop}
+use Rattle.std.proofs.Common.{◌∙◌, arith, length-drop}
 use Rattle.std.proofs.lemmas.List.{take_rest}
 use Rattle.io_ends.proofs.Appending.{Appends-more}
 use Rattle.io_ends.proofs.writing.write_all.Goals as goal
@@ -12,5 +12,5 @@ loop-done-preserved g c =
     record {
       within = omega (arith, taken.fits, before.within, length-drop done bytes);
       written = Appends-more _ _ _ bytes done c.in_ok-taken.taken before.written (rw (take_rest bytes done) at taken.told);
-      counted = omega (arith, before.counted, c.write.ensures.counted);
+      quiet = c.in_ok-taken.ensures.quiet ∙ before.quiet;
     }

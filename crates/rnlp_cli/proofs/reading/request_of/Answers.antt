@@ -3,26 +3,28 @@ use Rattle.std.specs.Prelude.{Err}
 use Rattle.std.proofs.lemmas.Result.{err_from_is_err_and}
 use Rattle.rnlp_cli.specs.Events.{request_refusal}
 use Rattle.rnlp_cli.proofs.Spelled.{right_request}
-use Rattle.rnlp_cli.proofs.Codes.{refused_empty, refused_many, many_not_admitted, err_cause, err_of}
+use Rattle.rnlp_cli.proofs.Codes.{refused_empty, refused_undeclared, undeclared_of, err_cause, err_of}
 use Rattle.rnlp_cli.proofs.reading.request_of.Goals as goal
 
 pub returns-in_err-request-clause-refused : goal.returns-in_err-request-clause-refused
 returns-in_err-request-clause-refused c =
     let out = err_from_is_err_and c.from_residual.result c.from_residual.ensures.1 in
     let empty = c.in_err-request.ensures.empty.0 (ap Err c.in_err-request.ensures.only) in
-    err_cause c.from_residual.result out.0 _ out.1 (refused_empty c.args.kind c.args.set c.args.len empty ∙ ap Some (sym (out.2 ∙ c.in_err-request.ensures.only)))
+    err_cause c.from_residual.result out.0 _ out.1
+    (refused_empty c.args.groups.now.groups c.args.kind c.args.reads c.args.writes c.args.len empty ∙ ap Some (sym (out.2 ∙ c.in_err-request.ensures.only)))
 
 pub returns-in_err-admit-clause-refused : goal.returns-in_err-admit-clause-refused
 returns-in_err-admit-clause-refused c =
     let out = err_from_is_err_and c.from_residual-in_err-admit.result c.from_residual-in_err-admit.ensures.1 in
-    let normal = c.in_ok-request.ensures.normal in
-    let many = many_not_admitted c.in_ok-request.request normal c.in_err-admit.ensures.admitted.1 in
-    let cause = c.in_err-admit.ensures.undeclared.1 many in
+    let undeclared = undeclared_of c.args.groups.now.groups c.in_ok-request.request c.in_err-admit.ensures.admitted.1 in
+    let cause = c.in_err-admit.ensures.undeclared.1 undeclared in
     err_cause c.from_residual-in_err-admit.result out.0 _ out.1
-    (ap request_refusal (sym c.in_ok-request.ensures.made) ∙ refused_many c.in_ok-request.request normal many ∙ ap Some (sym (out.2 ∙ err_of cause)))
+    (ap (request_refusal c.args.groups.now.groups) (sym c.in_ok-request.ensures.made)
+    ∙ refused_undeclared c.args.groups.now.groups c.in_ok-request.request c.in_ok-request.ensures.normal undeclared ∙ ap Some (sym (out.2 ∙ err_of cause)))
 
 pub returns-clause-made : goal.returns-clause-made
 returns-clause-made c = (
   c.in_ok-request.ensures.made,
-  ap request_refusal (sym c.in_ok-request.ensures.made) ∙ right_request c.in_ok-request.request c.in_ok-request.ensures.normal (c.in_ok-admit.ensures.admitted.0 refl),
+  ap (request_refusal c.args.groups.now.groups) (sym c.in_ok-request.ensures.made)
+      ∙ right_request c.args.groups.now.groups c.in_ok-request.request c.in_ok-request.ensures.normal (c.in_ok-admit.ensures.admitted.0 refl),
 )

@@ -11,7 +11,7 @@ returns-in-Ok-clause-within g c =
 
 pub returns-in-Ok-clause-complete : goal.returns-in-Ok-clause-complete
 returns-in-Ok-clause-complete g c =
-    completed_told _ LIST_LIMIT _ (Some c.in-Some.command) c.in-Ok.bytes.items c.deref.result.now _ _ _ _ _ c.answer.result
+    completed_told _ LIST_LIMIT _ (Some c.in-Some.command) c.in-Ok.bytes.items c.deref.result.now _ _ _ _ _ _ c.answer.result
     (sym c.command_of.ensures ∙ c.in-Some.is) c.deref.ensures.value c.in-Ok.ensures.whole c.answer.ensures
 
 pub returns-in-Err-TooLong-clause-complete : goal.returns-in-Err-TooLong-clause-complete

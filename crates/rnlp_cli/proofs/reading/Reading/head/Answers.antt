@@ -8,23 +8,23 @@ use Rattle.rnlp_cli.proofs.reading.Reading.head.Goals as goal
 
 pub returns-in-Ok-clause-bad : goal.returns-in-Ok-clause-bad
 returns-in-Ok-clause-bad c = λ code is before h.
-    let row = fields_of c.args.row.now in
-    let field = noted_field before row c.args.self.now _ c.args.word _ h (c.field_of.ensures ∙ second-field row) c.in-Ok.ensures.noted in
+    let fields = fields_of c.args.fields.now in
+    let field = noted_field before fields c.args.self.now _ c.args.word _ h (c.field_of.ensures ∙ second-field fields) c.in-Ok.ensures.noted in
     let order = sym (c.misplaces-misplaced.ensures.order before h) ∙ c.if-misplaced.true in
-    code-order before row c.args.word (sym c.requires.word) field (head_known before row c.args.word c.requires.head) order ∙ ap Some (same_bad is)
+    code-order before fields c.args.word (sym c.requires.word) field (head_known before fields c.args.word c.requires.head c.requires.name) order ∙ ap Some (same_bad is)
 
 pub returns-in-Ok-2-clause-taken : goal.returns-in-Ok-2-clause-taken
 returns-in-Ok-2-clause-taken c = λ before h.
-    let row = fields_of c.args.row.now in
-    let second = c.field_of.ensures ∙ second-field row in
-    let field = noted_field before row c.args.self.now _ c.args.word _ h second c.in-Ok-2.ensures.noted in
+    let fields = fields_of c.args.fields.now in
+    let second = c.field_of.ensures ∙ second-field fields in
+    let field = noted_field before fields c.args.self.now _ c.args.word _ h second c.in-Ok-2.ensures.noted in
     let order = sym (c.misplaces-misplaced.ensures.order before h) ∙ c.if-misplaced.false in (
-      code-head before row c.args.word (sym c.requires.word) c.requires.head field order,
-      noted_read before row c.args.self.now _ c.args.word _ h (sym c.requires.word) second order c.in-Ok-2.ensures.noted,
+      code-head before fields c.args.word (sym c.requires.word) c.requires.head field (head_known before fields c.args.word c.requires.head c.requires.name) order,
+      noted_read before fields c.args.self.now _ c.args.word _ h (sym c.requires.word) second order c.in-Ok-2.ensures.noted,
     )
 
 pub returns-in-Err-clause-bad : goal.returns-in-Err-clause-bad
 returns-in-Err-clause-bad c = λ code is before h.
-    let row = fields_of c.args.row.now in
+    let fields = fields_of c.args.fields.now in
     let bad = c.in-Err.ensures.bad code is c.requires.head in
-    code-field before row c.args.word (sym c.requires.word) (bad_noted before row c.args.self.now c.args.word _ h (c.field_of.ensures ∙ second-field row) bad.1) ∙ ap Some (sym bad.0)
+    code-field before fields c.args.word (sym c.requires.word) (bad_noted before fields c.args.self.now c.args.word _ h c.requires.name (c.field_of.ensures ∙ second-field fields) bad.1) ∙ ap Some (sym bad.0)

@@ -4,88 +4,95 @@ use Rattle.csv.specs.Records.{fields_of}
 use Rattle.rset.specs.Names.{number_in}
 use Rattle.rclaim.specs.Requests.{normalised}
 use Rattle.rclaim.specs.declared.event.Event.TheVariants as event
+use Rattle.rexpand.specs.Groups.{ReadGroups}
 use Rattle.rmodel.specs.Steps.{FitsIssue}
-use Rattle.rnlp_cli.specs.Records.{field_of}
-use Rattle.rnlp_cli.specs.Fields.{length_in, set_in}
-use Rattle.rnlp_cli.specs.Events.{request_refusal}
+use Rattle.rnlp_cli.specs.Fields.{length_in}
+use Rattle.rnlp_cli.specs.Events.{sets_in, request_refusal}
 use Rattle.rnlp_cli.specs.Faults.{resources_in}
 use Rattle.rnlp_cli.specs.Reading.{state_of}
 use Rattle.rnlp_cli.specs.declared.record.Word.TheVariants.{Issue}
 use Rattle.rnlp_cli.specs.declared.list.Code.TheVariants.{Refused}
 use Rattle.rnlp_cli.specs.declared.list.Refusal.TheVariants.{Step}
 use Rattle.rnlp_cli.proofs.RecordFields.{second-field}
-use Rattle.rnlp_cli.proofs.Codes.{code-field, code-unknown, code-order, code-event, issue_right, issue_stands, issue_fits, event_taken, event_refused, refusal-right, refusal-wrong}
+use Rattle.rnlp_cli.proofs.Codes.{code-field, code-unknown, code-order, code-event, issue_right, issue_stands, issue_fits, groups_there, event_taken, event_refused, refusal-right, refusal-wrong}
 use Rattle.rnlp_cli.proofs.Results.{on_ok, same_bad}
 use Rattle.rnlp_cli.proofs.reading.Reading.issue.Goals as goal
 
 pub returns-in_default-clause-bad : goal.returns-in_default-clause-bad
 returns-in_default-clause-bad c = λ code is before h.
-    let row = fields_of c.args.row.now in
-    let none = ap length_in (sym c.field_of.ensures) ∙ sym c.length_of.ensures.value ∙ c.in_default.is in
-    code-field before row (Issue c.args.kind) c.requires.word (ap is_none none) ∙ ap Some (same_bad is)
+    let fields = fields_of c.args.fields.now in
+    let none = ap length_in (sym c.length_field.ensures) ∙ sym c.length_of.ensures.value ∙ c.in_default.is in
+    code-field before fields (Issue c.args.kind) c.requires.word (ap is_none none) ∙ ap Some (same_bad is)
 
 pub returns-in_default-number_of-clause-bad : goal.returns-in_default-number_of-clause-bad
 returns-in_default-number_of-clause-bad c = λ code is before h.
-    let row = fields_of c.args.row.now in
-    let told = ap length_in (sym c.field_of.ensures) ∙ sym c.length_of.ensures.value ∙ c.in-Some.is in
-    let unknown = (λ i. number_in (sym h.tasks i) (sym (c.field_of-2.ensures ∙ second-field row) i)) ∙ sym c.number_of.ensures.value ∙ c.in_default-number_of.is in
-    code-unknown before row (Issue c.args.kind) c.requires.word (ap is_none told) (ap (λ o. is_none o || is_none (set_in (resources_in before) (field_of row 3))) unknown) ∙ ap Some (same_bad is)
+    let fields = fields_of c.args.fields.now in
+    let told = ap length_in (sym c.length_field.ensures) ∙ sym c.length_of.ensures.value ∙ c.in-Some.is in
+    let unknown = (λ i. number_in (sym h.tasks i) (sym (c.field_of.ensures ∙ second-field fields) i)) ∙ sym c.number_of.ensures.value ∙ c.in_default-number_of.is in
+    code-unknown before fields (Issue c.args.kind) c.requires.word (ap is_none told) (ap (λ o. is_none o || is_none (sets_in (resources_in before) c.args.kind fields)) unknown) ∙ ap Some (same_bad is)
 
-pub returns-in_default-set_of-clause-bad : goal.returns-in_default-set_of-clause-bad
-returns-in_default-set_of-clause-bad c = λ code is before h.
-    let row = fields_of c.args.row.now in
-    let told = ap length_in (sym c.field_of.ensures) ∙ sym c.length_of.ensures.value ∙ c.in-Some.is in
-    let known = (λ i. number_in (sym h.tasks i) (sym (c.field_of-2.ensures ∙ second-field row) i)) ∙ sym c.number_of.ensures.value ∙ c.in-Some-number_of.is in
-    let unknown = (λ i. set_in (sym h.resources i) (sym c.field_of-3.ensures i)) ∙ sym c.set_of.ensures.value ∙ c.in_default-set_of.is in
-    code-unknown before row (Issue c.args.kind) c.requires.word (ap is_none told) (λ i. is_none (known i) || is_none (unknown i)) ∙ ap Some (same_bad is)
+pub returns-in_default-sets_of-clause-bad : goal.returns-in_default-sets_of-clause-bad
+returns-in_default-sets_of-clause-bad c = λ code is before h.
+    let fields = fields_of c.args.fields.now in
+    let told = ap length_in (sym c.length_field.ensures) ∙ sym c.length_of.ensures.value ∙ c.in-Some.is in
+    let known = (λ i. number_in (sym h.tasks i) (sym (c.field_of.ensures ∙ second-field fields) i)) ∙ sym c.number_of.ensures.value ∙ c.in-Some-number_of.is in
+    let unknown = ap (λ rs. sets_in rs c.args.kind fields) (sym h.resources) ∙ sym c.sets_of.ensures.value ∙ c.in_default-sets_of.is in
+    code-unknown before fields (Issue c.args.kind) c.requires.word (ap is_none told) (λ i. is_none (known i) || is_none (unknown i)) ∙ ap Some (same_bad is)
 
 pub returns-then-misplaces-clause-bad : goal.returns-then-misplaces-clause-bad
 returns-then-misplaces-clause-bad c = λ code is before h.
-    let row = fields_of c.args.row.now in
-    let told = ap length_in (sym c.field_of.ensures) ∙ sym c.length_of.ensures.value ∙ c.in-Some.is in
-    let known = (λ i. number_in (sym h.tasks i) (sym (c.field_of-2.ensures ∙ second-field row) i)) ∙ sym c.number_of.ensures.value ∙ c.in-Some-number_of.is in
-    let members = (λ i. set_in (sym h.resources i) (sym c.field_of-3.ensures i)) ∙ sym c.set_of.ensures.value ∙ c.in-Some-set_of.is in
-    code-order before row (Issue c.args.kind) c.requires.word (ap is_none told) (λ i. is_none (known i) || is_none (members i)) (sym (c.misplaces.ensures.order before h) ∙ c.if-misplaces.true)
+    let fields = fields_of c.args.fields.now in
+    let told = ap length_in (sym c.length_field.ensures) ∙ sym c.length_of.ensures.value ∙ c.in-Some.is in
+    let known = (λ i. number_in (sym h.tasks i) (sym (c.field_of.ensures ∙ second-field fields) i)) ∙ sym c.number_of.ensures.value ∙ c.in-Some-number_of.is in
+    let members = ap (λ rs. sets_in rs c.args.kind fields) (sym h.resources) ∙ sym c.sets_of.ensures.value ∙ c.in-Some-sets_of.is in
+    code-order before fields (Issue c.args.kind) c.requires.word (ap is_none told) (λ i. is_none (known i) || is_none (members i)) (sym (c.misplaces.ensures.order before h) ∙ c.if-misplaces.true)
     ∙ ap Some (same_bad is)
 
 pub step-requires-clause-fits : goal.step-requires-clause-fits
 step-requires-clause-fits c =
+    let groups = groups_there c.args.self.now _ c.requires.ready c.in-Some-groups.is in
     subst (λ r. FitsIssue (state_of c.args.self.now) c.in-Some-number_of.seat r) (sym c.in-Ok.ensures.made.0)
-    (issue_fits c.args.self.now c.args.kind c.in-Some-number_of.seat c.in-Some-set_of.set c.in-Some.len c.requires.ready
-    c.in-Some-number_of.ensures.below c.in-Some-set_of.ensures.below c.in-Some.ensures.bound c.in-Ok.ensures.made.1)
+    (issue_fits c.args.self.now c.args.kind c.in-Some-number_of.seat c.in-Some-sets_of.sets.0 c.in-Some-sets_of.sets.1 c.in-Some.len c.requires.ready
+    c.in-Some-number_of.ensures.below c.in-Some-sets_of.ensures.below.0 c.in-Some-sets_of.ensures.below.1 c.in-Some.ensures.bound
+    (ap (λ (g : ReadGroups). request_refusal g.groups (normalised c.args.kind c.in-Some-sets_of.sets.0 c.in-Some-sets_of.sets.1 c.in-Some.len)) groups ∙ c.in-Ok.ensures.made.1))
 
 pub returns-in-Ok-clause-taken : goal.returns-in-Ok-clause-taken
 returns-in-Ok-clause-taken c =
     on_ok c.step.result _ _ c.step.ensures.stepped (λ steps before h.
-    let row = fields_of c.args.row.now in
-    let told = ap length_in (sym c.field_of.ensures) ∙ sym c.length_of.ensures.value ∙ c.in-Some.is in
-    let task = ap (number_in c.args.self.now.tasks) (sym (c.field_of-2.ensures ∙ second-field row)) ∙ sym c.number_of.ensures.value ∙ c.in-Some-number_of.is in
-    let names = ap (set_in c.args.self.now.resources) (sym c.field_of-3.ensures) ∙ sym c.set_of.ensures.value ∙ c.in-Some-set_of.is in
+    let fields = fields_of c.args.fields.now in
+    let told = ap length_in (sym c.length_field.ensures) ∙ sym c.length_of.ensures.value ∙ c.in-Some.is in
+    let task = ap (number_in c.args.self.now.tasks) (sym (c.field_of.ensures ∙ second-field fields)) ∙ sym c.number_of.ensures.value ∙ c.in-Some-number_of.is in
+    let names = sym c.sets_of.ensures.value ∙ c.in-Some-sets_of.is in
     let order = sym (c.misplaces.ensures.order before h) ∙ c.if-misplaces.false in
-    let right = issue_stands before row c.args.self.now c.args.kind c.in-Some-number_of.seat c.in-Some-set_of.set c.in-Some.len c.in-Ok.request h c.requires.word task names told order c.in-Ok.ensures.made.0 in
-    let lock = refusal-right (state_of c.args.self.now) c.in-Some-number_of.seat c.in-Ok.request (ap request_refusal c.in-Ok.ensures.made.0 ∙ c.in-Ok.ensures.made.1) in
-    event_taken before row (Issue c.args.kind) _ c.args.self.now c.step.new.self h right (lock ∙ ap (option_map Step) steps.accepted) steps)
+    let groups = groups_there c.args.self.now _ c.requires.ready c.in-Some-groups.is in
+    let right = issue_stands before fields c.args.self.now c.args.kind c.in-Some-number_of.seat c.in-Some-sets_of.sets c.in-Some.len c.in-Ok.request h c.requires.word task names told order c.in-Ok.ensures.made.0 in
+    let lock = refusal-right (state_of c.args.self.now) c.in-Some-number_of.seat c.in-Ok.request
+    (ap (λ (g : ReadGroups). request_refusal g.groups c.in-Ok.request) groups ∙ ap (request_refusal _) c.in-Ok.ensures.made.0 ∙ c.in-Ok.ensures.made.1) in
+    event_taken before fields (Issue c.args.kind) _ c.args.self.now c.step.new.self h right (lock ∙ ap (option_map Step) steps.accepted) steps)
 
 pub returns-in-Ok-clause-bad : goal.returns-in-Ok-clause-bad
 returns-in-Ok-clause-bad c = λ code is before h.
-    let row = fields_of c.args.row.now in
-    let told = ap length_in (sym c.field_of.ensures) ∙ sym c.length_of.ensures.value ∙ c.in-Some.is in
-    let task = ap (number_in c.args.self.now.tasks) (sym (c.field_of-2.ensures ∙ second-field row)) ∙ sym c.number_of.ensures.value ∙ c.in-Some-number_of.is in
-    let names = ap (set_in c.args.self.now.resources) (sym c.field_of-3.ensures) ∙ sym c.set_of.ensures.value ∙ c.in-Some-set_of.is in
+    let fields = fields_of c.args.fields.now in
+    let told = ap length_in (sym c.length_field.ensures) ∙ sym c.length_of.ensures.value ∙ c.in-Some.is in
+    let task = ap (number_in c.args.self.now.tasks) (sym (c.field_of.ensures ∙ second-field fields)) ∙ sym c.number_of.ensures.value ∙ c.in-Some-number_of.is in
+    let names = sym c.sets_of.ensures.value ∙ c.in-Some-sets_of.is in
     let order = sym (c.misplaces.ensures.order before h) ∙ c.if-misplaces.false in
-    let right = issue_stands before row c.args.self.now c.args.kind c.in-Some-number_of.seat c.in-Some-set_of.set c.in-Some.len c.in-Ok.request h c.requires.word task names told order c.in-Ok.ensures.made.0 in
-    let lock = refusal-right (state_of c.args.self.now) c.in-Some-number_of.seat c.in-Ok.request (ap request_refusal c.in-Ok.ensures.made.0 ∙ c.in-Ok.ensures.made.1) in
-    event_refused before row (Issue c.args.kind) _ c.args.self.now code h right lock (c.step.ensures.refused code is)
+    let groups = groups_there c.args.self.now _ c.requires.ready c.in-Some-groups.is in
+    let right = issue_stands before fields c.args.self.now c.args.kind c.in-Some-number_of.seat c.in-Some-sets_of.sets c.in-Some.len c.in-Ok.request h c.requires.word task names told order c.in-Ok.ensures.made.0 in
+    let lock = refusal-right (state_of c.args.self.now) c.in-Some-number_of.seat c.in-Ok.request
+    (ap (λ (g : ReadGroups). request_refusal g.groups c.in-Ok.request) groups ∙ ap (request_refusal _) c.in-Ok.ensures.made.0 ∙ c.in-Ok.ensures.made.1) in
+    event_refused before fields (Issue c.args.kind) _ c.args.self.now code h right lock (c.step.ensures.refused code is)
 
 pub returns-in-Err-clause-bad : goal.returns-in-Err-clause-bad
 returns-in-Err-clause-bad c = λ code is before h.
-    let row = fields_of c.args.row.now in
-    let told = ap length_in (sym c.field_of.ensures) ∙ sym c.length_of.ensures.value ∙ c.in-Some.is in
-    let task = ap (number_in c.args.self.now.tasks) (sym (c.field_of-2.ensures ∙ second-field row)) ∙ sym c.number_of.ensures.value ∙ c.in-Some-number_of.is in
-    let names = ap (set_in c.args.self.now.resources) (sym c.field_of-3.ensures) ∙ sym c.set_of.ensures.value ∙ c.in-Some-set_of.is in
+    let fields = fields_of c.args.fields.now in
+    let told = ap length_in (sym c.length_field.ensures) ∙ sym c.length_of.ensures.value ∙ c.in-Some.is in
+    let task = ap (number_in c.args.self.now.tasks) (sym (c.field_of.ensures ∙ second-field fields)) ∙ sym c.number_of.ensures.value ∙ c.in-Some-number_of.is in
+    let names = sym c.sets_of.ensures.value ∙ c.in-Some-sets_of.is in
     let order = sym (c.misplaces.ensures.order before h) ∙ c.if-misplaces.false in
-    let made = normalised c.args.kind c.in-Some-set_of.set c.in-Some-set_of.set c.in-Some.len in
-    let right = issue_right before row c.args.self.now c.args.kind c.in-Some-number_of.seat c.in-Some-set_of.set c.in-Some.len h c.requires.word task names told order in
-    code-event before row (Issue c.args.kind) (event.Issue c.in-Some-number_of.seat made) c.args.self.now h right
-    ∙ ap (option_map Refused) (refusal-wrong (state_of c.args.self.now) c.in-Some-number_of.seat made c.in-Err.cause c.in-Err.ensures.refused)
+    let groups = groups_there c.args.self.now _ c.requires.ready c.in-Some-groups.is in
+    let made = normalised c.args.kind c.in-Some-sets_of.sets.0 c.in-Some-sets_of.sets.1 c.in-Some.len in
+    let right = issue_right before fields c.args.self.now c.args.kind c.in-Some-number_of.seat c.in-Some-sets_of.sets c.in-Some.len h c.requires.word task names told order in
+    code-event before fields (Issue c.args.kind) (event.Issue c.in-Some-number_of.seat made) c.args.self.now h right
+    ∙ ap (option_map Refused) (refusal-wrong (state_of c.args.self.now) c.in-Some-number_of.seat made c.in-Err.cause (ap (λ (g : ReadGroups). request_refusal g.groups made) groups ∙ c.in-Err.ensures.refused))
     ∙ ap Some (same_bad is)

@@ -1,0 +1,810 @@
+// Worked lists, and what is written of each.
+
+/// Each list with what `replay` writes of it.
+pub const CASES: [(&[u8], &[u8]); 39] = [
+    // a read and a write wait for a write without wait lines
+    (
+        b"rnlp,1
+resource,a
+resource,b
+task,t1
+task,t2
+task,t3
+issue,t1,write,a+b,2
+issue,t2,read,a,1
+issue,t3,write,b,1
+finish,t1
+end
+",
+        b"rnlp,1
+resource,a
+resource,b
+task,t1
+task,t2
+task,t3
+cap,3
+issue,t1,write,a+b,2
+now,t1,write,satisfied
+grant,t1,a+b
+issue,t2,read,a,1
+now,t2,read,entitled
+issue,t3,write,b,1
+finish,t1
+now,t2,read,satisfied
+now,t3,write,satisfied
+grant,t2,a
+grant,t3,b
+ledger,a,0,0
+ledger,b,0,0
+end
+",
+    ),
+    // blank lines are no records
+    (
+        b"rnlp,1\n\n\nresource,a\n\ntask,t1\n\nfinish,t1\nend\n",
+        b"error,4,4,3\n",
+    ),
+    // busy seat stands before a full cap
+    (
+        b"rnlp,1
+resource,a
+resource,b
+resource,c
+resource,e
+group,a+b
+group,b+c
+task,t1
+task,t2
+task,t3
+task,t4
+cap,2
+issue,t1,read,a,1
+issue,t2,read,a,1
+issue,t1,read,a,1
+end
+",
+        b"error,15,4,1\n",
+    ),
+    // empty list
+    (b"", b"error,1,8\n"),
+    // entitlement keeps out only conflicts without wait lines
+    (
+        b"rnlp,1
+resource,a
+resource,b
+resource,c
+resource,e
+group,a+b
+group,b+c
+task,t1
+task,t2
+task,t3
+task,t4
+issue,t1,read,a+b,3
+issue,t2,write,a,2
+issue,t3,read,a,1
+issue,t4,read,b,1
+finish,t1
+finish,t2
+end
+",
+        b"rnlp,1
+resource,a
+resource,b
+resource,c
+resource,e
+group,a+b
+group,b+c
+task,t1
+task,t2
+task,t3
+task,t4
+cap,4
+issue,t1,read,a+b,3
+now,t1,read,satisfied
+grant,t1,a+b
+issue,t2,write,a,2
+now,t2,write,entitled
+issue,t3,read,a,1
+issue,t4,read,b,1
+now,t4,read,satisfied
+grant,t4,b
+finish,t1
+now,t2,write,satisfied
+now,t3,read,entitled
+grant,t2,a
+finish,t2
+now,t3,read,satisfied
+grant,t3,a
+ledger,a,0,0
+ledger,b,0,0
+ledger,c,0,0
+ledger,e,0,0
+end
+",
+    ),
+    // expansion makes a write wait without wait lines
+    (
+        b"rnlp,1
+resource,a
+resource,b
+resource,c
+resource,e
+group,a+b
+group,b+c
+task,t1
+task,t2
+task,t3
+task,t4
+issue,t1,write,a,2
+issue,t2,write,b,5
+finish,t1
+end
+",
+        b"rnlp,1
+resource,a
+resource,b
+resource,c
+resource,e
+group,a+b
+group,b+c
+task,t1
+task,t2
+task,t3
+task,t4
+cap,4
+issue,t1,write,a,2
+now,t1,write,satisfied
+grant,t1,a
+issue,t2,write,b,5
+finish,t1
+now,t2,write,satisfied
+grant,t2,b
+ledger,a,0,0
+ledger,b,0,0
+ledger,c,0,0
+ledger,e,0,0
+end
+",
+    ),
+    // finish before any issue
+    (
+        b"rnlp,1\nresource,a\nresource,b\ntask,t1\nfinish,t1\nend\n",
+        b"error,5,4,3\n",
+    ),
+    // group with repeats in another order
+    (
+        b"rnlp,1\nresource,b\nresource,a\ngroup,a+b+b\ntask,t1\nend\n",
+        b"rnlp,1
+resource,b
+resource,a
+group,b+a
+task,t1
+cap,1
+ledger,b,0,0
+ledger,a,0,0
+end
+",
+    ),
+    // issue after a finish made room under the cap
+    (
+        b"rnlp,1
+resource,a
+resource,b
+resource,c
+resource,e
+group,a+b
+group,b+c
+task,t1
+task,t2
+task,t3
+task,t4
+cap,2
+issue,t1,read,a,1
+issue,t2,read,a,1
+finish,t1
+issue,t3,read,a,1
+end
+",
+        b"rnlp,1
+resource,a
+resource,b
+resource,c
+resource,e
+group,a+b
+group,b+c
+task,t1
+task,t2
+task,t3
+task,t4
+cap,2
+issue,t1,read,a,1
+now,t1,read,satisfied
+grant,t1,a
+issue,t2,read,a,1
+now,t2,read,satisfied
+grant,t2,a
+finish,t1
+issue,t3,read,a,1
+now,t3,read,satisfied
+grant,t3,a
+ledger,a,0,0
+ledger,b,0,0
+ledger,c,0,0
+ledger,e,0,0
+end
+",
+    ),
+    // issue of an empty write
+    (
+        b"rnlp,1\nresource,a\nresource,b\ntask,t1\nissue,t1,write,-,1\nend\n",
+        b"error,5,4,7\n",
+    ),
+    // issue of an unknown task
+    (
+        b"rnlp,1\nresource,a\nresource,b\ntask,t1\nissue,t2,read,a,1\nend\n",
+        b"error,5,2\n",
+    ),
+    // issue past the cap
+    (
+        b"rnlp,1
+resource,a
+resource,b
+resource,c
+resource,e
+group,a+b
+group,b+c
+task,t1
+task,t2
+task,t3
+task,t4
+cap,2
+issue,t1,read,a,1
+issue,t2,read,a,1
+issue,t3,read,a,1
+end
+",
+        b"error,15,4,2\n",
+    ),
+    // length above its limit
+    (
+        b"rnlp,1\nresource,a\ntask,t1\nissue,t1,write,a,1000001\nend\n",
+        b"error,4,1\n",
+    ),
+    // length at its limit
+    (
+        b"rnlp,1\nresource,a\ntask,t1\nissue,t1,write,a,1000000\nend\n",
+        b"rnlp,1
+resource,a
+task,t1
+cap,1
+issue,t1,write,a,1000000
+now,t1,write,satisfied
+grant,t1,a
+ledger,a,0,0
+end
+",
+    ),
+    // list of too many resources of 64
+    (
+        b"rnlp,1
+resource,r0
+resource,r1
+resource,r2
+resource,r3
+resource,r4
+resource,r5
+resource,r6
+resource,r7
+resource,r8
+resource,r9
+resource,r10
+resource,r11
+resource,r12
+resource,r13
+resource,r14
+resource,r15
+resource,r16
+resource,r17
+resource,r18
+resource,r19
+resource,r20
+resource,r21
+resource,r22
+resource,r23
+resource,r24
+resource,r25
+resource,r26
+resource,r27
+resource,r28
+resource,r29
+resource,r30
+resource,r31
+resource,r32
+resource,r33
+resource,r34
+resource,r35
+resource,r36
+resource,r37
+resource,r38
+resource,r39
+resource,r40
+resource,r41
+resource,r42
+resource,r43
+resource,r44
+resource,r45
+resource,r46
+resource,r47
+resource,r48
+resource,r49
+resource,r50
+resource,r51
+resource,r52
+resource,r53
+resource,r54
+resource,r55
+resource,r56
+resource,r57
+resource,r58
+resource,r59
+resource,r60
+resource,r61
+resource,r62
+resource,r63
+resource,r64
+",
+        b"error,66,1\n",
+    ),
+    // list with a byte order mark
+    (
+        b"\xEF\xBB\xBFrnlp,1\nresource,a\ntask,t1\nissue,t1,write,a,7\nend\n",
+        b"rnlp,1
+resource,a
+task,t1
+cap,1
+issue,t1,write,a,7
+now,t1,write,satisfied
+grant,t1,a
+ledger,a,0,0
+end
+",
+    ),
+    // list with a quote that is never closed
+    (
+        b"rnlp,1\nresource,a\ntask,t1\nissue,t1,write,a,7\nend\n\"",
+        b"error,6,1\n",
+    ),
+    // list with blank lines
+    (
+        b"\n\nrnlp,1\n\r\n\nresource,a\n\r\n\ntask,t1\n\r\n\nissue,t1,write,a,7\n\r\n\nend\n\r\n\n",
+        b"rnlp,1
+resource,a
+task,t1
+cap,1
+issue,t1,write,a,7
+now,t1,write,satisfied
+grant,t1,a
+ledger,a,0,0
+end
+",
+    ),
+    // list with carriage returns
+    (
+        b"rnlp,1\r\nresource,a\r\ntask,t1\r\nissue,t1,write,a,7\r\nend\r\n",
+        b"rnlp,1
+resource,a
+task,t1
+cap,1
+issue,t1,write,a,7
+now,t1,write,satisfied
+grant,t1,a
+ledger,a,0,0
+end
+",
+    ),
+    // list with carriage returns alone
+    (
+        b"rnlp,1\rresource,a\rtask,t1\rissue,t1,write,a,7\rend\r",
+        b"rnlp,1
+resource,a
+task,t1
+cap,1
+issue,t1,write,a,7
+now,t1,write,satisfied
+grant,t1,a
+ledger,a,0,0
+end
+",
+    ),
+    // list with quoted fields
+    (
+        b"\"rnlp\",\"1\"\nresource,\"a\"\n\"task\",t1\n\"issue\",\"t1\",\"write\",\"a\",\"7\"\n\"end\"\n",
+        b"rnlp,1
+resource,a
+task,t1
+cap,1
+issue,t1,write,a,7
+now,t1,write,satisfied
+grant,t1,a
+ledger,a,0,0
+end
+",
+    ),
+    // list without a last newline
+    (
+        b"rnlp,1\nresource,a\ntask,t1\nissue,t1,write,a,7\nend",
+        b"rnlp,1
+resource,a
+task,t1
+cap,1
+issue,t1,write,a,7
+now,t1,write,satisfied
+grant,t1,a
+ledger,a,0,0
+end
+",
+    ),
+    // mere place locks nothing
+    (
+        b"rnlp,1
+resource,a
+resource,b
+resource,c
+resource,e
+group,a+b
+group,b+c
+task,t1
+task,t2
+task,t3
+task,t4
+issue,t1,write,a,2
+issue,t2,read,b,1
+end
+",
+        b"rnlp,1
+resource,a
+resource,b
+resource,c
+resource,e
+group,a+b
+group,b+c
+task,t1
+task,t2
+task,t3
+task,t4
+cap,4
+issue,t1,write,a,2
+now,t1,write,satisfied
+grant,t1,a
+issue,t2,read,b,1
+now,t2,read,satisfied
+grant,t2,b
+ledger,a,0,0
+ledger,b,0,0
+ledger,c,0,0
+ledger,e,0,0
+end
+",
+    ),
+    // mixed section holds up a write by its reading without wait lines
+    (
+        b"rnlp,1
+resource,a
+resource,b
+resource,c
+resource,e
+group,a+b
+group,b+c
+task,t1
+task,t2
+task,t3
+task,t4
+issue,t1,mixed,a,e,2
+issue,t2,read,a,3
+issue,t3,write,a,1
+finish,t2
+finish,t1
+end
+",
+        b"rnlp,1
+resource,a
+resource,b
+resource,c
+resource,e
+group,a+b
+group,b+c
+task,t1
+task,t2
+task,t3
+task,t4
+cap,4
+issue,t1,mixed,a,e,2
+now,t1,write,satisfied
+grant,t1,a+e
+issue,t2,read,a,3
+now,t2,read,satisfied
+grant,t2,a
+issue,t3,write,a,1
+now,t3,write,entitled
+finish,t2
+finish,t1
+now,t3,write,satisfied
+grant,t3,a
+ledger,a,0,0
+ledger,b,0,0
+ledger,c,0,0
+ledger,e,0,0
+end
+",
+    ),
+    // mixed that names a resource in both sets
+    (
+        b"rnlp,1
+resource,b
+resource,a
+task,t1
+issue,t1,mixed,a+b,a,1
+end
+",
+        b"rnlp,1
+resource,b
+resource,a
+task,t1
+cap,1
+issue,t1,mixed,b,a,1
+now,t1,write,satisfied
+grant,t1,b+a
+ledger,b,0,0
+ledger,a,0,0
+end
+",
+    ),
+    // mixed that reads only what it writes
+    (
+        b"rnlp,1
+resource,b
+resource,a
+task,t1
+issue,t1,mixed,a,a,1
+end
+",
+        b"rnlp,1
+resource,b
+resource,a
+task,t1
+cap,1
+issue,t1,mixed,-,a,1
+now,t1,write,satisfied
+grant,t1,a
+ledger,b,0,0
+ledger,a,0,0
+end
+",
+    ),
+    // mixed without writes
+    (
+        b"rnlp,1
+resource,b
+resource,a
+task,t1
+issue,t1,mixed,a,-,1
+end
+",
+        b"error,5,4,7\n",
+    ),
+    // name of seventeen bytes
+    (
+        b"rnlp,1
+resource,a
+task,ttttttttttttttttt
+issue,ttttttttttttttttt,write,a,7
+end
+",
+        b"error,3,1\n",
+    ),
+    // name of sixteen bytes
+    (
+        b"rnlp,1
+resource,a
+task,tttttttttttttttt
+issue,tttttttttttttttt,write,a,7
+end
+",
+        b"rnlp,1
+resource,a
+task,tttttttttttttttt
+cap,1
+issue,tttttttttttttttt,write,a,7
+now,tttttttttttttttt,write,satisfied
+grant,tttttttttttttttt,a
+ledger,a,0,0
+end
+",
+    ),
+    // name with a newline in quotes
+    (b"rnlp,1\nresource,\"a\nb\"\ntask,t1\nend\n", b"error,2,1\n"),
+    // number of too many digits
+    (
+        b"rnlp,1
+resource,a
+task,t1
+issue,t1,write,a,000000000000000000007
+end
+",
+        b"error,4,1\n",
+    ),
+    // number with leading zeros
+    (
+        b"rnlp,1
+resource,a
+task,t1
+issue,t1,write,a,00000000000000000007
+end
+",
+        b"rnlp,1
+resource,a
+task,t1
+cap,1
+issue,t1,write,a,7
+now,t1,write,satisfied
+grant,t1,a
+ledger,a,0,0
+end
+",
+    ),
+    // read of an undeclared set
+    (
+        b"rnlp,1
+resource,a
+resource,b
+resource,c
+group,a+b
+task,t1
+issue,t1,read,b+c,1
+end
+",
+        b"error,7,4,8\n",
+    ),
+    // read of two resources without a group
+    (
+        b"rnlp,1
+resource,a
+resource,b
+task,t1
+issue,t1,read,a+b,1
+end
+",
+        b"error,5,4,8\n",
+    ),
+    // second issue of a busy seat
+    (
+        b"rnlp,1
+resource,a
+resource,b
+task,t1
+issue,t1,write,a,1
+issue,t1,write,a,1
+end
+",
+        b"error,6,4,1\n",
+    ),
+    // set with repeats in another order
+    (
+        b"rnlp,1
+resource,b
+resource,a
+task,t1
+issue,t1,write,a+b+a,1
+end
+",
+        b"rnlp,1
+resource,b
+resource,a
+task,t1
+cap,1
+issue,t1,write,b+a,1
+now,t1,write,satisfied
+grant,t1,b+a
+ledger,b,0,0
+ledger,a,0,0
+end
+",
+    ),
+    // shared place that nobody locks
+    (
+        b"rnlp,1
+resource,a
+resource,b
+resource,c
+resource,e
+group,a+b
+group,b+c
+task,t1
+task,t2
+task,t3
+task,t4
+issue,t1,write,a,2
+issue,t3,write,c,2
+end
+",
+        b"rnlp,1
+resource,a
+resource,b
+resource,c
+resource,e
+group,a+b
+group,b+c
+task,t1
+task,t2
+task,t3
+task,t4
+cap,4
+issue,t1,write,a,2
+now,t1,write,satisfied
+grant,t1,a
+issue,t3,write,c,2
+now,t3,write,satisfied
+grant,t3,c
+ledger,a,0,0
+ledger,b,0,0
+ledger,c,0,0
+ledger,e,0,0
+end
+",
+    ),
+    // smallest list
+    (
+        b"rnlp,1\nresource,a\ntask,t1\nend\n",
+        b"rnlp,1\nresource,a\ntask,t1\ncap,1\nledger,a,0,0\nend\n",
+    ),
+    // waiting read keeps write back without wait lines
+    (
+        b"rnlp,1
+resource,a
+resource,b
+resource,c
+resource,e
+group,a+b
+group,b+c
+task,t1
+task,t2
+task,t3
+task,t4
+issue,t1,write,a,2
+issue,t2,read,a+b,3
+issue,t3,write,c,4
+finish,t1
+end
+",
+        b"rnlp,1
+resource,a
+resource,b
+resource,c
+resource,e
+group,a+b
+group,b+c
+task,t1
+task,t2
+task,t3
+task,t4
+cap,4
+issue,t1,write,a,2
+now,t1,write,satisfied
+grant,t1,a
+issue,t2,read,a+b,3
+now,t2,read,entitled
+issue,t3,write,c,4
+finish,t1
+now,t2,read,satisfied
+now,t3,write,satisfied
+grant,t2,a+b
+grant,t3,c
+ledger,a,0,0
+ledger,b,0,0
+ledger,c,0,0
+ledger,e,0,0
+end
+",
+    ),
+];
