@@ -178,7 +178,7 @@ reads_same xs i d y h same read =
     one : (all : Reads) → with_read all y ≡ with_read all (get_or xs i d)
     one all =
         by_status all y.claim.write_half y.claim.reads y.status (get_or xs i d).status read
-        ∙ ap (λ (c : Claim). with_read all (record { claim = c; status = (get_or xs i d).status })) same
+        ∙ ap (λ (c : Claim). with_read all (record (get_or xs i d) { claim = c })) same
 
 -- where no read is unsatisfied, none is near
 none_near : (all s : Set) (xs : List Claimed) → AllByRecursion AtRest xs

@@ -1,13 +1,12 @@
 -- Lists of accepted events: one more event, what stays, and that a step leads to one state.
 use Rattle.std.proofs.Common.{◌≡◌, ℕ, ◌+◌, ◌≤◌, List, [], ◌∷◌, ◌++◌, length, refl, ap, ◌∙◌, arith}
 use Rattle.rexpand.specs.Groups.{ReadGroups}
-use Rattle.rclaim.specs.Events.{IsNormalEvent}
 use Rattle.rclaim.specs.declared.event.Event.{Event}
-use Rattle.rclaim.specs.declared.event.Event.TheVariants.{Issue, Finish}
+use Rattle.rclaim.specs.declared.event.Event.TheVariants.{Issue, Finish, Rise, Ask}
 use Rattle.rmodel.specs.declared.claimed.Claimed.{Claimed}
 use Rattle.rmodel.specs.Settling.{settled}
 use Rattle.rmodel.specs.State.{LockState, opening}
-use Rattle.rmodel.specs.Steps.{Steps, changed, next, after, Comes, AreAccepted}
+use Rattle.rmodel.specs.Steps.{Steps, changed, next, given, after, Comes, AreAccepted}
 use Rattle.rmodel.specs.WellFormed.{IsSound}
 use Rattle.rmodel.proofs.OneSettlement.{only_one}
 use Rattle.rmodel.proofs.Settlement.{settles_settled}
@@ -42,6 +41,8 @@ pub record SameSizes (s t : LockState) : Type 0 where
 pub sizes_next : (s : LockState) (e : Event) → SameSizes s (next s e)
 sizes_next s (Issue seat r) = record { groups = refl; seats = refl; cap = refl }
 sizes_next s (Finish seat) = record { groups = refl; seats = refl; cap = refl }
+sizes_next s (Rise seat) = record { groups = refl; seats = refl; cap = refl }
+sizes_next s (Ask seat part) = record { groups = refl; seats = refl; cap = refl }
 
 pub sizes_after : (s : LockState) (es : List Event) → SameSizes s (after s es)
 sizes_after s [] = record { groups = refl; seats = refl; cap = refl }
@@ -58,15 +59,17 @@ issued_after s (e ∷ es) = let rest = issued_after (next s e) es in let one = i
     issued_next : (s : LockState) (e : Event) → (next s e).issued ≤ s.issued + 1
     issued_next s (Issue seat r) = omega arith
     issued_next s (Finish seat) = omega arith
+    issued_next s (Rise seat) = omega arith
+    issued_next s (Ask seat part) = omega arith
 
 -- the states that accepted events lead to are sound
 pub sound_after : (groups : ReadGroups) (seats cap : ℕ) (es : List Event) → AreAccepted (opening groups seats cap) es → IsSound (after (opening groups seats cap) es)
 sound_after groups seats cap es accepted = (reached_after (opening groups seats cap) es (reached_opening groups seats cap) accepted).sound
 
 -- a step leads to one state
-pub step_to_next : (s t : LockState) (e : Event) → IsSound s → IsNormalEvent e → Steps s e t → t ≡ next s e
-step_to_next s t e sound normal step =
-    let well = (sound_changed s e sound normal step.accepted).well_formed in
+pub step_to_next : (s t : LockState) (e : Event) → IsSound s → Comes s e → Steps s e t → t ≡ next s e
+step_to_next s t e sound comes step =
+    let well = (sound_changed s e sound comes).well_formed in
     step.others
-    ∙ ap (λ (xs : List Claimed). let u : LockState = record (changed s e) { claims = xs } in u)
-    (only_one (changed s e).claims t.claims (settled (changed s e).claims) step.settles (settles_settled (changed s e).claims well))
+    ∙ ap (λ (xs : List Claimed). let u : LockState = record (changed s e) { claims = given xs } in u)
+    (only_one (changed s e).claims step.settled_to (settled (changed s e).claims) step.settles (settles_settled (changed s e).claims well))

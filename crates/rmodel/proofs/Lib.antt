@@ -18,6 +18,7 @@ pub mod OneWrite
 pub mod Turns
 pub mod EarlyGrants
 pub mod Standing
+pub mod Giving
 pub mod Reached
 pub mod Exclusive
 pub mod Earliest

@@ -35,6 +35,14 @@ active_of_satisfied Waiting h = absurd (true≢false (sym h))
 active_of_satisfied Entitled h = refl
 active_of_satisfied Satisfied h = refl
 
+-- a read half is a read claim
+pub read_of_half : (c : Claim) → is_read_half c ≡ true → c.write_half ≡ false
+read_of_half c h = from_test c.write_half (and_parts _ (not c.write_half) h).1
+  where
+    from_test : (b : Bool) → not b ≡ true → b ≡ false
+    from_test true no-write = sym no-write
+    from_test false no-write = refl
+
 -- ---- what is known of an accepted event
 
 passed : (b : Bool) (cause : Refused) (rest : Option Refused) → cond b (Some cause) rest ≡ None → (b ≡ false) × (rest ≡ None)

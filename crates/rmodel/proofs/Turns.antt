@@ -15,8 +15,8 @@ use Rattle.rmodel.proofs.ListFacts.{Among, contrary, false_from, passing, all_at
 use Rattle.rmodel.proofs.OneSettlement.{both_cases}
 use Rattle.rmodel.proofs.OneWrite.{one_keeps}
 use Rattle.rmodel.proofs.Admitted.{admitted_settled}
-use Rattle.rmodel.proofs.Keeping.{conflicts_symmetric, exclusive_settled, not_false}
-use Rattle.rmodel.proofs.Soundness.{active_of_satisfied, same_claims, distinct_same}
+use Rattle.rmodel.proofs.Keeping.{conflicts_symmetric, exclusive_settled}
+use Rattle.rmodel.proofs.Soundness.{active_of_satisfied, same_claims, distinct_same, read_of_half}
 
 -- the write half conflicts with its read half
 halves_conflict : (r w : Claim) → IsClaim r → AreHalves r w → r.write_half ≡ false → conflicts w r ≡ true
@@ -24,9 +24,6 @@ halves_conflict r w is halves read =
     or_left (touches r w.writes) (touches w r.writes)
     (or_left (meets r.reads w.writes) (meets r.writes w.writes)
     (ap (meets r.reads) halves.same ∙ true_from_ne_false (meets r.reads r.reads) (λ none. is.reads_some read (meets_itself r.reads none))))
-
-read_of_half : (c : Claim) → is_read_half c ≡ true → c.write_half ≡ false
-read_of_half c h = not_false c.write_half (and_parts _ (not c.write_half) h).1
 
 module _ (groups : List Set) (s t : List Claimed) (settles : Settles s t) (exclusive : AreExclusive s) (admitted : AreAdmittedBy groups s) (distinct : EachPair Distinct s) where
   exclusive_t : AreExclusive t

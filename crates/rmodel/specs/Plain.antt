@@ -1,5 +1,5 @@
 -- How the plain machine keeps its lock state, and what it keeps true.
-use Rattle.std.specs.Prelude.{◌≤◌, vec_capacity}
+use Rattle.std.specs.Prelude.{◌≤◌, ◌+◌, vec_capacity}
 use Rattle.rset.specs.declared.TheConstants.{SEATS}
 use Rattle.rclaim.specs.declared.TheConstants.{STATUS_ROOM}
 use Rattle.rmodel.specs.declared.plain.Plain.TheInside.{Inside}
@@ -20,5 +20,5 @@ pub record IsKept (a : Inside) : Type 0 where
   pub sound : IsSound (state_of a)
   pub cap : a.cap ≤ SEATS
   pub seats : a.seats ≤ SEATS
-  pub claims_room : STATUS_ROOM ≤ vec_capacity a.claims
+  pub claims_room : STATUS_ROOM + 2 ≤ vec_capacity a.claims
   pub before_room : STATUS_ROOM ≤ vec_capacity a.before

@@ -1,5 +1,5 @@
 // What is asked for is granted, where it comes to a claim.
-ghost use Rattle.std.specs.Prelude.{◌≡◌, ◌<◌, length, slice_index_or};
+ghost use Rattle.std.specs.Prelude.{◌≡◌, ◌<◌, length, slice_index_or, slice_set};
 ghost use Rattle.rmodel.specs.declared.claimed.Claimed.{Claimed};
 ghost use Rattle.rmodel.specs.Steps.{some_asks, is_kept_from, gets_asked, with_asked, given};
 
@@ -30,20 +30,29 @@ fn gets_asked(claims: &[Claimed], x: &Claimed) -> bool
     x.is_satisfied() || x.is_active() && !is_kept_from(claims, &x.claim, x.asked)
 }
 
-/// The claim at a place with what it asks for granted, if that comes to it.
-fn with_asked_at(claims: &[Claimed], i: usize) -> Claimed
-    requires { i < length claims.now }
-    ensures { (d : Claimed) → result ≡ with_asked claims.now (slice_index_or claims.now i d) }
+/// The claim with what it asks for granted, if that comes to it.
+fn with_asked(claims: &[Claimed], x: &Claimed) -> Claimed
+    ensures { result ≡ with_asked claims.now x.now }
 {
-    let x = claims[i];
-    if gets_asked(claims, &x) {
+    if gets_asked(claims, x) {
         Claimed {
             asked: ResourceSet::empty(),
             granted: x.granted.union(x.asked),
-            ..x
+            ..*x
         }
     } else {
-        x
+        *x
+    }
+}
+
+/// Grants what the claim at a place asks for, if it comes to it.
+fn give_at(claims: &mut [Claimed], i: usize)
+    requires { i < length claims.old }
+    ensures { (d : Claimed) → claims.new ≡ slice_set claims.old i (with_asked claims.old (slice_index_or claims.old i d)) }
+{
+    let x = claims[i];
+    if x.asked.len() > 0 {
+        claims[i] = with_asked(claims, &x);
     }
 }
 
@@ -52,8 +61,6 @@ pub(crate) fn give(claims: &mut [Claimed])
     ensures { claims.new ≡ given claims.old }
 {
     for i in 0..claims.len() {
-        if claims[i].asked.len() > 0 {
-            claims[i] = with_asked_at(claims, i);
-        }
+        give_at(claims, i);
     }
 }

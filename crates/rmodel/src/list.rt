@@ -92,15 +92,32 @@ pub(crate) fn is_part_of(claims: &[Claimed], seat: u8, part: ResourceSet) -> boo
     })
 }
 
-/// Lets the request of the seat ask for a part.
-pub(crate) fn ask(claims: &mut [Claimed], seat: u8, part: ResourceSet)
+/// The claim, which asks for the part if it is of the seat.
+fn asking(seat: u8, part: ResourceSet, x: &Claimed) -> Claimed
+    ensures { result ≡ asking seat part x.now }
+{
+    if x.claim.seat == seat {
+        Claimed { asked: part, ..*x }
+    } else {
+        *x
+    }
+}
+
+/// Lets the claims of the seat ask for a part.
+fn ask_each(claims: &mut [Claimed], seat: u8, part: ResourceSet)
     ensures { claims.new ≡ map (asking seat part) claims.old }
 {
     for x in claims.iter_mut() {
-        if x.claim.seat == seat {
-            x.asked = part;
-        }
+        *x = asking(seat, part, x);
     }
+}
+
+/// Lets the request of the seat ask for a part.
+pub(crate) fn ask(claims: &mut Vec<Claimed>, seat: u8, part: ResourceSet)
+    ensures items { claims.new.items ≡ map (asking seat part) claims.old.items }
+    ensures capacity { vec_capacity claims.new ≡ vec_capacity claims.old }
+{
+    ask_each(claims, seat, part);
 }
 
 /// Removes the read half of the seat's upgrade.

@@ -19,8 +19,8 @@ use rexpand::Groups;
 use std::alloc::{AllocError, Global};
 use std::marker::Model;
 
-// The most claims that there are at once: two for each seat.
-const CLAIMS: usize = STATUS_ROOM;
+// Room for the claims of all seats, two for each, and for those of a request more.
+const CLAIMS: usize = STATUS_ROOM + 2;
 
 /// A machine over a plain list of claims. All its room is made when it is made.
 #[derive(Drop)]

@@ -1,6 +1,6 @@
 // Settles a list of claims: the reads, then the writes by rising stamp, then which reads are kept for.
 // Where no read is unsatisfied, the passes over the reads change nothing, and are left out.
-ghost use Rattle.std.specs.Prelude.{◌≡◌, ◌<◌, ◌≤◌, true, false, length, take, slice_index_or, slice_set, vec_capacity, []};
+ghost use Rattle.std.specs.Prelude.{◌≡◌, ◌<◌, ◌≤◌, ◌&&◌, not, true, false, length, take, slice_index_or, slice_set, vec_capacity, []};
 ghost use Rattle.rclaim.specs.declared.TheConstants.{STATUS_ROOM, GRANT_ROOM};
 ghost use Rattle.rclaim.specs.Changes.{no_changes};
 ghost use Rattle.rmodel.specs.Changes.{status_changes, grant_changes, with_change};
@@ -8,7 +8,7 @@ ghost use Rattle.rmodel.specs.WellFormed.{AreWellFormed};
 ghost use Rattle.rmodel.specs.Settling.{written_by_active, written_by_satisfied, read_near, read_status, is_clear, has_way, write_status, kept_status, settle_reads, settle_rest, settle_kept, settled, entered, IsUnbarred, with_bars, bars_of, with_read, reads_of, stays};
 ghost use Rattle.rmodel.specs.declared.claimed.Claimed.{Claimed};
 ghost use Rattle.rmodel.specs.Rules.{is_earlier_write, is_held_up};
-ghost use Rattle.rmodel.specs.Steps.{given};
+ghost use Rattle.rmodel.specs.Steps.{given, some_asks};
 
 use crate::claimed::{Claimed, conflicts, share_place};
 use crate::give::{give, some_asks};
@@ -320,6 +320,13 @@ fn settle_all(claims: &mut [Claimed], changes: &mut Changes)
     settle_kept(claims);
 }
 
+/// Whether no read waits and no claim asks for anything, where `reads` is what is seen of the reads.
+fn is_quiet(claims: &[Claimed], reads: &Reads) -> bool
+    ensures { result ≡ (not reads.now.waiting && not (some_asks claims.now)) }
+{
+    !reads.waiting && !some_asks(claims)
+}
+
 /// Settles the claims once, grants what is asked for, and makes the changes those from the claims before. `before` is room.
 fn settle_once(claims: &mut [Claimed], before: &mut Vec<Claimed>, changes: &mut Changes)
     requires well_formed { AreWellFormed claims.old }
@@ -332,13 +339,13 @@ fn settle_once(claims: &mut [Claimed], before: &mut Vec<Claimed>, changes: &mut 
 {
     changes.clear();
     let reads = reads_of(claims);
-    if reads.waiting || some_asks(claims) {
+    if is_quiet(claims, &reads) {
+        settle_writes(claims, &reads, changes);
+    } else {
         copy_into(before, claims);
         settle_all(claims, changes);
         give(claims);
         tell_changes(before, claims, changes);
-    } else {
-        settle_writes(claims, &reads, changes);
     }
 }
 
