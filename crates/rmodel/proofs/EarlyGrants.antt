@@ -60,13 +60,13 @@ pub none_on_both : (v c : Claim) (a b : Set) → conflicts_on v c a ≡ false �
 none_on_both v c a b on_a on_b = false_from (conflicts_on v c (union a b)) (λ clash.
     elim (or_cases (meets v.writes (union a b)) (touches v (intersection (union a b) c.writes)) clash) [
       | inl w ↦ elim (or_cases (meets v.writes a) (meets v.writes b) (sym (meets_union_right v.writes a b) ∙ w)) [
-            | inl in_a ↦ contrary (conflicts_on v c a) (or_left (meets v.writes a) _ in_a) on_a
-            | inr in_b ↦ contrary (conflicts_on v c b) (or_left (meets v.writes b) _ in_b) on_b
-          ]
+        | inl in_a ↦ contrary (conflicts_on v c a) (or_left (meets v.writes a) _ in_a) on_a
+        | inr in_b ↦ contrary (conflicts_on v c b) (or_left (meets v.writes b) _ in_b) on_b
+      ]
       | inr t ↦ elim (or_cases (touches v (intersection a c.writes)) (touches v (intersection b c.writes)) (split t)) [
-            | inl in_a ↦ contrary (conflicts_on v c a) (or_right (meets v.writes a) _ in_a) on_a
-            | inr in_b ↦ contrary (conflicts_on v c b) (or_right (meets v.writes b) _ in_b) on_b
-          ]
+        | inl in_a ↦ contrary (conflicts_on v c a) (or_right (meets v.writes a) _ in_a) on_a
+        | inr in_b ↦ contrary (conflicts_on v c b) (or_right (meets v.writes b) _ in_b) on_b
+      ]
     ])
   where
     both : (s : Set) → meets s (intersection (union a b) c.writes) ≡ true → (meets s (intersection a c.writes) || meets s (intersection b c.writes)) ≡ true
@@ -87,9 +87,9 @@ none_on_both v c a b on_a on_b = false_from (conflicts_on v c (union a b)) (λ c
 
     split : touches v (intersection (union a b) c.writes) ≡ true → (touches v (intersection a c.writes) || touches v (intersection b c.writes)) ≡ true
     split t = elim (or_cases (meets v.reads (intersection (union a b) c.writes)) (meets v.writes (intersection (union a b) c.writes)) t) [
-        | inl r ↦ either (meets v.reads (intersection a c.writes)) (meets v.reads (intersection b c.writes)) (meets v.writes (intersection a c.writes)) (meets v.writes (intersection b c.writes)) (both v.reads r)
-        | inr w ↦ either_last (meets v.reads (intersection a c.writes)) (meets v.reads (intersection b c.writes)) (meets v.writes (intersection a c.writes)) (meets v.writes (intersection b c.writes)) (both v.writes w)
-      ]
+      | inl r ↦ either (meets v.reads (intersection a c.writes)) (meets v.reads (intersection b c.writes)) (meets v.writes (intersection a c.writes)) (meets v.writes (intersection b c.writes)) (both v.reads r)
+      | inr w ↦ either_last (meets v.reads (intersection a c.writes)) (meets v.reads (intersection b c.writes)) (meets v.writes (intersection a c.writes)) (meets v.writes (intersection b c.writes)) (both v.writes w)
+    ]
 
 -- a claim of which a part was granted is entitled or satisfied, and it is a write
 pub granted_is_active : (x : Claimed) (v : Claim) → HasParts x → conflicts_on v x.claim x.granted ≡ true → (is_active x ≡ true) × (x.claim.write_half ≡ true)

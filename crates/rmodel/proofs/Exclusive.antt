@@ -166,9 +166,9 @@ not_both x y l pair parts_x parts_y is_x is_y writes holds =
 
     placed : y.claim.write_half ≡ true → contains y.claim.places l ≡ true
     placed w = elim (or_cases (contains y.claim.reads l) (contains y.claim.writes l) holds.touched) [
-        | inl r ↦ within_at y.claim.reads y.claim.places (is_y.reads_placed w) l r
-        | inr h ↦ within_at y.claim.writes y.claim.places (is_y.writes_placed w) l h
-      ]
+      | inl r ↦ within_at y.claim.reads y.claim.places (is_y.reads_placed w) l r
+      | inr h ↦ within_at y.claim.writes y.claim.places (is_y.writes_placed w) l h
+    ]
 
 -- what is known of two claims of which the first comes first
 record Both (x y : Claimed) : Type 0 where
@@ -181,17 +181,17 @@ pair_of s reached x y in_x in_y other =
     elim (pair_among Both s.claims x y both in_x in_y) [
       | inl same ↦ absurd (other (ap (λ z. z.claim.seat) same))
       | inr (inl first) ↦ record {
-            apart = first.apart;
-            free_of_x = first.free.0;
-            free_of_y = first.free.1;
-            one_entered = λ w w' share active active' unsat unsat'. contrary (is_satisfied x) (first.entered w w' share active').0 unsat;
-          }
+        apart = first.apart;
+        free_of_x = first.free.0;
+        free_of_y = first.free.1;
+        one_entered = λ w w' share active active' unsat unsat'. contrary (is_satisfied x) (first.entered w w' share active').0 unsat;
+      }
       | inr (inr last) ↦ record {
-            apart = λ sat sat'. conflicts_symmetric x.claim y.claim ∙ last.apart sat' sat;
-            free_of_x = last.free.1;
-            free_of_y = last.free.0;
-            one_entered = λ w w' share active active' unsat unsat'. contrary (is_satisfied y) (last.entered w' w (meets_symmetric y.claim.places x.claim.places ∙ share) active).0 unsat';
-          }
+        apart = λ sat sat'. conflicts_symmetric x.claim y.claim ∙ last.apart sat' sat;
+        free_of_x = last.free.1;
+        free_of_y = last.free.0;
+        one_entered = λ w w' share active active' unsat unsat'. contrary (is_satisfied y) (last.entered w' w (meets_symmetric y.claim.places x.claim.places ∙ share) active).0 unsat';
+      }
     ]
   where
     both : EachPair Both s.claims

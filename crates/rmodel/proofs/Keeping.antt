@@ -186,4 +186,3 @@ exclusive_settled s t had settles = record {
   entered = entered_settled s t settles had.well_formed had.entered had.apart;
   apart = apart_settled s t settles had.well_formed had.entered had.apart;
 }
-

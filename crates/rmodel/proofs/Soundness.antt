@@ -159,8 +159,7 @@ asks xs seat part x distinct is there seated =
     let of_n = and_parts (n.0.claim.seat == seat) (is_nested n.0.claim.kind) n.2 in
     let of_p = and_parts (p.0.claim.seat == seat) (is_part part (union p.0.claim.reads p.0.claim.writes)) p.2 in
     let one : n.0 ≡ x = same_seat xs n.0 x distinct n.1 there (eqb-true n.0.claim.seat seat of_n.0 ∙ sym seated) of_n.1 in
-    let two : n.0 ≡ p.0 = same_seat xs n.0 p.0 distinct n.1 p.1 (eqb-true n.0.claim.seat seat of_n.0 ∙ sym (eqb-true p.0.claim.seat seat of_p.0)) of_n.1 in
-    (
+    let two : n.0 ≡ p.0 = same_seat xs n.0 p.0 distinct n.1 p.1 (eqb-true n.0.claim.seat seat of_n.0 ∙ sym (eqb-true p.0.claim.seat seat of_p.0)) of_n.1 in (
       subst (λ (z : Claimed). is_nested z.claim.kind ≡ true) one of_n.1,
       subst (λ (z : Claimed). is_part part (union z.claim.reads z.claim.writes) ≡ true) (sym two ∙ one) of_p.1,
     )

@@ -1,14 +1,15 @@
 -- A worked case of the rules. t1 writes a and b, t2 reads a, t3 writes b, and t1 finishes:
 -- t1 is satisfied, t2 entitled and t3 waiting, and after the finish t2 and t3 are satisfied.
-use Rattle.std.proofs.Common.{◌≡◌, ◌≢◌, ℕ, true, false, not, ◌&&◌, ◌||◌, cond, List, [], ◌∷◌, Some, None, refl, sym, ap, ◌∙◌, arith}
+use Rattle.std.proofs.Common.{◌≡◌, ◌≢◌, ℕ, nat_lt, true, false, not, ◌&&◌, ◌||◌, cond, List, [], ◌∷◌, Some, None, refl, sym, ap, ◌∙◌, arith}
 use Rattle.std.proofs.lemmas.Bool.{true≢false}
 use Rattle.std.specs.Ordering.{nat_cmp}
-use Rattle.std.specs.FinSet.{empty, insert, is_subset, contains, len-insert, len-empty}
+use Rattle.std.specs.FinSet.{empty, insert, is_subset, contains, len, len-insert, len-empty}
 use Rattle.std.specs.Cmp.{nat_cmp_total}
-use Rattle.rset.specs.Sets.{Set, meets}
-use Rattle.rset.proofs.SetLemmas.{meets_insert_right, meets_empty_left, meets_empty_right, contains_insert, contains_empty, union_empty_left, empty_within, within_empty, within_reflexive}
+use Rattle.rset.specs.Sets.{Set, meets, all_below}
+use Rattle.rset.proofs.SetLemmas.{meets_insert_right, meets_empty_left, meets_empty_right, contains_insert, contains_empty, union_empty_left, empty_within, within_empty, within_reflexive, all_below_empty, all_below_insert}
 use Rattle.rexpand.specs.Groups.{no_groups}
 use Rattle.rexpand.proofs.PlaceLemmas.{places_without_groups}
+use Rattle.rexpand.proofs.DeclaredLemmas.{declared_one}
 use Rattle.rclaim.specs.Requests.{RequestFields, normalised}
 use Rattle.rclaim.specs.declared.request.Kind.TheVariants.{Read, Write}
 use Rattle.rclaim.specs.declared.claim.Status.{Status}
@@ -24,12 +25,13 @@ use Rattle.rmodel.specs.State.{LockState, opening}
 use Rattle.rmodel.specs.Changes.{changes_between}
 use Rattle.rmodel.specs.Holds.{holds_of, is_nothing}
 use Rattle.rmodel.proofs.ListFacts.{false_from}
-use Rattle.rmodel.specs.Steps.{next, after, refusal, changed, Accepts}
+use Rattle.rmodel.specs.Steps.{next, after, refusal, changed, given, some_asks, is_not_holding, Accepts, Comes, FitsIssue}
 use Rattle.rmodel.specs.WellFormed.{IsClaim, AreExclusive, IsSound}
 use Rattle.rmodel.specs.Laws.{keeps_out, AreKeptOutByOne}
 use Rattle.rmodel.proofs.OneSettlement.{only_one}
 use Rattle.rmodel.proofs.Settlement.{settles_settled}
-use Rattle.rmodel.proofs.Soundness.{sound_opening, sound_changed, same_claims, same_claims_sound}
+use Rattle.rmodel.proofs.Soundness.{sound_opening, sound_changed, sound_settled_to}
+use Rattle.rmodel.proofs.Giving.{given_none}
 use Rattle.rclaim.specs.Requests.{IsNormal}
 use Rattle.rclaim.specs.Events.{IsNormalEvent}
 use Rattle.std.specs.List.{count_by}
@@ -63,72 +65,72 @@ b_a : meets b a ≡ false
 b_a = simp (meets_insert_right, meets_empty_right, contains_insert, contains_empty)
 
 abbrev t1 : RequestFields
-t1 = normalised Write empty ab 2
+t1 = normalised Write empty ab empty 2 0
 
 abbrev t2 : RequestFields
-t2 = normalised Read a empty 1
+t2 = normalised Read a empty empty 1 0
 
 abbrev t3 : RequestFields
-t3 = normalised Write empty b 1
+t3 = normalised Write empty b empty 1 0
 
 abbrev of_t1 : Status → Claimed
-of_t1 status = record { claim = claim_of [] true 0 0 t1; status = status }
+of_t1 status = record { claim = claim_of [] true 0 0 Write empty ab; status = status; asked = empty; granted = empty }
 
 abbrev of_t2 : Status → Claimed
-of_t2 status = record { claim = claim_of [] false 1 1 t2; status = status }
+of_t2 status = record { claim = claim_of [] false 1 1 Read a empty; status = status; asked = empty; granted = empty }
 
 abbrev of_t3 : Status → Claimed
-of_t3 status = record { claim = claim_of [] true 2 2 t3; status = status }
+of_t3 status = record { claim = claim_of [] true 2 2 Write empty b; status = status; asked = empty; granted = empty }
 
 -- the rules at a write, and at a read
-write_at : (s t : List Claimed) (x y : Claimed) → y.claim ≡ x.claim → y.claim.write_half ≡ true → is_active y ≡ (is_active x || may_enter t y.claim)
+write_at : (s t : List Claimed) (x y : Claimed) → y.claim ≡ x.claim → y.asked ≡ x.asked → y.granted ≡ x.granted → y.claim.write_half ≡ true → is_active y ≡ (is_active x || may_enter t y.claim)
     → is_satisfied y ≡ (is_satisfied x || (is_active y && not (is_held_up t y.claim))) → SettlesAt s t x y
-write_at s t x y same w active sat =
-    record { same = same; reads = λ r. absurd (true≢false (sym w ∙ r)); entitlement = λ _. active; satisfaction = λ _. sat; kept_reads = λ r. absurd (true≢false (sym w ∙ r)) }
+write_at s t x y same asked granted w active sat =
+    record { same = same; asked = asked; granted = granted; reads = λ r. absurd (true≢false (sym w ∙ r)); entitlement = λ _. active; satisfaction = λ _. sat; kept_reads = λ r. absurd (true≢false (sym w ∙ r)) }
 
-read_at : (s t : List Claimed) (x y : Claimed) → y.claim ≡ x.claim → y.claim.write_half ≡ false → is_satisfied y ≡ (is_satisfied x || not (is_kept_out s y.claim))
+read_at : (s t : List Claimed) (x y : Claimed) → y.claim ≡ x.claim → y.asked ≡ x.asked → y.granted ≡ x.granted → y.claim.write_half ≡ false → is_satisfied y ≡ (is_satisfied x || not (is_kept_out s y.claim))
     → is_active y ≡ (is_satisfied y || is_kept t y.claim) → SettlesAt s t x y
-read_at s t x y same r sat active =
-    record { same = same; reads = λ _. sat; entitlement = λ w. absurd (true≢false (sym w ∙ r)); satisfaction = λ w. absurd (true≢false (sym w ∙ r)); kept_reads = λ _. active }
+read_at s t x y same asked granted r sat active =
+    record { same = same; asked = asked; granted = granted; reads = λ _. sat; entitlement = λ w. absurd (true≢false (sym w ∙ r)); satisfaction = λ w. absurd (true≢false (sym w ∙ r)); kept_reads = λ _. active }
 
 ruleset sets = (ab_a, a_ab, ab_b, b_ab, a_b, b_a, meets_empty_left, meets_empty_right, union_empty_left, places_without_groups)
 
 first : Settles (of_t1 Waiting ∷ []) (of_t1 Satisfied ∷ [])
-first = (write_at _ _ (of_t1 Waiting) (of_t1 Satisfied) refl refl refl refl, tt)
+first = (write_at _ _ (of_t1 Waiting) (of_t1 Satisfied) refl refl refl refl refl refl, tt)
 
 second : Settles (of_t1 Satisfied ∷ of_t2 Waiting ∷ []) (of_t1 Satisfied ∷ of_t2 Entitled ∷ [])
 second = (
-  write_at _ _ (of_t1 Satisfied) (of_t1 Satisfied) refl refl refl refl,
-  (read_at _ _ (of_t2 Waiting) (of_t2 Entitled) refl refl (simp sets) (simp sets), tt),
+  write_at _ _ (of_t1 Satisfied) (of_t1 Satisfied) refl refl refl refl refl refl,
+  (read_at _ _ (of_t2 Waiting) (of_t2 Entitled) refl refl refl refl (simp sets) (simp sets), tt),
 )
 
 third : Settles (of_t1 Satisfied ∷ of_t2 Entitled ∷ of_t3 Waiting ∷ []) (of_t1 Satisfied ∷ of_t2 Entitled ∷ of_t3 Waiting ∷ [])
 third = (
-  write_at _ _ (of_t1 Satisfied) (of_t1 Satisfied) refl refl refl refl,
+  write_at _ _ (of_t1 Satisfied) (of_t1 Satisfied) refl refl refl refl refl refl,
   (
-    read_at _ _ (of_t2 Entitled) (of_t2 Entitled) refl refl (simp sets) (simp sets),
-    (write_at _ _ (of_t3 Waiting) (of_t3 Waiting) refl refl (simp sets) refl, tt),
+    read_at _ _ (of_t2 Entitled) (of_t2 Entitled) refl refl refl refl (simp sets) (simp sets),
+    (write_at _ _ (of_t3 Waiting) (of_t3 Waiting) refl refl refl refl (simp sets) refl, tt),
   ),
 )
 
 fourth : Settles (of_t2 Entitled ∷ of_t3 Waiting ∷ []) (of_t2 Satisfied ∷ of_t3 Satisfied ∷ [])
 fourth = (
-  read_at _ _ (of_t2 Entitled) (of_t2 Satisfied) refl refl refl refl,
-  (write_at _ _ (of_t3 Waiting) (of_t3 Satisfied) refl refl refl (simp sets), tt),
+  read_at _ _ (of_t2 Entitled) (of_t2 Satisfied) refl refl refl refl refl refl,
+  (write_at _ _ (of_t3 Waiting) (of_t3 Satisfied) refl refl refl refl refl (simp sets), tt),
 )
 
--- the state after an accepted event whose claims settle to these
+-- the state after an event whose claims settle to these, none of which asks for anything
 record Outcome (s : LockState) (e : Event) (t : List Claimed) : Type 0 where
   is : next s e ≡ record (changed s e) { claims = t }
   sound : IsSound (record (changed s e) { claims = t })
 
-outcome : (s : LockState) (e : Event) (t : List Claimed) → IsSound s → IsNormalEvent e → Accepts s e → Settles (changed s e).claims t → Outcome s e t
-outcome s e t sound normal accepted settles =
-    let mid = sound_changed s e sound normal accepted in
+outcome : (s : LockState) (e : Event) (t : List Claimed) → IsSound s → Comes s e → Settles (changed s e).claims t → some_asks t ≡ false → Outcome s e t
+outcome s e t sound comes settles none =
+    let mid = sound_changed s e sound comes in
     let one : t ≡ settled (changed s e).claims = only_one (changed s e).claims t (settled (changed s e).claims) settles (settles_settled (changed s e).claims mid.well_formed) in
     record {
-      is = ap (λ (xs : List Claimed). let u : LockState = record (changed s e) { claims = xs } in u) (sym one);
-      sound = same_claims_sound (changed s e) t mid (same_claims (changed s e).claims t settles);
+      is = ap (λ (xs : List Claimed). let u : LockState = record (changed s e) { claims = xs } in u) (ap given (sym one) ∙ given_none t none);
+      sound = sound_settled_to (changed s e) t mid settles;
     }
 
 -- a set with a member is not empty
@@ -153,25 +155,41 @@ s2 = record { groups = no_groups 2; seats = 3; cap = 3; issued = 2; claims = of_
 abbrev s3 : LockState
 s3 = record { groups = no_groups 2; seats = 3; cap = 3; issued = 3; claims = of_t1 Satisfied ∷ of_t2 Entitled ∷ of_t3 Waiting ∷ [] }
 
+a_below : all_below 2 a ≡ true
+a_below = all_below_insert 2 empty 0 (all_below_empty 2) (omega arith)
+
+b_below : all_below 2 b ≡ true
+b_below = all_below_insert 2 empty 1 (all_below_empty 2) (omega arith)
+
+ab_below : all_below 2 ab ≡ true
+ab_below = all_below_insert 2 a 1 a_below (omega arith)
+
+-- nothing is asked by a claim that asks for nothing
+none_asked : nat_lt 0 (len (empty {R = nat_cmp})) ≡ false
+none_asked = ap (nat_lt 0) (len-empty nat_cmp)
+
 after_first : Outcome (opening (no_groups 2) 3 3) (Issue 0 t1) (of_t1 Satisfied ∷ [])
-after_first = outcome (opening (no_groups 2) 3 3) (Issue 0 t1) _ (sound_opening (no_groups 2) 3 3) t1_normal refl first
+after_first = outcome (opening (no_groups 2) 3 3) (Issue 0 t1) _ (sound_opening (no_groups 2) 3 3)
+    (record { fits = record { seat_there = omega arith; reads = all_below_empty 2; writes = ab_below; admitted = refl; stamps = omega arith }; normal = t1_normal; accepted = refl }) first (simp none_asked)
 
 after_second : Outcome s1 (Issue 1 t2) (of_t1 Satisfied ∷ of_t2 Entitled ∷ [])
-after_second = outcome s1 (Issue 1 t2) _ after_first.sound t2_normal refl second
+after_second = outcome s1 (Issue 1 t2) _ after_first.sound
+    (record { fits = record { seat_there = omega arith; reads = a_below; writes = all_below_empty 2; admitted = declared_one [] 0; stamps = omega arith }; normal = t2_normal; accepted = refl }) second (simp none_asked)
 
 after_third : Outcome s2 (Issue 2 t3) (of_t1 Satisfied ∷ of_t2 Entitled ∷ of_t3 Waiting ∷ [])
-after_third = outcome s2 (Issue 2 t3) _ after_second.sound t3_normal refl third
+after_third = outcome s2 (Issue 2 t3) _ after_second.sound
+    (record { fits = record { seat_there = omega arith; reads = all_below_empty 2; writes = b_below; admitted = refl; stamps = omega arith }; normal = t3_normal; accepted = refl }) third (simp none_asked)
 
 -- t1 holds a and b, so that it may finish
-t1_holds : is_nothing (holds_of s3.claims 0) ≡ false
+t1_holds : is_not_holding s3.claims 0 ≡ false
 unfolding holds_of
-t1_holds = simp (union_empty_left, len-insert nat_cmp_total, contains_insert, contains_empty, len-empty)
+t1_holds = simp (none_asked, union_empty_left, len-insert nat_cmp_total, contains_insert, contains_empty, len-empty)
 
 t1_may_finish : Accepts s3 (Finish 0)
 t1_may_finish = ap (λ n. cond n (Some NotHolding) None) t1_holds
 
 after_fourth : Outcome s3 (Finish 0) (of_t2 Satisfied ∷ of_t3 Satisfied ∷ [])
-after_fourth = outcome s3 (Finish 0) _ after_third.sound tt t1_may_finish fourth
+after_fourth = outcome s3 (Finish 0) _ after_third.sound (record { fits = omega arith; normal = tt; accepted = t1_may_finish }) fourth (simp none_asked)
 
 -- a seat issues one request at a time, and a full state takes none
 busy : refusal s1 (Issue 0 t3) ≡ Some SeatBusy
@@ -207,10 +225,10 @@ worked_changes = simp (some_a, some_b, within_reflexive)
 -- ---- two writes that keep one read waiting, where what it reads is not declared
 
 abbrev write_of : ℕ → Set → Claimed
-write_of n s = record { claim = record { stamp = n; seat = n; kind = Write; write_half = true; reads = empty; writes = s; places = s }; status = Satisfied }
+write_of n s = record { claim = record { stamp = n; seat = n; kind = Write; write_half = true; reads = empty; writes = s; places = s }; status = Satisfied; asked = empty; granted = empty }
 
 abbrev read_of_both : Claimed
-read_of_both = record { claim = record { stamp = 2; seat = 2; kind = Read; write_half = false; reads = ab; writes = empty; places = ab }; status = Entitled }
+read_of_both = record { claim = record { stamp = 2; seat = 2; kind = Read; write_half = false; reads = ab; writes = empty; places = ab }; status = Entitled; asked = empty; granted = empty }
 
 abbrev two_and_one : List Claimed
 two_and_one = write_of 0 a ∷ write_of 1 b ∷ read_of_both ∷ []
@@ -220,10 +238,10 @@ two_keep_out = sym (length-filter (keeps_out read_of_both.claim) two_and_one) �
 
 two_settled : Settles two_and_one two_and_one
 two_settled = (
-  write_at _ _ (write_of 0 a) (write_of 0 a) refl refl refl refl,
+  write_at _ _ (write_of 0 a) (write_of 0 a) refl refl refl refl refl refl,
   (
-    write_at _ _ (write_of 1 b) (write_of 1 b) refl refl refl refl,
-    (read_at _ _ read_of_both read_of_both refl refl (simp sets) (simp sets), tt),
+    write_at _ _ (write_of 1 b) (write_of 1 b) refl refl refl refl refl refl,
+    (read_at _ _ read_of_both read_of_both refl refl refl refl (simp sets) (simp sets), tt),
   ),
 )
 

@@ -62,7 +62,13 @@ fn claim_of(
 }
 
 /// Adds the claims of a request, waiting, behind the others.
-pub(crate) fn push_claims(claims: &mut Vec<Claimed>, groups: &Groups, stamp: u64, seat: u8, request: &Request)
+pub(crate) fn push_claims(
+    claims: &mut Vec<Claimed>,
+    groups: &Groups,
+    stamp: u64,
+    seat: u8,
+    request: &Request,
+)
     requires reads { IsTrue (all_below groups.now.q request.now.reads) }
     requires writes { IsTrue (all_below groups.now.q request.now.writes) }
     requires room { length claims.old.items + length (claims_of groups.now.groups stamp seat request.now) ≤ vec_capacity claims.old }

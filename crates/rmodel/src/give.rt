@@ -18,9 +18,7 @@ pub(crate) fn some_asks(claims: &[Claimed]) -> bool
 fn is_kept_from(claims: &[Claimed], claim: &Claim, part: ResourceSet) -> bool
     ensures { result ≡ is_kept_from claims.now claim.now part }
 {
-    claims
-        .iter()
-        .any(|v| v.is_satisfied() && conflicts_on(&v.claim, claim, part))
+    claims.iter().any(|v| v.is_satisfied() && conflicts_on(&v.claim, claim, part))
 }
 
 /// Whether what the claim asks for comes to it.

@@ -9,8 +9,8 @@ ghost use Rattle.rmodel.specs.WellFormed.{IsSound};
 use crate::claimed::Claimed;
 use crate::claims::push_claims;
 use crate::list::{
-    ask, has_request, holds_of, incomplete, is_not_holding, is_part_of, may_ask,
-    may_rise, remove_read_half, remove_seat, status_in,
+    ask, has_request, holds_of, incomplete, is_not_holding, is_part_of, may_ask, may_rise,
+    remove_read_half, remove_seat, status_in,
 };
 use crate::settle::settle;
 use crate::{Granted, Machine, Refused};
