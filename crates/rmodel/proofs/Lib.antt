@@ -6,6 +6,8 @@ pub mod SettlingSteps
 pub mod ChangeSteps
 pub mod Soundness
 pub mod Barred
+pub mod AtRest
+pub mod WriteSteps
 pub mod ChangesTold
 pub mod PlainSteps
 pub mod Reached

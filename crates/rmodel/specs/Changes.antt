@@ -63,3 +63,10 @@ unfoldable pub grant_changes : List Claimed → List Claimed → List GrantChang
 grant_changes [] ys = []
 grant_changes (x ∷ xs) [] = []
 grant_changes (x ∷ xs) (y ∷ ys) = option_to_list (grant_change x y) ++ grant_changes xs ys
+
+-- changes, and those from a claim to the same claim later
+abbrev pub with_change : ChangeLists → Claimed → Claimed → ChangeLists
+with_change all was now = record {
+  statuses = all.statuses ++ option_to_list (status_change was now);
+  grants = all.grants ++ option_to_list (grant_change was now);
+}

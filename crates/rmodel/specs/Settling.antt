@@ -1,6 +1,6 @@
 -- How a list of claims is settled, pass by pass: the reads, then the writes by rising stamp, then which reads are kept for.
 -- That the outcome is the one that the rules allow is a theorem.
-use Rattle.std.specs.Prelude.{Bool, true, false, not, ◌&&◌, ◌||◌, List, [], ◌∷◌, ◌++◌, map, fold, if◌then◌else◌}
+use Rattle.std.specs.Prelude.{◌≡◌, Bool, true, false, not, ◌&&◌, ◌||◌, List, [], ◌∷◌, ◌++◌, map, fold, if◌then◌else◌}
 use Rattle.std.specs.List.{list_all}
 use Rattle.std.specs.FinSet.{empty, union}
 use Rattle.rset.specs.Sets.{Set, meets}
@@ -8,6 +8,7 @@ use Rattle.rclaim.specs.declared.claim.Claim.{Claim}
 use Rattle.rclaim.specs.declared.claim.Status.{Status}
 use Rattle.rclaim.specs.declared.claim.Status.TheVariants.{Waiting, Entitled, Satisfied}
 use Rattle.rmodel.specs.declared.claimed.Claimed.{Claimed}
+use Rattle.rmodel.specs.declared.settle.Reads.{Reads}
 use Rattle.rmodel.specs.Claims.{share_place, is_active, is_satisfied}
 use Rattle.rmodel.specs.Rules.{is_earlier_write, is_held_up}
 
@@ -23,13 +24,38 @@ written_by_active xs = fold (λ all x. if x.claim.write_half && is_active x then
 unfoldable pub written_by_satisfied : List Claimed → Set
 written_by_satisfied xs = fold (λ all x. if x.claim.write_half && is_satisfied x then union all x.claim.writes else all) empty xs
 
--- these resources, and what a claim writes if it is a write
-abbrev pub with_writes : Set → Claimed → Set
-with_writes all x = if x.claim.write_half then union all x.claim.writes else all
+-- these resources, and those with which a write bars later ones: what it writes if it is satisfied, else its places
+abbrev pub with_bars : Set → Claimed → Set
+with_bars all x = if x.claim.write_half then union all (if is_satisfied x then x.claim.writes else x.claim.places) else all
 
--- what the writes of a list write, whatever their status
-unfoldable pub written : List Claimed → Set
-written xs = fold with_writes empty xs
+-- the resources with which the writes of a list bar later ones: a write that has a place among them has no way
+unfoldable pub bars_of : List Claimed → Set
+bars_of xs = fold with_bars empty xs
+
+-- no read was seen
+abbrev pub no_reads : Reads
+no_reads = record { waiting = false; held = empty }
+
+-- what was seen of reads, and a claim more
+abbrev pub with_read : Reads → Claimed → Reads
+with_read all x =
+    if x.claim.write_half then all
+    else (if is_satisfied x then record { waiting = all.waiting; held = union all.held x.claim.reads } else record { waiting = true; held = all.held })
+
+-- what is seen of the reads of a list: whether one is unsatisfied, and what the satisfied ones read
+unfoldable pub reads_of : List Claimed → Reads
+reads_of xs = fold with_read no_reads xs
+
+-- by the status of a write it is seen at once that the second pass leaves it as it is: it waits, and has a place among the bars;
+-- or it is entitled, and writes what is held for reading; or it is satisfied
+abbrev pub stays_by : Status → Bool → Bool → Bool
+stays_by Waiting is_barred is_read = is_barred
+stays_by Entitled is_barred is_read = is_read
+stays_by Satisfied is_barred is_read = true
+
+-- it is seen at once that the second pass leaves a claim as it is, where these are the bars, and what is held for reading
+abbrev pub stays : Claimed → Set → Set → Bool
+stays x bars held = not x.claim.write_half || stays_by x.status (meets bars x.claim.places) (meets held x.claim.writes)
 
 -- what is read by the unsatisfied reads that touch these resources
 unfoldable pub read_near : List Claimed → Set → Set
@@ -49,6 +75,11 @@ is_clear xs c away =
 unfoldable pub has_way : List Claimed → Claim → Bool
 has_way xs c = is_clear xs c c.places && is_clear xs c (read_near xs c.places)
 
+-- where a claim waits, no earlier write bars it; and where no read waits, none stands between it and an earlier write
+pub record IsUnbarred (xs : List Claimed) (x : Claimed) (reads_wait : Bool) : Type 0 where
+  pub places : is_active x ≡ false → is_clear xs x.claim x.claim.places ≡ true
+  pub reads : is_active x ≡ false → reads_wait ≡ false → is_clear xs x.claim (read_near xs x.claim.places) ≡ true
+
 -- the status of an unsatisfied write: whether it has entered, and if so, whether it is held up
 abbrev pub entered_status : Bool → Bool → Status
 entered_status false held_up = Waiting
@@ -60,6 +91,10 @@ unfoldable pub write_status : List Claimed → Claimed → Status
 write_status xs x =
     if not x.claim.write_half || is_satisfied x then x.status
     else entered_status (is_active x || has_way xs x.claim) (is_held_up xs x.claim)
+
+-- a claim with its status after the second pass
+abbrev pub entered : List Claimed → Claimed → Claimed
+entered xs x = with_status x (write_status xs x)
 
 -- a claim after the third pass: a read that waits is entitled where a satisfied write keeps it waiting
 abbrev pub kept_status : Set → Claimed → Status

@@ -11,9 +11,8 @@ ghost use Rattle.rclaim.specs.Changes.{no_changes};
 
 use crate::claimed::Claimed;
 use crate::claims::claim_of;
-use crate::list::{copy_into, has_request, holds_of, remove_seat, status_in};
+use crate::list::{has_request, holds_of, remove_seat, status_in};
 use crate::settle::settle;
-use crate::tell::tell_changes;
 use crate::{Granted, Refused};
 use rclaim::{Changes, Event, Status};
 use rset::{RESOURCES, SEATS};
@@ -197,8 +196,6 @@ impl Plain {
         ensures statuses { self.new.last.statuses ≡ status_changes self.old.state.claims self.new.state.claims }
         ensures grants { self.new.last.grants ≡ grant_changes self.old.state.claims self.new.state.claims }
     {
-        copy_into(&mut self.before, &self.claims);
-        settle(&mut self.claims);
-        tell_changes(&self.before, &self.claims, &mut self.changes);
+        settle(&mut self.claims, &mut self.before, &mut self.changes);
     }
 }

@@ -1,14 +1,60 @@
 // Settles a list of claims: the reads, then the writes by rising stamp, then which reads are kept for.
-ghost use Rattle.std.specs.Prelude.{◌≡◌, ◌<◌, true, false, length, take, slice_index_or, vec_capacity, []};
-ghost use Rattle.rset.specs.Sets.{meets};
+// Where no read is unsatisfied, the passes over the reads change nothing, and are left out.
+ghost use Rattle.std.specs.Prelude.{◌≡◌, ◌<◌, ◌≤◌, true, false, length, take, slice_index_or, slice_set, vec_capacity, []};
+ghost use Rattle.rclaim.specs.declared.TheConstants.{STATUS_ROOM, GRANT_ROOM};
+ghost use Rattle.rclaim.specs.Changes.{no_changes};
+ghost use Rattle.rmodel.specs.Changes.{status_changes, grant_changes, with_change};
 ghost use Rattle.rmodel.specs.WellFormed.{AreWellFormed};
-ghost use Rattle.rmodel.specs.Settling.{written_by_active, written_by_satisfied, read_near, read_status, is_clear, has_way, entered_status, write_status, kept_status, settle_reads, settle_rest, settle_kept, settled, with_writes, written};
+ghost use Rattle.rmodel.specs.Settling.{written_by_active, written_by_satisfied, read_near, read_status, is_clear, has_way, write_status, kept_status, settle_reads, settle_rest, settle_kept, settled, entered, IsUnbarred, with_bars, bars_of, with_read, reads_of, stays};
 ghost use Rattle.rmodel.specs.declared.claimed.Claimed.{Claimed};
 ghost use Rattle.rmodel.specs.Rules.{is_earlier_write, is_held_up};
 
 use crate::claimed::{Claimed, conflicts, share_place};
-use rclaim::{Claim, Status};
+use crate::list::copy_into;
+use crate::tell::{tell_changes, tell_claim};
+use rclaim::{Changes, Claim, Status};
 use rset::ResourceSet;
+
+/// What is seen of the reads of a list.
+#[derive(Clone, Copy)]
+struct Reads {
+    /// Whether one is unsatisfied.
+    waiting: bool,
+    /// What the satisfied ones read.
+    held: ResourceSet,
+}
+
+/// What was seen of reads, and a claim more.
+fn with_read(all: Reads, x: &Claimed) -> Reads
+    ensures { result ≡ with_read all x.now }
+{
+    if x.claim.write_half {
+        return all;
+    }
+    if x.is_satisfied() {
+        Reads {
+            waiting: all.waiting,
+            held: all.held.union(x.claim.reads),
+        }
+    } else {
+        Reads {
+            waiting: true,
+            held: all.held,
+        }
+    }
+}
+
+/// What is seen of the reads of a list.
+#[tactic(auto, unfolding(crate::specs::Settling::reads_of))]
+fn reads_of(claims: &[Claimed]) -> Reads
+    ensures { result ≡ reads_of claims.now }
+{
+    let none = Reads {
+        waiting: false,
+        held: ResourceSet::empty(),
+    };
+    claims.iter().fold(none, |all, x| with_read(all, x))
+}
 
 /// What the entitled and satisfied writes write.
 #[tactic(auto, unfolding(crate::specs::Settling::written_by_active))]
@@ -70,13 +116,15 @@ fn is_clear(claims: &[Claimed], claim: &Claim, away: ResourceSet) -> bool
     })
 }
 
-/// Whether each earlier write that shares a place with the claim makes way for it.
+/// Whether each earlier write that shares a place with the claim makes way for it, where none of them bars it. Where no
+/// read waits, none stands between.
 #[tactic(auto, unfolding(crate::specs::Settling::has_way))]
-fn has_way(claims: &[Claimed], claim: &Claim) -> bool
+fn has_way(claims: &[Claimed], claim: &Claim, reads_wait: bool) -> bool
+    requires places { is_clear claims.now claim.now claim.now.places ≡ true }
+    requires reads { reads_wait ≡ false → is_clear claims.now claim.now (read_near claims.now claim.now.places) ≡ true }
     ensures { result ≡ has_way claims.now claim.now }
 {
-    is_clear(claims, claim, claim.places)
-        && is_clear(claims, claim, read_near(claims, claim.places))
+    !reads_wait || is_clear(claims, claim, read_near(claims, claim.places))
 }
 
 /// Whether a satisfied read, or a satisfied write of smaller stamp, conflicts with the claim.
@@ -101,18 +149,16 @@ fn read_status(busy: ResourceSet, x: &Claimed) -> Status
     }
 }
 
-/// The status of a claim after the second pass, where the writes before it are settled, and `before` is what they write.
-///
-/// A write that has a place of its own among these has no way, so that the list need not be gone through for it.
+/// The status of a claim after the second pass, where the writes before it are settled.
 #[tactic(auto, unfolding(crate::specs::Settling::write_status))]
-fn write_status(claims: &[Claimed], x: &Claimed, before: ResourceSet) -> Status
-    requires { meets before x.now.claim.places ≡ true → has_way claims.now x.now.claim ≡ false }
+fn write_status(claims: &[Claimed], x: &Claimed, reads_wait: bool) -> Status
+    requires { IsUnbarred claims.now x.now reads_wait }
     ensures { result ≡ write_status claims.now x.now }
 {
     if !x.claim.write_half || x.is_satisfied() {
         return x.status;
     }
-    if !x.is_active() && (before.meets(x.claim.places) || !has_way(claims, &x.claim)) {
+    if !x.is_active() && !has_way(claims, &x.claim, reads_wait) {
         return Status::Waiting;
     }
     if is_held_up(claims, &x.claim) {
@@ -146,39 +192,104 @@ fn settle_reads(claims: &mut [Claimed])
     }
 }
 
-/// The status of the claim at a place after the second pass, where the writes before it are settled, and `before` is
-/// what they write.
-fn write_status_at(claims: &[Claimed], i: usize, before: ResourceSet) -> Status
-    requires place { i < length claims.now }
-    requires well_formed { AreWellFormed claims.now }
-    requires before { before ≡ written (take i claims.now) }
-    ensures { (d : Claimed) → result ≡ write_status claims.now (slice_index_or claims.now i d) }
+/// Whether it is seen at once that the second pass leaves the claim as it is, where the writes before it bar with
+/// `bars`, and `held` is held for reading. Most claims stay, so that the list is gone through for few.
+#[inline]
+fn stays(x: &Claimed, bars: ResourceSet, held: ResourceSet) -> bool
+    ensures { result ≡ stays x.now bars held }
 {
-    write_status(claims, &claims[i], before)
-}
-
-/// These resources, and what a claim writes if it is a write.
-fn with_writes(all: ResourceSet, x: &Claimed) -> ResourceSet
-    ensures { result ≡ with_writes all x.now }
-{
-    if x.claim.write_half {
-        all.union(x.claim.writes)
-    } else {
-        all
+    if !x.claim.write_half {
+        return true;
+    }
+    match x.status {
+        Status::Waiting => bars.meets(x.claim.places),
+        Status::Entitled => held.meets(x.claim.writes),
+        Status::Satisfied => true,
     }
 }
 
-/// The second pass: the writes enter and are satisfied by rising stamp.
-fn settle_writes(claims: &mut [Claimed])
-    requires { AreWellFormed claims.old }
-    ensures { claims.new ≡ settle_rest [] claims.old }
+/// These resources, and those with which a write bars later ones.
+#[inline]
+fn with_bars(all: ResourceSet, x: &Claimed) -> ResourceSet
+    ensures { result ≡ with_bars all x.now }
 {
-    let mut before = ResourceSet::empty();
+    if !x.claim.write_half {
+        return all;
+    }
+    if x.is_satisfied() {
+        all.union(x.claim.writes)
+    } else {
+        all.union(x.claim.places)
+    }
+}
+
+/// The claim at a place with its status after the second pass, where the writes before it are settled.
+fn settled_at(claims: &[Claimed], i: usize, reads_wait: bool) -> Claimed
+    requires place { i < length claims.now }
+    requires unbarred { (d : Claimed) → IsUnbarred claims.now (slice_index_or claims.now i d) reads_wait }
+    ensures { (d : Claimed) → result ≡ entered claims.now (slice_index_or claims.now i d) }
+{
+    let x = &claims[i];
+    Claimed {
+        claim: x.claim,
+        status: write_status(claims, x, reads_wait),
+    }
+}
+
+/// Settles the claim at a place, where the writes before it are settled, and tells what changes of it.
+#[inline(never)]
+fn settle_write(claims: &mut [Claimed], i: usize, reads_wait: bool, changes: &mut Changes)
+    requires place { i < length claims.old }
+    requires unbarred { (d : Claimed) → IsUnbarred claims.old (slice_index_or claims.old i d) reads_wait }
+    requires statuses_room { length changes.old.statuses < STATUS_ROOM }
+    requires grants_room { length changes.old.grants < GRANT_ROOM }
+    ensures claims { (d : Claimed) → claims.new ≡ slice_set claims.old i (entered claims.old (slice_index_or claims.old i d)) }
+    ensures changes { (d : Claimed) → let x = slice_index_or claims.old i d in changes.new ≡ with_change changes.old x (entered claims.old x) }
+{
+    let now = settled_at(claims, i, reads_wait);
+    tell_claim(&claims[i], &now, changes);
+    claims[i] = now;
+}
+
+/// Settles the claim at a place likewise, unless it is seen at once that it stays.
+#[inline]
+fn settle_or_pass(
+    claims: &mut [Claimed],
+    i: usize,
+    bars: ResourceSet,
+    reads: &Reads,
+    changes: &mut Changes,
+)
+    requires place { i < length claims.old }
+    requires well_formed { AreWellFormed claims.old }
+    requires bars { bars ≡ bars_of (take i claims.old) }
+    requires reads { reads.now ≡ reads_of claims.old }
+    requires statuses_room { length changes.old.statuses < STATUS_ROOM }
+    requires grants_room { length changes.old.grants < GRANT_ROOM }
+    ensures claims { (d : Claimed) → claims.new ≡ slice_set claims.old i (entered claims.old (slice_index_or claims.old i d)) }
+    ensures changes { (d : Claimed) → let x = slice_index_or claims.old i d in changes.new ≡ with_change changes.old x (entered claims.old x) }
+{
+    if stays(&claims[i], bars, reads.held) {
+        return;
+    }
+    settle_write(claims, i, reads.waiting, changes);
+}
+
+/// The second pass: the writes enter and are satisfied by rising stamp. What changes is told, where `reads` is what is
+/// seen of the reads.
+fn settle_writes(claims: &mut [Claimed], reads: &Reads, changes: &mut Changes)
+    requires well_formed { AreWellFormed claims.old }
+    requires reads { reads.now ≡ reads_of claims.old }
+    requires room { length claims.old ≤ GRANT_ROOM }
+    requires none { changes.old ≡ no_changes }
+    ensures claims { claims.new ≡ settle_rest [] claims.old }
+    ensures statuses { changes.new.statuses ≡ status_changes claims.old claims.new }
+    ensures grants { changes.new.grants ≡ grant_changes claims.old claims.new }
+{
+    let mut bars = ResourceSet::empty();
     for i in 0..claims.len() {
-        let status = write_status_at(claims, i, before);
-        let x = &mut claims[i];
-        x.status = status;
-        before = with_writes(before, &claims[i]);
+        settle_or_pass(claims, i, bars, reads, changes);
+        bars = with_bars(bars, &claims[i]);
     }
 }
 
@@ -193,23 +304,52 @@ fn settle_kept(claims: &mut [Claimed])
     }
 }
 
-/// Settles the claims once, pass after pass.
+/// Settles the claims once, pass after pass. What the second pass tells is told too.
 #[tactic(auto, unfolding(crate::specs::Settling::settled))]
-fn settle_all(claims: &mut [Claimed])
-    requires { AreWellFormed claims.old }
+fn settle_all(claims: &mut [Claimed], changes: &mut Changes)
+    requires well_formed { AreWellFormed claims.old }
+    requires room { length claims.old ≤ GRANT_ROOM }
+    requires none { changes.old ≡ no_changes }
     ensures { claims.new ≡ settled claims.old }
 {
     settle_reads(claims);
-    settle_writes(claims);
+    let reads = reads_of(claims);
+    settle_writes(claims, &reads, changes);
     settle_kept(claims);
 }
 
-/// Settles the claims of a list once.
-pub(crate) fn settle(claims: &mut Vec<Claimed>)
-    requires { AreWellFormed claims.old.items }
+/// Settles the claims once, and makes the changes those from the claims before. `before` is room.
+fn settle_once(claims: &mut [Claimed], before: &mut Vec<Claimed>, changes: &mut Changes)
+    requires well_formed { AreWellFormed claims.old }
+    requires room { length claims.old ≤ GRANT_ROOM }
+    requires before_room { length claims.old ≤ vec_capacity before.old }
+    ensures settled { claims.new ≡ settled claims.old }
+    ensures capacity { vec_capacity before.old ≤ vec_capacity before.new }
+    ensures statuses { changes.new.statuses ≡ status_changes claims.old claims.new }
+    ensures grants { changes.new.grants ≡ grant_changes claims.old claims.new }
+{
+    changes.clear();
+    let reads = reads_of(claims);
+    if reads.waiting {
+        copy_into(before, claims);
+        settle_all(claims, changes);
+        tell_changes(before, claims, changes);
+    } else {
+        settle_writes(claims, &reads, changes);
+    }
+}
+
+/// Settles the claims of a list once, and makes the changes those from the list before. `before` is room.
+pub(crate) fn settle(claims: &mut Vec<Claimed>, before: &mut Vec<Claimed>, changes: &mut Changes)
+    requires well_formed { AreWellFormed claims.old.items }
+    requires room { length claims.old.items ≤ GRANT_ROOM }
+    requires before_room { length claims.old.items ≤ vec_capacity before.old }
     ensures items { claims.new.items ≡ settled claims.old.items }
     ensures len { length claims.new.items ≡ length claims.old.items }
     ensures capacity { vec_capacity claims.new ≡ vec_capacity claims.old }
+    ensures before_capacity { vec_capacity before.old ≤ vec_capacity before.new }
+    ensures statuses { changes.new.statuses ≡ status_changes claims.old.items claims.new.items }
+    ensures grants { changes.new.grants ≡ grant_changes claims.old.items claims.new.items }
 {
-    settle_all(claims);
+    settle_once(claims, before, changes);
 }

@@ -2,7 +2,7 @@
 ghost use Rattle.std.specs.Prelude.{◌≡◌, ◌<◌, ◌≤◌, ◌++◌, length};
 ghost use Rattle.std.specs.Option.{option_to_list};
 ghost use Rattle.rclaim.specs.declared.TheConstants.{STATUS_ROOM, GRANT_ROOM};
-ghost use Rattle.rmodel.specs.Changes.{status_change, grant_change, status_changes, grant_changes};
+ghost use Rattle.rmodel.specs.Changes.{status_change, grant_change, status_changes, grant_changes, with_change};
 
 use crate::claimed::Claimed;
 use rclaim::{Changes, GrantChange, StatusChange};
@@ -54,6 +54,16 @@ fn tell_grant(was: &Claimed, now: &Claimed, changes: &mut Changes)
     if let Some(change) = grant_change(was, now) {
         changes.push_grant(change);
     }
+}
+
+/// Tells the changes from a claim to the same claim later.
+pub(crate) fn tell_claim(was: &Claimed, now: &Claimed, changes: &mut Changes)
+    requires statuses_room { length changes.old.statuses < STATUS_ROOM }
+    requires grants_room { length changes.old.grants < GRANT_ROOM }
+    ensures { changes.new ≡ with_change changes.old was.now now.now }
+{
+    tell_status(was, now, changes);
+    tell_grant(was, now, changes);
 }
 
 /// Makes the changes those from a list of claims to the same claims later.
