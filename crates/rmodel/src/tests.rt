@@ -50,8 +50,34 @@ fn a_finish_lets_a_read_and_a_write_in(rt: HostRuntime) -> Result<(), Fail> {
 }
 
 #[test]
+fn an_upgrade_rises_and_a_nested_request_asks(rt: HostRuntime) -> Result<(), Fail> {
+    let (a, b) = (ResourceSet::one(0), ResourceSet::one(1));
+    let groups = Groups::new(rt.alloc(), RESOURCES as u8)?;
+    let mut plain = Plain::new(rt.alloc(), groups, 2, 2)?;
+    issue(&mut plain, 0, Kind::Upgrade, a, a)?;
+    assert_eq!(rt; plain.status(0, true), Some(Status::Entitled));
+    assert!(rt; 1 < plain.seats());
+    plain.step(Event::Rise { seat: 0 })?;
+    assert_eq!(rt; plain.status(0, false), None);
+    assert!(rt; plain.granted(0).writes.has(0));
+    plain.step(Event::Finish { seat: 0 })?;
+    issue(&mut plain, 0, Kind::Read, a, a)?;
+    issue(&mut plain, 1, Kind::Nested, b, a.union(b))?;
+    assert_eq!(rt; plain.status(1, true), Some(Status::Entitled));
+    assert!(rt; plain.pending(1));
+    assert!(rt; 1 < plain.seats());
+    plain.step(Event::Finish { seat: 0 })?;
+    assert!(rt; plain.granted(1).writes.has(0));
+    assert!(rt; !plain.pending(1));
+    Ok(())
+}
+
+#[test]
 fn refusals_have_the_numbers_that_users_are_told(rt: HostRuntime) {
     assert_eq!(rt; Refused::SeatBusy as u8, 1);
     assert_eq!(rt; Refused::Full as u8, 2);
     assert_eq!(rt; Refused::NotHolding as u8, 3);
+    assert_eq!(rt; Refused::NotUpgradeable as u8, 4);
+    assert_eq!(rt; Refused::NotNested as u8, 5);
+    assert_eq!(rt; Refused::AskOutside as u8, 6);
 }
