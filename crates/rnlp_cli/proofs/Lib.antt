@@ -1,5 +1,6 @@
 pub mod Codes
 pub mod Grammar
+pub mod GroupTests
 pub mod Lines
 pub mod Numbers
 pub mod Outcomes

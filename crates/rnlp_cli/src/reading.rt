@@ -4,6 +4,7 @@ ghost use Rattle.csv.specs.Records.{fields_of};
 ghost use Rattle.rset.specs.Sets.{all_below};
 ghost use Rattle.rset.specs.declared.TheConstants.{SEATS};
 ghost use Rattle.rexpand.specs.declared.TheConstants.{GROUPS};
+ghost use Rattle.rexpand.specs.Groups.{ReadGroups};
 ghost use Rattle.rclaim.specs.Requests.{normalised};
 ghost use Rattle.rmodel.specs.Steps.{Fits, refusal, next};
 ghost use Rattle.rmodel.specs.Changes.{changes_between};
@@ -22,7 +23,7 @@ use crate::list::{Code, EventList, Fault, Refusal};
 use crate::record::{Word, field_of, word_of};
 use csv::{ByteRecord, ReaderBuilder};
 use rclaim::{Changes, Event, Kind, LENGTH_LIMIT, Request, RequestErr};
-use rexpand::{GROUPS, Groups};
+use rexpand::{GROUPS, GroupErr, Groups};
 use rmodel::{Machine, Plain, Refused, admit};
 use rset::{NameErr, NameTable, ResourceSet};
 use std::alloc::{AllocError, Global};
@@ -147,7 +148,6 @@ impl Reading {
     fn misplaces(&self, word: Word) -> bool
         ensures order { (before : List Row) → HasRead before self.now → result ≡ is_bad_order before word }
         ensures ready { is_event word ≡ true → result ≡ false → (0 < length self.now.resources) × (0 < length self.now.tasks) }
-        ensures some { is_group word ≡ true → result ≡ false → 0 < length self.now.resources }
     {
         let no_task = self.tasks.len() == 0;
         match word {
@@ -209,6 +209,7 @@ impl Reading {
     // Makes the groups, if they are not there: all resources are declared by now.
     fn make_groups(&mut self, alloc: Global) -> Result<(), RowErr>
         ensures made { OnOk result (HasGroups self.old self.new) }
+        ensures same { OnOk result ((groups : ReadGroups) → self.new.groups ≡ Some groups → groups ≡ groups_of self.old) }
         ensures others { self.new ≡ record self.old { groups = self.new.groups } }
         ensures memory { IfErr result (λ e. e ≡ RowErr.Memory) }
     {
@@ -228,16 +229,15 @@ impl Reading {
         ensures taken { OnOk result (Takes self.old self.new (fields_of fields.now)) }
         ensures bad { (code : Code) → result ≡ Err (RowErr.Bad code) → Refuses self.old (fields_of fields.now) code }
     {
+        let misplaced = self.misplaces(Word::Group);
         let Some(set) = set_of(&self.resources, field_of(fields, 1)) else {
             return Err(RowErr::Bad(self.code_of_unknown()));
         };
-        if self.refuses_group(set) {
-            return Err(RowErr::Bad(Code::BadField));
+        match self.declare_group(alloc, set) {
+            Ok(()) if misplaced => Err(RowErr::Bad(Code::BadOrder)),
+            Ok(()) => Ok(()),
+            Err(e) => Err(e),
         }
-        if self.misplaces(Word::Group) {
-            return Err(RowErr::Bad(Code::BadOrder));
-        }
-        self.declare_group(alloc, set)
     }
 
     // The code of a group that names no resource that there is.
@@ -249,13 +249,6 @@ impl Reading {
         } else {
             Code::UnknownName
         }
-    }
-
-    // Whether no such group can be declared: it has no member, or there are as many as there may be.
-    fn refuses_group(&self, group: ResourceSet) -> bool
-        ensures { result ≡ is_bad_group (groups_of self.now).groups (Some group) }
-    {
-        group.len() == 0 || self.has_all_groups()
     }
 
     // Whether there are as many groups as there may be.
@@ -270,19 +263,22 @@ impl Reading {
 
     // Adds a group behind the others.
     fn declare_group(&mut self, alloc: Global, set: ResourceSet) -> Result<(), RowErr>
-        requires some { 0 < length self.old.resources }
         requires over { (groups_of self.old).q ≡ length self.old.resources }
         requires below { IsTrue (all_below (length self.old.resources) set) }
-        ensures declared { OnOk result (self.new ≡ record self.old { groups = Some (record (groups_of self.old) { groups = (groups_of self.old).groups ++ set ∷ [] }) }) }
-        ensures memory { IfErr result (λ e. e ≡ RowErr.Memory) }
+        ensures declared { OnOk result ((is_bad_group (groups_of self.old).groups (Some set) ≡ false)
+            × (self.new ≡ record self.old { groups = Some (record (groups_of self.old) { groups = (groups_of self.old).groups ++ set ∷ [] }) })) }
+        ensures bad { (code : Code) → result ≡ Err (RowErr.Bad code) → (is_bad_group (groups_of self.old).groups (Some set) ≡ true) × (code ≡ Code.BadField) }
     {
         self.make_groups(alloc)?;
         let Some(groups) = &mut self.groups else {
-            return Err(RowErr::Memory);
+            // Where there is no resource, a set that is known is empty.
+            return Err(RowErr::Bad(Code::BadField));
         };
         match groups.declare(set) {
             Ok(()) => Ok(()),
-            Err(_) => Err(RowErr::Memory),
+            Err(GroupErr::Memory) => Err(RowErr::Memory),
+            Err(GroupErr::EmptyGroup) => Err(RowErr::Bad(Code::BadField)),
+            Err(GroupErr::TooMany) => Err(RowErr::Bad(Code::BadField)),
         }
     }
 

@@ -8,7 +8,7 @@ use Rattle.rnlp_cli.specs.declared.list.Code.TheVariants.{BadField, UnknownName}
 use Rattle.rnlp_cli.proofs.RecordFields.{second-field}
 use Rattle.rnlp_cli.proofs.Codes.{code-field, code-order, code-head, code-group}
 use Rattle.rnlp_cli.proofs.Readings.{groups_known, group_read}
-use Rattle.rnlp_cli.proofs.Results.{on_ok, same_bad}
+use Rattle.rnlp_cli.proofs.Results.{same_bad}
 use Rattle.rnlp_cli.proofs.reading.Reading.group.Goals as goal
 
 pub returns-in_default-clause-bad : goal.returns-in_default-clause-bad
@@ -19,28 +19,28 @@ returns-in_default-clause-bad c = λ code is before h.
     code-group before fields c.requires.word unknown
     ∙ ap (λ gs. Some (cond (is_bad_group gs None) BadField UnknownName)) (sym groups) ∙ ap Some (sym c.code_of_unknown.ensures ∙ same_bad is)
 
-pub returns-then-refuses_group-clause-bad : goal.returns-then-refuses_group-clause-bad
-returns-then-refuses_group-clause-bad c = λ code is before h.
+pub returns-in-Ok-clause-bad : goal.returns-in-Ok-clause-bad
+returns-in-Ok-clause-bad c = λ code is before h.
     let fields = fields_of c.args.fields.now in
     let known = (λ i. set_in (sym h.resources i) (sym (c.field_of.ensures ∙ second-field fields) i)) ∙ sym c.set_of.ensures.value ∙ c.in-Some.is in
     let groups = groups_known before (length c.args.self.now.resources) c.args.self.now.groups h.groups in
-    code-field before fields Group c.requires.word ((λ i. is_bad_group (sym groups i) (known i)) ∙ sym c.refuses_group.ensures ∙ c.if-refuses_group.true) ∙ ap Some (same_bad is)
+    code-order before fields Group c.requires.word ((λ i. is_bad_group (sym groups i) (known i)) ∙ c.in-Ok.ensures.declared.0)
+    (ap is_none known) (sym (c.misplaces-misplaced.ensures.order before h) ∙ c.if-misplaced.true) ∙ ap Some (same_bad is)
 
-pub returns-then-misplaces-clause-bad : goal.returns-then-misplaces-clause-bad
-returns-then-misplaces-clause-bad c = λ code is before h.
+pub returns-in-Ok-2-clause-taken : goal.returns-in-Ok-2-clause-taken
+returns-in-Ok-2-clause-taken c = λ before h.
     let fields = fields_of c.args.fields.now in
     let known = (λ i. set_in (sym h.resources i) (sym (c.field_of.ensures ∙ second-field fields) i)) ∙ sym c.set_of.ensures.value ∙ c.in-Some.is in
     let groups = groups_known before (length c.args.self.now.resources) c.args.self.now.groups h.groups in
-    code-order before fields Group c.requires.word ((λ i. is_bad_group (sym groups i) (known i)) ∙ sym c.refuses_group.ensures ∙ c.if-refuses_group.false)
-    (ap is_none known) (sym (c.misplaces.ensures.order before h) ∙ c.if-misplaces.true) ∙ ap Some (same_bad is)
+    let order = sym (c.misplaces-misplaced.ensures.order before h) ∙ c.if-misplaced.false in (
+      code-head before fields Group c.requires.word refl ((λ i. is_bad_group (sym groups i) (known i)) ∙ c.in-Ok-2.ensures.declared.0) (ap is_none known) order,
+      group_read before fields c.args.self.now _ c.in-Some.set h c.requires.word known order c.in-Ok-2.ensures.declared.1,
+    )
 
-pub returns-clause-taken : goal.returns-clause-taken
-returns-clause-taken c =
-    on_ok c.declare_group.result _ _ c.declare_group.ensures.declared (λ made before h.
+pub returns-in-Err-clause-bad : goal.returns-in-Err-clause-bad
+returns-in-Err-clause-bad c = λ code is before h.
     let fields = fields_of c.args.fields.now in
     let known = (λ i. set_in (sym h.resources i) (sym (c.field_of.ensures ∙ second-field fields) i)) ∙ sym c.set_of.ensures.value ∙ c.in-Some.is in
     let groups = groups_known before (length c.args.self.now.resources) c.args.self.now.groups h.groups in
-    let order = sym (c.misplaces.ensures.order before h) ∙ c.if-misplaces.false in (
-      code-head before fields Group c.requires.word refl ((λ i. is_bad_group (sym groups i) (known i)) ∙ sym c.refuses_group.ensures ∙ c.if-refuses_group.false) (ap is_none known) order,
-      group_read before fields c.args.self.now _ c.in-Some.set h c.requires.word known order made,
-    ))
+    let bad = c.in-Err.ensures.bad code is in
+    code-field before fields Group c.requires.word ((λ i. is_bad_group (sym groups i) (known i)) ∙ bad.0) ∙ ap Some (sym bad.1)
