@@ -1,38 +1,40 @@
 -- The code of a record, from the tests behind it.
-use Rattle.std.proofs.Common.{◌≡◌, ℕ, ◌<◌, ◌≤◌, Bool, true, false, cond, ◌==◌, List, [], ◌∷◌, ◌++◌, length, Option, Some, None, refl, sym, ap, subst, ◌∙◌, true≢false}
+use Rattle.std.proofs.Common.{◌≡◌, ◌≢◌, ℕ, ◌<◌, Bool, true, false, not, ◌||◌, cond, ◌==◌, List, [], ◌∷◌, ◌++◌, length, Option, Some, None, refl, sym, ap, subst, ◌∙◌, true≢false}
 use Rattle.std.specs.Ordering.{nat_cmp}
 use Rattle.std.specs.Prelude.{IfErr, option_map, option_and_then, is_none, IsTrue, Result, Err}
 use Rattle.std.specs.FinSet.{empty, len, len-empty}
 use Rattle.rset.specs.Sets.{Set, all_below}
 use Rattle.rset.specs.Names.{number_in}
-use Rattle.rclaim.specs.Requests.{RequestFields, normalised, asked_set, IsNormal, FitsKind}
+use Rattle.rclaim.specs.Requests.{RequestFields, asked_set, first_fits, is_part, IsNormal}
 use Rattle.rclaim.specs.declared.request.Kind.{Kind}
-use Rattle.rclaim.specs.declared.request.Kind.TheVariants.{Read, Write, Mixed}
-use Rattle.rclaim.specs.declared.request.RequestErr.TheVariants.{EmptyRequest, Undeclared}
+use Rattle.rclaim.specs.declared.request.Kind.TheVariants.{Read, Write, Mixed, Upgrade, Nested}
+use Rattle.rclaim.specs.declared.request.RequestErr.TheVariants.{EmptyRequest, FirstOutside, Undeclared}
 use Rattle.rexpand.specs.Groups.{ReadGroups, is_declared}
-use Rattle.rmodel.specs.Claims.{IsUndeclared, is_admitted, admitted_by}
+use Rattle.rclaim.proofs.Normal.{union_difference}
+use Rattle.rmodel.specs.Claims.{IsUndeclared, is_admitted, needs_declared}
 use Rattle.rclaim.specs.declared.request.RequestErr.{RequestErr}
 use Rattle.rclaim.specs.declared.event.Event.{Event}
 use Rattle.rclaim.specs.declared.event.Event.TheVariants as event
-use Rattle.rclaim.specs.declared.TheConstants.{LENGTH_LIMIT}
 use Rattle.rmodel.specs.State.{LockState}
 use Rattle.rmodel.specs.Steps.{refusal, Fits}
 use Rattle.rmodel.specs.declared.refused.Refused as lock
-use Rattle.rnlp_cli.specs.Records.{Row, word_of, second_of}
-use Rattle.rnlp_cli.specs.Fields.{length_in, set_in}
+use Rattle.rnlp_cli.specs.Records.{Row, word_of, second_of, field_of}
+use Rattle.rnlp_cli.specs.Fields.{set_in}
 use Rattle.rnlp_cli.specs.Heads.{groups_or}
-use Rattle.rnlp_cli.specs.Events.{sets_in, length_field, event_in, event_by, request_refusal, refusal_by, refusal_in}
+use Rattle.rnlp_cli.specs.Events.{sets_in, lengths_in, request_told, event_in, event_by, request_refusal, refusal_by, refusal_in}
 use Rattle.rnlp_cli.specs.Faults.{resources_in, groups_in, tasks_in, head_in, has_word, is_nil, is_group, is_event, is_end, is_bad_group, is_bad_field, is_unknown, is_bad_order, refused_code, state_after, code_of}
 use Rattle.rnlp_cli.specs.Reading.{HasRead, IsReady, StepsBy, state_of, step_code}
+use Rattle.rnlp_cli.specs.declared.fields.RequestSets.{RequestSets}
+use Rattle.rnlp_cli.specs.declared.fields.RequestLengths.{RequestLengths}
 use Rattle.rnlp_cli.specs.declared.reading.Reading.{Reading}
 use Rattle.rnlp_cli.specs.declared.record.Word.{Word}
-use Rattle.rnlp_cli.specs.declared.record.Word.TheVariants.{Version, Resource, Group, Task, Cap, Issue, Finish, End, Unknown}
+use Rattle.rnlp_cli.specs.declared.record.Word.TheVariants.{Version, Resource, Group, Task, Cap, Issue, Finish, Rise, Ask, End, Unknown}
 use Rattle.rnlp_cli.specs.declared.list.Code.{Code}
 use Rattle.rnlp_cli.specs.declared.list.Code.TheVariants.{BadField, UnknownName, BadOrder, Refused}
 use Rattle.rnlp_cli.specs.declared.list.Refusal.TheVariants.{Request, Step}
 use Rattle.rnlp_cli.proofs.Grammar.{not_refused, three_of}
 use Rattle.rnlp_cli.proofs.Readings.{read_event}
-use Rattle.rnlp_cli.proofs.Spelled.{issue_made, finish_made, kind_below, request_right, some_set}
+use Rattle.rnlp_cli.proofs.Spelled.{AreBelow, AreWithin, issue_made, seat_made, ask_made, kind_below, request_right, has_members, some_set, fitting_first}
 
 -- ---- by the tests, in order
 
@@ -56,6 +58,8 @@ code-last before fields w is field names order = rw (is, field, names, order) re
 pub head_known : (before : List Row) (fields : Row) (w : Word) → is_event w ≡ false → is_group w ≡ false → is_unknown before fields w ≡ false
 head_known before fields (Issue kind) h g = absurd (true≢false h)
 head_known before fields Finish h g = absurd (true≢false h)
+head_known before fields Rise h g = absurd (true≢false h)
+head_known before fields Ask h g = absurd (true≢false h)
 head_known before fields Version h g = refl
 head_known before fields Resource h g = refl
 head_known before fields Group h g = absurd (true≢false g)
@@ -99,6 +103,8 @@ code-event before fields w e old h right =
 has_resources : (before : List Row) (w : Word) → is_event w ≡ true → is_bad_order before w ≡ false → is_nil (resources_in before) ≡ false
 has_resources before (Issue kind) is h = (three_of (is_nil (resources_in before)) (is_nil (tasks_in before)) (has_word is_end before) h).0
 has_resources before Finish is h = (three_of (is_nil (resources_in before)) (is_nil (tasks_in before)) (has_word is_end before) h).0
+has_resources before Rise is h = (three_of (is_nil (resources_in before)) (is_nil (tasks_in before)) (has_word is_end before) h).0
+has_resources before Ask is h = (three_of (is_nil (resources_in before)) (is_nil (tasks_in before)) (has_word is_end before) h).0
 has_resources before Version is h = absurd (true≢false (sym is))
 has_resources before Resource is h = absurd (true≢false (sym is))
 has_resources before Group is h = absurd (true≢false (sym is))
@@ -132,7 +138,7 @@ pub event_refused : (before : List Row) (fields : Row) (w : Word) (e : Event) (o
 event_refused before fields w e old code h right lock told =
     code-event before fields w e old h right ∙ ap (option_map Refused) lock ∙ step-codes (refusal (state_of old) e) ∙ sym told
 
--- ---- the two records of events
+-- ---- the records of events
 
 pub finish_right : (before : List Row) (fields : Row) (old : Reading) (seat : ℕ) → HasRead before old → word_of fields ≡ Finish → number_in old.tasks (second_of fields) ≡ Some seat → is_bad_order before Finish ≡ false
     → StandsRight before fields Finish (event.Finish seat)
@@ -145,14 +151,43 @@ finish_right before fields old seat h is task order =
       field = refl;
       names = ap is_none known;
       order = order;
-      spelled = ap (event_by (head_in before) fields) is ∙ finish_made (tasks_in before) fields seat known;
+      spelled = ap (event_by (head_in before) fields) is ∙ seat_made event.Finish (tasks_in before) fields seat known;
     }
 
-pub issue_right : (before : List Row) (fields : Row) (old : Reading) (kind : Kind) (seat : ℕ) (sets : Set × Set) (len : ℕ) → HasRead before old → word_of fields ≡ Issue kind → number_in old.tasks (second_of fields) ≡ Some seat
-    → sets_in old.resources kind fields ≡ Some sets → length_in (length_field kind fields) ≡ Some len → is_bad_order before (Issue kind) ≡ false
-    → StandsRight before fields (Issue kind) (event.Issue seat (normalised kind sets.0 sets.1 len))
+pub rise_right : (before : List Row) (fields : Row) (old : Reading) (seat : ℕ) → HasRead before old → word_of fields ≡ Rise → number_in old.tasks (second_of fields) ≡ Some seat → is_bad_order before Rise ≡ false
+    → StandsRight before fields Rise (event.Rise seat)
 unfolding event_in
-issue_right before fields old kind seat sets len h is task names told order =
+rise_right before fields old seat h is task order =
+    let known : number_in (tasks_in before) (second_of fields) ≡ Some seat = ap (λ ts. number_in ts (second_of fields)) (sym h.tasks) ∙ task in
+    record {
+      word = is;
+      event = refl;
+      field = refl;
+      names = ap is_none known;
+      order = order;
+      spelled = ap (event_by (head_in before) fields) is ∙ seat_made event.Rise (tasks_in before) fields seat known;
+    }
+
+pub ask_right : (before : List Row) (fields : Row) (old : Reading) (seat : ℕ) (part : Set) → HasRead before old → word_of fields ≡ Ask → number_in old.tasks (second_of fields) ≡ Some seat
+    → set_in old.resources (field_of fields 2) ≡ Some part → is_bad_order before Ask ≡ false → StandsRight before fields Ask (event.Ask seat part)
+unfolding event_in
+ask_right before fields old seat part h is task names order =
+    let known : number_in (tasks_in before) (second_of fields) ≡ Some seat = ap (λ ts. number_in ts (second_of fields)) (sym h.tasks) ∙ task in
+    let members : set_in (resources_in before) (field_of fields 2) ≡ Some part = ap (λ rs. set_in rs (field_of fields 2)) (sym h.resources) ∙ names in
+    record {
+      word = is;
+      event = refl;
+      field = refl;
+      names = rw (known, members) refl;
+      order = order;
+      spelled = ap (event_by (head_in before) fields) is ∙ ask_made (head_in before) fields seat part known members;
+    }
+
+pub issue_right : (before : List Row) (fields : Row) (old : Reading) (kind : Kind) (seat : ℕ) (sets : RequestSets) (lengths : RequestLengths) → HasRead before old → word_of fields ≡ Issue kind
+    → number_in old.tasks (second_of fields) ≡ Some seat → sets_in old.resources kind fields ≡ Some sets → lengths_in kind fields ≡ Some lengths → is_bad_order before (Issue kind) ≡ false
+    → StandsRight before fields (Issue kind) (event.Issue seat (request_told kind sets lengths))
+unfolding event_in
+issue_right before fields old kind seat sets lengths h is task names told order =
     let known : number_in (tasks_in before) (second_of fields) ≡ Some seat = ap (λ ts. number_in ts (second_of fields)) (sym h.tasks) ∙ task in
     let members : sets_in (resources_in before) kind fields ≡ Some sets = ap (λ rs. sets_in rs kind fields) (sym h.resources) ∙ names in
     record {
@@ -161,22 +196,30 @@ issue_right before fields old kind seat sets len h is task names told order =
       field = ap is_none told;
       names = rw (known, members) refl;
       order = order;
-      spelled = ap (event_by (head_in before) fields) is ∙ issue_made (head_in before) kind fields seat sets len known members told;
+      spelled = ap (event_by (head_in before) fields) is ∙ issue_made (head_in before) kind fields seat sets lengths known members told;
     }
 
+-- the groups of the state are over the resources that were declared
+groups_over_resources : (old : Reading) → IsReady old → (state_of old).groups.q ≡ length old.resources
+groups_over_resources old ready = ap (λ (g : ReadGroups). g.q) ready.over ∙ ready.grouped
+
 -- what a request that nothing refuses fits
-pub issue_fits : (old : Reading) (kind : Kind) (seat : ℕ) (reads writes : Set) (len : ℕ) → IsReady old → seat < length old.tasks → IsTrue (all_below (length old.resources) reads) → IsTrue (all_below (length old.resources) writes)
-    → len ≤ LENGTH_LIMIT → request_refusal (state_of old).groups.groups (normalised kind reads writes len) ≡ None → Fits (state_of old) (event.Issue seat (normalised kind reads writes len))
-issue_fits old kind seat reads writes len ready below all some within none =
-    let over : (state_of old).groups.q ≡ length old.resources = ap (λ (g : ReadGroups). g.q) ready.over ∙ ready.grouped in
-    let members = kind_below (state_of old).groups.q kind reads writes len (ap (λ q. all_below q reads) over ∙ all) (ap (λ q. all_below q writes) over ∙ some) in
+pub issue_fits : (old : Reading) (kind : Kind) (seat : ℕ) (sets : RequestSets) (lengths : RequestLengths) → IsReady old → seat < length old.tasks → AreBelow old.resources sets → AreWithin lengths
+    → request_refusal (state_of old).groups.groups (request_told kind sets lengths) ≡ None → Fits (state_of old) (event.Issue seat (request_told kind sets lengths))
+issue_fits old kind seat sets lengths ready below all within none =
+    let over = groups_over_resources old ready in
+    let members = kind_below (state_of old).groups.q kind sets lengths (ap (λ q. all_below q sets.reads) over ∙ all.0) (ap (λ q. all_below q sets.writes) over ∙ all.1) in
     record {
       seat_there = subst (λ n. seat < n) (sym ready.seats) below;
       reads = members.0;
       writes = members.1;
-      admitted = (request_right (state_of old).groups.groups kind reads writes len none within).1;
+      admitted = (request_right (state_of old).groups.groups kind sets lengths none within).1;
       stamps = ready.stamps;
     }
+
+-- what an ask of resources that there are fits
+pub ask_fits : (old : Reading) (seat : ℕ) (part : Set) → IsReady old → seat < length old.tasks → IsTrue (all_below (length old.resources) part) → Fits (state_of old) (event.Ask seat part)
+ask_fits old seat part ready below all = (subst (λ n. seat < n) (sym ready.seats) below, ap (λ q. all_below q part) (groups_over_resources old ready) ∙ all)
 
 -- the groups of the state are those that were declared
 pub groups_there : (old : Reading) (groups : ReadGroups) → IsReady old → old.groups ≡ Some groups → (state_of old).groups ≡ groups
@@ -184,33 +227,51 @@ groups_there old groups ready is = ready.over ∙ ap (groups_or (length old.reso
 
 -- ---- requests that are refused
 
-pub refused_empty : (groups : List Set) (kind : Kind) (reads writes : Set) (n : ℕ) → asked_set kind reads writes ≡ empty → request_refusal groups (normalised kind reads writes n) ≡ Some EmptyRequest
-refused_empty groups Read reads writes n e = let none : (len reads == 0) ≡ true = ap (λ t. len t == 0) e ∙ ap (λ n. n == 0) (len-empty nat_cmp) in rw none refl
-refused_empty groups Write reads writes n e = let none : (len writes == 0) ≡ true = ap (λ t. len t == 0) e ∙ ap (λ n. n == 0) (len-empty nat_cmp) in rw none refl
-refused_empty groups Mixed reads writes n e = let none : (len writes == 0) ≡ true = ap (λ t. len t == 0) e ∙ ap (λ n. n == 0) (len-empty nat_cmp) in rw none refl
+no_members : (s : Set) → s ≡ empty → (len s == 0) ≡ true
+no_members s e = ap (λ t. len t == 0) e ∙ ap (λ n. n == 0) (len-empty nat_cmp)
 
--- a read in normal form of a set that is not declared
+refused_empty : (groups : List Set) (kind : Kind) (sets : RequestSets) (lengths : RequestLengths) → asked_set kind sets.reads sets.writes ≡ empty → request_refusal groups (request_told kind sets lengths) ≡ Some EmptyRequest
+refused_empty groups Read sets lengths e = rw (no_members sets.reads e) refl
+refused_empty groups Write sets lengths e = rw (no_members sets.writes e) refl
+refused_empty groups Mixed sets lengths e = rw (no_members sets.writes e) refl
+refused_empty groups Upgrade sets lengths e = rw (no_members sets.reads e) refl
+refused_empty groups Nested sets lengths e = rw (no_members sets.writes e) refl
+
+-- only the first part of a nested request can be outside
+refused_outside : (groups : List Set) (kind : Kind) (sets : RequestSets) (lengths : RequestLengths) → asked_set kind sets.reads sets.writes ≢ empty → first_fits kind sets.reads sets.writes sets.first ≡ false
+    → request_refusal groups (request_told kind sets lengths) ≡ Some FirstOutside
+refused_outside groups Read sets lengths some outside = absurd (true≢false outside)
+refused_outside groups Write sets lengths some outside = absurd (true≢false outside)
+refused_outside groups Mixed sets lengths some outside = absurd (true≢false outside)
+refused_outside groups Upgrade sets lengths some outside = absurd (true≢false outside)
+refused_outside groups Nested sets lengths some outside = rw (has_members sets.writes some, ap (is_part sets.first) (union_difference sets.reads sets.writes) ∙ outside) refl
+
+-- what refuses a request before its groups are looked at
+pub refused_new : (groups : List Set) (kind : Kind) (sets : RequestSets) (lengths : RequestLengths) (cause : RequestErr) → cause ≢ Undeclared
+    → (cause ≡ EmptyRequest → asked_set kind sets.reads sets.writes ≡ empty)
+    → (cause ≡ FirstOutside → (asked_set kind sets.reads sets.writes ≢ empty) × (first_fits kind sets.reads sets.writes sets.first ≡ false))
+    → request_refusal groups (request_told kind sets lengths) ≡ Some cause
+refused_new groups kind sets lengths EmptyRequest other none outside = refused_empty groups kind sets lengths (none refl)
+refused_new groups kind sets lengths FirstOutside other none outside = refused_outside groups kind sets lengths (outside refl).0 (outside refl).1
+refused_new groups kind sets lengths Undeclared other none outside = absurd (other refl)
+
+-- a request in normal form whose set must be declared, and is not
 pub refused_undeclared : (groups : List Set) (r : RequestFields) → IsNormal r → IsUndeclared groups r → request_refusal groups r ≡ Some Undeclared
 refused_undeclared groups r normal undeclared =
-    let some : (len r.reads == 0) ≡ false = some_set Read r.reads r.writes (subst (λ kind. FitsKind kind r.reads r.writes) undeclared.0 normal.sets) in
-    let kind = undeclared.0 in
+    let some = some_set r.kind r.reads r.writes normal.sets in
+    let part = fitting_first r.kind r.reads r.writes r.first normal.first in
+    let needs = undeclared.0 in
     let none = undeclared.1 in
-    rw (kind, some, none) refl
+    rw (some, part, needs, none) refl
 
--- a request that is not admitted is such a read
+-- a request that is not admitted is such a one
 pub undeclared_of : (groups : List Set) (r : RequestFields) → (IsTrue (is_admitted groups r) → false ≡ true) → IsUndeclared groups r
-undeclared_of groups r not = by_kind r.kind r refl not
+undeclared_of groups r not_admitted = at (needs_declared r.kind) (is_declared groups r.reads) not_admitted
   where
-    by_kind : (k : Kind) (q : RequestFields) → q.kind ≡ k → (IsTrue (is_admitted groups q) → false ≡ true) → IsUndeclared groups q
-    by_kind Write q is h = absurd (true≢false (sym (h (ap (λ kind. admitted_by groups kind q.reads) is))))
-    by_kind Mixed q is h = absurd (true≢false (sym (h (ap (λ kind. admitted_by groups kind q.reads) is))))
-    by_kind Read q is h = (
-      is,
-      elim (is_declared groups q.reads) as (λ b. is_declared groups q.reads ≡ b → b ≡ false) [
-        | true ↦ λ e. absurd (true≢false (sym (h (ap (λ kind. admitted_by groups kind q.reads) is ∙ e))))
-        | false ↦ λ e. refl
-      ] refl,
-    )
+    at : (needs is : Bool) → (IsTrue (not needs || is) → false ≡ true) → (needs ≡ true) × (is ≡ false)
+    at true true h = absurd (true≢false (sym (h refl)))
+    at true false h = (refl, refl)
+    at false is h = absurd (true≢false (sym (h refl)))
 
 -- the cause of an error is what it is
 pub err_cause : {T : Type 0} (r : Result T RequestErr) (e : RequestErr) (P : RequestErr → Type 0) → r ≡ Err e → P e → IfErr r P
@@ -220,8 +281,8 @@ pub err_of : {T : Type 0} {x e : RequestErr} → ◌≡◌ {A = Result T Request
 err_of {T} {x} {e} p = cc
 
 -- the record of an issue stands right for the request that is made of its fields
-pub issue_stands : (before : List Row) (fields : Row) (old : Reading) (kind : Kind) (seat : ℕ) (sets : Set × Set) (len : ℕ) (r : RequestFields) → HasRead before old → word_of fields ≡ Issue kind
-    → number_in old.tasks (second_of fields) ≡ Some seat → sets_in old.resources kind fields ≡ Some sets → length_in (length_field kind fields) ≡ Some len → is_bad_order before (Issue kind) ≡ false
-    → r ≡ normalised kind sets.0 sets.1 len → StandsRight before fields (Issue kind) (event.Issue seat r)
-issue_stands before fields old kind seat sets len r h is task names told order made =
-    subst (λ q. StandsRight before fields (Issue kind) (event.Issue seat q)) (sym made) (issue_right before fields old kind seat sets len h is task names told order)
+pub issue_stands : (before : List Row) (fields : Row) (old : Reading) (kind : Kind) (seat : ℕ) (sets : RequestSets) (lengths : RequestLengths) (r : RequestFields) → HasRead before old → word_of fields ≡ Issue kind
+    → number_in old.tasks (second_of fields) ≡ Some seat → sets_in old.resources kind fields ≡ Some sets → lengths_in kind fields ≡ Some lengths → is_bad_order before (Issue kind) ≡ false
+    → r ≡ request_told kind sets lengths → StandsRight before fields (Issue kind) (event.Issue seat r)
+issue_stands before fields old kind seat sets lengths r h is task names told order made =
+    subst (λ q. StandsRight before fields (Issue kind) (event.Issue seat q)) (sym made) (issue_right before fields old kind seat sets lengths h is task names told order)

@@ -16,7 +16,7 @@ use Rattle.rnlp_cli.specs.Events.{event_by, event_in, events_in, refusal_in}
 use Rattle.rnlp_cli.specs.Faults.{names_in, resources_in, groups_in, tasks_in, first_cap, cap_in, head_in, has_word, code_of, fault_from, first_fault, told_first, is_nil, is_resource, is_group, is_task, is_cap, is_event, is_end, ends_resources, is_bad_name, is_bad_group, is_bad_field, is_unknown, is_bad_order, refused_code, state_after}
 use Rattle.rnlp_cli.specs.Lists.{Listed, version_row, resource_row, task_row, end_row, head_rows, IsGroupOf, SpellGroups, SpellCap, SpellEvents, are_read_groups, IsEventList}
 use Rattle.rnlp_cli.specs.declared.record.Word.{Word}
-use Rattle.rnlp_cli.specs.declared.record.Word.TheVariants.{Version, Resource, Group, Task, Cap, Issue, Finish, End, Unknown}
+use Rattle.rnlp_cli.specs.declared.record.Word.TheVariants.{Version, Resource, Group, Task, Cap, Issue, Finish, Rise, Ask, End, Unknown}
 use Rattle.rnlp_cli.specs.declared.list.Code.TheVariants.{BadField, UnknownName, BadOrder, Refused}
 use Rattle.rnlp_cli.specs.declared.list.Refusal.{Refusal}
 use Rattle.rnlp_cli.proofs.Tables.{table-front, table-push, table-empty, groups-front, groups-push}
@@ -64,6 +64,8 @@ Looks fields Group = Unit {0}
 Looks fields Cap = Unit {0}
 Looks fields (Issue kind) = Unit {0}
 Looks fields Finish = Unit {0}
+Looks fields Rise = Unit {0}
+Looks fields Ask = Unit {0}
 Looks fields Unknown = Unit {0}
 
 same : (field word : List ℕ) → bytes_eq field word ≡ true → field ≡ word
@@ -75,6 +77,7 @@ looks [] = tt
 looks (first ∷ []) = chosen (bytes_eq first (codes "end")) (Looks (first ∷ [])) End Unknown (λ e. ap (λ x. x ∷ []) (same first (codes "end") e)) (λ _. tt)
 looks (first ∷ second ∷ []) =
     chosen (bytes_eq first (codes "finish")) (Looks (first ∷ second ∷ [])) _ _ (λ _. tt)
+    (λ _. chosen (bytes_eq first (codes "rise")) (Looks (first ∷ second ∷ [])) _ _ (λ _. tt)
     (λ _. chosen (bytes_eq first (codes "resource")) (Looks (first ∷ second ∷ [])) _ _
     (λ e. ap (λ x. x ∷ second ∷ []) (same first (codes "resource") e))
     (λ _. chosen (bytes_eq first (codes "group")) (Looks (first ∷ second ∷ [])) _ _ (λ _. tt)
@@ -83,15 +86,18 @@ looks (first ∷ second ∷ []) =
     (λ _. chosen (bytes_eq first (codes "cap")) (Looks (first ∷ second ∷ [])) _ _ (λ _. tt)
     (λ _. chosen (bytes_eq first (codes "rnlp") && bytes_eq second (codes "1")) (Looks (first ∷ second ∷ [])) _ _
     (λ e. ap (λ x. x ∷ second ∷ []) (same first (codes "rnlp") (left_holds _ _ e)) ∙ ap (λ x. codes "rnlp" ∷ x ∷ []) (same second (codes "1") (right_holds (bytes_eq first (codes "rnlp")) _ e)))
-    (λ _. tt))))))
-looks (first ∷ second ∷ third ∷ []) = tt
+    (λ _. tt)))))))
+looks (first ∷ second ∷ third ∷ []) = chosen (bytes_eq first (codes "ask")) (Looks (first ∷ second ∷ third ∷ [])) _ _ (λ _. tt) (λ _. tt)
 looks (first ∷ second ∷ third ∷ fourth ∷ []) = tt
 looks (first ∷ second ∷ third ∷ fourth ∷ fifth ∷ []) =
     chosen (bytes_eq first (codes "issue") && bytes_eq third (codes "read")) (Looks (first ∷ second ∷ third ∷ fourth ∷ fifth ∷ [])) _ _ (λ _. tt)
     (λ _. chosen (bytes_eq first (codes "issue") && bytes_eq third (codes "write")) (Looks (first ∷ second ∷ third ∷ fourth ∷ fifth ∷ [])) _ _ (λ _. tt) (λ _. tt))
 looks (first ∷ second ∷ third ∷ fourth ∷ fifth ∷ sixth ∷ []) =
-    chosen (bytes_eq first (codes "issue") && bytes_eq third (codes "mixed")) (Looks (first ∷ second ∷ third ∷ fourth ∷ fifth ∷ sixth ∷ [])) _ _ (λ _. tt) (λ _. tt)
-looks (first ∷ second ∷ third ∷ fourth ∷ fifth ∷ sixth ∷ seventh ∷ fields) = tt
+    chosen (bytes_eq first (codes "issue") && bytes_eq third (codes "mixed")) (Looks (first ∷ second ∷ third ∷ fourth ∷ fifth ∷ sixth ∷ [])) _ _ (λ _. tt)
+    (λ _. chosen (bytes_eq first (codes "issue") && bytes_eq third (codes "upgrade")) (Looks (first ∷ second ∷ third ∷ fourth ∷ fifth ∷ sixth ∷ [])) _ _ (λ _. tt) (λ _. tt))
+looks (first ∷ second ∷ third ∷ fourth ∷ fifth ∷ sixth ∷ seventh ∷ []) =
+    chosen (bytes_eq first (codes "issue") && bytes_eq third (codes "nested")) (Looks (first ∷ second ∷ third ∷ fourth ∷ fifth ∷ sixth ∷ seventh ∷ [])) _ _ (λ _. tt) (λ _. tt)
+looks (first ∷ second ∷ third ∷ fourth ∷ fifth ∷ sixth ∷ seventh ∷ eighth ∷ fields) = tt
 
 -- ---- what a growing list of records declares
 
@@ -177,6 +183,8 @@ all-none kind w is (fields ∷ rows) all h = absurd (true≢false (sym (ap (λ b
 pub no_event_by : (head : Head) (fields : Row) (w : Word) → is_event w ≡ false → event_by head fields w ≡ None
 no_event_by head fields (Issue kind) h = absurd (true≢false h)
 no_event_by head fields Finish h = absurd (true≢false h)
+no_event_by head fields Rise h = absurd (true≢false h)
+no_event_by head fields Ask h = absurd (true≢false h)
 no_event_by head fields Version h = refl
 no_event_by head fields Resource h = refl
 no_event_by head fields Group h = refl
@@ -257,6 +265,8 @@ module _ (resources : List (List ℕ)) (grs : List Row) (tasks : List (List ℕ)
 pub not_resource : (w : Word) → is_event w ≡ true → is_resource w ≡ false
 not_resource (Issue kind) h = refl
 not_resource Finish h = refl
+not_resource Rise h = refl
+not_resource Ask h = refl
 not_resource Version h = refl
 not_resource Resource h = absurd (true≢false (sym h))
 not_resource Group h = refl
@@ -268,6 +278,8 @@ not_resource Unknown h = refl
 pub not_group : (w : Word) → is_event w ≡ true → is_group w ≡ false
 not_group (Issue kind) h = refl
 not_group Finish h = refl
+not_group Rise h = refl
+not_group Ask h = refl
 not_group Version h = refl
 not_group Resource h = refl
 not_group Group h = absurd (true≢false (sym h))
@@ -279,6 +291,8 @@ not_group Unknown h = refl
 pub not_task : (w : Word) → is_event w ≡ true → is_task w ≡ false
 not_task (Issue kind) h = refl
 not_task Finish h = refl
+not_task Rise h = refl
+not_task Ask h = refl
 not_task Version h = refl
 not_task Resource h = refl
 not_task Group h = refl
@@ -290,6 +304,8 @@ not_task Unknown h = refl
 pub not_cap : (w : Word) → is_event w ≡ true → is_cap w ≡ false
 not_cap (Issue kind) h = refl
 not_cap Finish h = refl
+not_cap Rise h = refl
+not_cap Ask h = refl
 not_cap Version h = refl
 not_cap Resource h = refl
 not_cap Group h = refl
@@ -301,6 +317,8 @@ not_cap Unknown h = refl
 pub not_end : (w : Word) → is_event w ≡ true → is_end w ≡ false
 not_end (Issue kind) h = refl
 not_end Finish h = refl
+not_end Rise h = refl
+not_end Ask h = refl
 not_end Version h = refl
 not_end Resource h = refl
 not_end Group h = refl
@@ -312,6 +330,8 @@ not_end Unknown h = refl
 pub not_ending : (w : Word) → is_event w ≡ true → ends_resources w ≡ false
 not_ending (Issue kind) h = refl
 not_ending Finish h = refl
+not_ending Rise h = refl
+not_ending Ask h = refl
 not_ending Version h = refl
 not_ending Resource h = refl
 not_ending Group h = absurd (true≢false (sym h))
@@ -712,6 +732,8 @@ end_passes before head grs crs rows events h some =
 event_order : (before : List Row) (w : Word) → is_event w ≡ true → is_nil (resources_in before) ≡ false → is_nil (tasks_in before) ≡ false → has_word is_end before ≡ false → is_bad_order before w ≡ false
 event_order before (Issue kind) h first some unended = or_false _ _ (or_false _ _ first some) unended
 event_order before Finish h first some unended = or_false _ _ (or_false _ _ first some) unended
+event_order before Rise h first some unended = or_false _ _ (or_false _ _ first some) unended
+event_order before Ask h first some unended = or_false _ _ (or_false _ _ first some) unended
 event_order before Version h first some unended = absurd (true≢false (sym h))
 event_order before Resource h first some unended = absurd (true≢false (sym h))
 event_order before Group h first some unended = absurd (true≢false (sym h))
@@ -927,6 +949,8 @@ has_task (fields ∷ rows) some = by_word (word_of fields) (has_task rows) some
     by_word Cap behind s = behind s
     by_word (Issue kind) behind s = behind s
     by_word Finish behind s = behind s
+    by_word Rise behind s = behind s
+    by_word Ask behind s = behind s
     by_word End behind s = behind s
     by_word Unknown behind s = behind s
 
@@ -939,6 +963,8 @@ none_behind before fields Task ended begun some field order = true≢false (sym 
 none_behind before fields Cap ended begun some field order = true≢false (sym ended ∙ (four_of (is_nil (tasks_in before)) (has_word is_cap before) (has_word is_event before) _ order).3)
 none_behind before fields (Issue kind) ended begun some field order = true≢false (sym ended ∙ (three_of (is_nil (resources_in before)) (is_nil (tasks_in before)) _ order).2)
 none_behind before fields Finish ended begun some field order = true≢false (sym ended ∙ (three_of (is_nil (resources_in before)) (is_nil (tasks_in before)) _ order).2)
+none_behind before fields Rise ended begun some field order = true≢false (sym ended ∙ (three_of (is_nil (resources_in before)) (is_nil (tasks_in before)) _ order).2)
+none_behind before fields Ask ended begun some field order = true≢false (sym ended ∙ (three_of (is_nil (resources_in before)) (is_nil (tasks_in before)) _ order).2)
 none_behind before fields End ended begun some field order = true≢false (sym ended ∙ (neither_of (is_nil (tasks_in before)) _ order).1)
 none_behind before fields Unknown ended begun some field order = true≢false field
 
@@ -1014,6 +1040,8 @@ free_event before head grs crs rows events fields rest h few is field names free
 event_has_task : (before : List Row) (w : Word) → is_event w ≡ true → is_bad_order before w ≡ false → is_nil (tasks_in before) ≡ false
 event_has_task before (Issue kind) h order = (three_of (is_nil (resources_in before)) _ (has_word is_end before) order).1
 event_has_task before Finish h order = (three_of (is_nil (resources_in before)) _ (has_word is_end before) order).1
+event_has_task before Rise h order = (three_of (is_nil (resources_in before)) _ (has_word is_end before) order).1
+event_has_task before Ask h order = (three_of (is_nil (resources_in before)) _ (has_word is_end before) order).1
 event_has_task before Version h order = absurd (true≢false (sym h))
 event_has_task before Resource h order = absurd (true≢false (sym h))
 event_has_task before Group h order = absurd (true≢false (sym h))
@@ -1087,6 +1115,10 @@ next_is before head grs crs rows events fields rest (Issue kind) is look h few f
     next_event before head grs crs rows events fields rest h few (ap is_event is) (rw is field) (rw is names) (rw is order) free more later
 next_is before head grs crs rows events fields rest Finish is look h few field names order free more later =
     next_event before head grs crs rows events fields rest h few (ap is_event is) (rw is field) (rw is names) (rw is order) free more later
+next_is before head grs crs rows events fields rest Rise is look h few field names order free more later =
+    next_event before head grs crs rows events fields rest h few (ap is_event is) (rw is field) (rw is names) (rw is order) free more later
+next_is before head grs crs rows events fields rest Ask is look h few field names order free more later =
+    next_event before head grs crs rows events fields rest h few (ap is_event is) (rw is field) (rw is names) (rw is order) free more later
 next_is before head grs crs rows events fields rest End is look h few field names order free more later =
     let some : is_nil head.tasks ≡ false = ap is_nil (sym (begun-tasks h)) ∙ (neither_of (is_nil (tasks_in before)) _ order).0 in
     let last : rest ≡ [] = after_end before rest (neither_of (is_nil (tasks_in before)) _ order).0 (ap (λ r. fault_from (before ++ r ∷ []) rest) (sym look) ∙ more) in
@@ -1118,6 +1150,8 @@ first_is fields Task look field order = absurd (true≢false order)
 first_is fields Cap look field order = absurd (true≢false order)
 first_is fields (Issue kind) look field order = absurd (true≢false order)
 first_is fields Finish look field order = absurd (true≢false order)
+first_is fields Rise look field order = absurd (true≢false order)
+first_is fields Ask look field order = absurd (true≢false order)
 first_is fields End look field order = absurd (true≢false order)
 first_is fields Unknown look field order = absurd (true≢false field)
 

@@ -20,7 +20,7 @@ use Rattle.rnlp_cli.specs.Faults.{names_in, resources_in, groups_in, tasks_in, f
 use Rattle.rnlp_cli.specs.Reading.{HasRead, StepsBy, Notes, IsBadNote, HasGroups, known_as, known_groups, groups_of, head_of, standing, state_of}
 use Rattle.rnlp_cli.specs.declared.reading.Reading.{Reading}
 use Rattle.rnlp_cli.specs.declared.record.Word.{Word}
-use Rattle.rnlp_cli.specs.declared.record.Word.TheVariants.{Version, Resource, Group, Task, Cap, Issue, Finish, End, Unknown}
+use Rattle.rnlp_cli.specs.declared.record.Word.TheVariants.{Version, Resource, Group, Task, Cap, Issue, Finish, Rise, Ask, End, Unknown}
 use Rattle.rnlp_cli.proofs.Grammar.{names_in-append, has_word-append, events_in-append, filter_map-append, no_event_by, not_resource, not_group, not_task, not_cap, not_end, not_ending, some_behind, three_of, four_of}
 use Rattle.rnlp_cli.proofs.Spelled.{after-push}
 
@@ -126,6 +126,8 @@ no_group (fields ∷ rows) h = by_word (word_of fields) (no_group rows) h
     by_word Cap behind e = behind e
     by_word (Issue kind) behind e = behind e
     by_word Finish behind e = behind e
+    by_word Rise behind e = behind e
+    by_word Ask behind e = behind e
     by_word End behind e = behind e
     by_word Unknown behind e = behind e
 
@@ -276,6 +278,8 @@ noted_field before fields old new Cap name h second noted = ap is_none (ap cap_t
 noted_field before fields old new Group name h second noted = absurd noted
 noted_field before fields old new (Issue kind) name h second noted = absurd noted
 noted_field before fields old new Finish name h second noted = absurd noted
+noted_field before fields old new Rise name h second noted = absurd noted
+noted_field before fields old new Ask name h second noted = absurd noted
 noted_field before fields old new Unknown name h second noted = absurd noted
 
 -- what could not be noted does not
@@ -288,6 +292,8 @@ bad_noted before fields old Cap name h g second bad = ap is_none (ap cap_told (s
 bad_noted before fields old Group name h g second bad = absurd (true≢false g)
 bad_noted before fields old (Issue kind) name h g second bad = absurd bad
 bad_noted before fields old Finish name h g second bad = absurd bad
+bad_noted before fields old Rise name h g second bad = absurd bad
+bad_noted before fields old Ask name h g second bad = absurd bad
 bad_noted before fields old Unknown name h g second bad = refl
 
 some_names : (names : List (List ℕ)) → is_nil names ≡ false → 0 < length names
@@ -365,6 +371,8 @@ noted_read before fields old new Cap name h is second order noted =
 noted_read before fields old new Group name h is second order noted = absurd noted
 noted_read before fields old new (Issue kind) name h is second order noted = absurd noted
 noted_read before fields old new Finish name h is second order noted = absurd noted
+noted_read before fields old new Rise name h is second order noted = absurd noted
+noted_read before fields old new Ask name h is second order noted = absurd noted
 noted_read before fields old new Unknown name h is second order noted = absurd noted
 
 -- one group more is declared

@@ -8,12 +8,12 @@ use Rattle.rset.specs.declared.TheConstants.{RESOURCES}
 use Rattle.rexpand.specs.declared.TheConstants.{GROUPS}
 use Rattle.rmodel.specs.State.{LockState}
 use Rattle.rmodel.specs.Steps.{after}
-use Rattle.rnlp_cli.specs.Records.{Row, word_of, second_of}
-use Rattle.rnlp_cli.specs.Fields.{length_in, set_in, cap_told}
+use Rattle.rnlp_cli.specs.Records.{Row, word_of, second_of, field_of}
+use Rattle.rnlp_cli.specs.Fields.{set_in, cap_told}
 use Rattle.rnlp_cli.specs.Heads.{Head, opening_of, cap_or}
-use Rattle.rnlp_cli.specs.Events.{sets_in, length_field, event_in, events_in, refusal_in}
+use Rattle.rnlp_cli.specs.Events.{sets_in, lengths_in, event_in, events_in, refusal_in}
 use Rattle.rnlp_cli.specs.declared.record.Word.{Word}
-use Rattle.rnlp_cli.specs.declared.record.Word.TheVariants.{Version, Resource, Group, Task, Cap, Issue, Finish, End, Unknown}
+use Rattle.rnlp_cli.specs.declared.record.Word.TheVariants.{Version, Resource, Group, Task, Cap, Issue, Finish, Rise, Ask, End, Unknown}
 use Rattle.rnlp_cli.specs.declared.list.Code.{Code}
 use Rattle.rnlp_cli.specs.declared.list.Code.TheVariants.{BadField, UnknownName, BadOrder, Refused, NoEnd}
 use Rattle.rnlp_cli.specs.declared.list.Fault.{Fault}
@@ -26,6 +26,8 @@ is_resource Task = false
 is_resource Cap = false
 is_resource (Issue kind) = false
 is_resource Finish = false
+is_resource Rise = false
+is_resource Ask = false
 is_resource End = false
 is_resource Unknown = false
 
@@ -37,6 +39,8 @@ is_group Task = false
 is_group Cap = false
 is_group (Issue kind) = false
 is_group Finish = false
+is_group Rise = false
+is_group Ask = false
 is_group End = false
 is_group Unknown = false
 
@@ -48,6 +52,8 @@ is_task Task = true
 is_task Cap = false
 is_task (Issue kind) = false
 is_task Finish = false
+is_task Rise = false
+is_task Ask = false
 is_task End = false
 is_task Unknown = false
 
@@ -59,6 +65,8 @@ is_cap Task = false
 is_cap Cap = true
 is_cap (Issue kind) = false
 is_cap Finish = false
+is_cap Rise = false
+is_cap Ask = false
 is_cap End = false
 is_cap Unknown = false
 
@@ -70,6 +78,8 @@ is_event Task = false
 is_event Cap = false
 is_event (Issue kind) = true
 is_event Finish = true
+is_event Rise = true
+is_event Ask = true
 is_event End = false
 is_event Unknown = false
 
@@ -81,6 +91,8 @@ is_end Task = false
 is_end Cap = false
 is_end (Issue kind) = false
 is_end Finish = false
+is_end Rise = false
+is_end Ask = false
 is_end End = true
 is_end Unknown = false
 
@@ -93,6 +105,8 @@ ends_resources Task = true
 ends_resources Cap = false
 ends_resources (Issue kind) = false
 ends_resources Finish = false
+ends_resources Rise = false
+ends_resources Ask = false
 ends_resources End = false
 ends_resources Unknown = false
 
@@ -152,15 +166,17 @@ is_nothing (Some s) = len s == 0
 abbrev pub is_bad_group : List Set → Option Set → Bool
 is_bad_group groups group = is_nothing group || (length groups == GROUPS)
 
--- it is no record, the name or the group that it declares is bad, or its length or its cap is none
+-- it is no record, the name or the group that it declares is bad, or a length of it or its cap is none
 abbrev pub is_bad_field : List Row → Row → Word → Bool
 is_bad_field before fields Version = false
 is_bad_field before fields Resource = is_bad_name (resources_in before) (second_of fields)
 is_bad_field before fields Group = is_bad_group (groups_in before) (set_in (resources_in before) (second_of fields))
 is_bad_field before fields Task = is_bad_name (tasks_in before) (second_of fields)
 is_bad_field before fields Cap = is_none (cap_told (second_of fields))
-is_bad_field before fields (Issue kind) = is_none (length_in (length_field kind fields))
+is_bad_field before fields (Issue kind) = is_none (lengths_in kind fields)
 is_bad_field before fields Finish = false
+is_bad_field before fields Rise = false
+is_bad_field before fields Ask = false
 is_bad_field before fields End = false
 is_bad_field before fields Unknown = true
 
@@ -170,6 +186,9 @@ is_unknown before fields Group = is_none (set_in (resources_in before) (second_o
 is_unknown before fields (Issue kind) =
     is_none (number_in (tasks_in before) (second_of fields)) || is_none (sets_in (resources_in before) kind fields)
 is_unknown before fields Finish = is_none (number_in (tasks_in before) (second_of fields))
+is_unknown before fields Rise = is_none (number_in (tasks_in before) (second_of fields))
+is_unknown before fields Ask =
+    is_none (number_in (tasks_in before) (second_of fields)) || is_none (set_in (resources_in before) (field_of fields 2))
 is_unknown before fields Version = false
 is_unknown before fields Resource = false
 is_unknown before fields Task = false
@@ -186,6 +205,8 @@ is_bad_order before Task = is_nil (resources_in before) || has_word is_cap befor
 is_bad_order before Cap = is_nil (tasks_in before) || has_word is_cap before || has_word is_event before || has_word is_end before
 is_bad_order before (Issue kind) = is_nil (resources_in before) || is_nil (tasks_in before) || has_word is_end before
 is_bad_order before Finish = is_nil (resources_in before) || is_nil (tasks_in before) || has_word is_end before
+is_bad_order before Rise = is_nil (resources_in before) || is_nil (tasks_in before) || has_word is_end before
+is_bad_order before Ask = is_nil (resources_in before) || is_nil (tasks_in before) || has_word is_end before
 is_bad_order before End = is_nil (tasks_in before) || has_word is_end before
 is_bad_order before Unknown = false
 

@@ -19,7 +19,7 @@ use Rattle.rnlp_cli.specs.Report.{history_text, step_rows}
 use Rattle.rnlp_cli.specs.declared.list.Code.{Code}
 use Rattle.rnlp_cli.specs.declared.list.Refusal.TheVariants.{Step}
 use Rattle.rnlp_cli.specs.declared.record.Word.{Word}
-use Rattle.rnlp_cli.specs.declared.record.Word.TheVariants.{Version, Resource, Group, Task, Cap, Issue, Finish, End, Unknown}
+use Rattle.rnlp_cli.specs.declared.record.Word.TheVariants.{Version, Resource, Group, Task, Cap, Issue, Finish, Rise, Ask, End, Unknown}
 use Rattle.rnlp_cli.specs.declared.reading.Reading.{Reading}
 use Rattle.rnlp_cli.specs.declared.reading.RowErr.{RowErr}
 use Rattle.rnlp_cli.specs.declared.reading.RowErr.TheVariants as why
@@ -102,6 +102,8 @@ Notes old new Cap name = (cap : ℕ) × (cap_told name ≡ Some cap) × (new ≡
 Notes old new End name = new ≡ record old { begun = true; ended = true }
 Notes old new (Issue kind) name = ⊥
 Notes old new Finish name = ⊥
+Notes old new Rise name = ⊥
+Notes old new Ask name = ⊥
 Notes old new Group name = ⊥
 Notes old new Unknown name = ⊥
 
@@ -114,6 +116,8 @@ IsBadNote old Cap name = cap_told name ≡ None
 IsBadNote old End name = ⊥
 IsBadNote old (Issue kind) name = ⊥
 IsBadNote old Finish name = ⊥
+IsBadNote old Rise name = ⊥
+IsBadNote old Ask name = ⊥
 IsBadNote old Group name = ⊤
 IsBadNote old Unknown name = ⊤
 

@@ -3,15 +3,16 @@ use Rattle.std.specs.Prelude.{◌≡◌, ℕ, Bool, List, [], ◌∷◌, ◌++�
 use Rattle.std.specs.List.{join_with_byte}
 use Rattle.std.specs.FinSet.{union}
 use Rattle.rset.specs.Sets.{Set, rising}
+use Rattle.rclaim.specs.Requests.{RequestFields}
 use Rattle.rclaim.specs.Changes.{ChangeLists}
 use Rattle.rclaim.specs.declared.request.Kind.{Kind}
-use Rattle.rclaim.specs.declared.request.Kind.TheVariants.{Read, Write, Mixed}
+use Rattle.rclaim.specs.declared.request.Kind.TheVariants.{Read, Write, Mixed, Upgrade, Nested}
 use Rattle.rclaim.specs.declared.claim.Status.{Status}
 use Rattle.rclaim.specs.declared.claim.Status.TheVariants.{Waiting, Entitled, Satisfied}
 use Rattle.rclaim.specs.declared.changes.StatusChange.{StatusChange}
 use Rattle.rclaim.specs.declared.changes.GrantChange.{GrantChange}
 use Rattle.rclaim.specs.declared.event.Event.{Event}
-use Rattle.rclaim.specs.declared.event.Event.TheVariants.{Issue, Finish}
+use Rattle.rclaim.specs.declared.event.Event.TheVariants.{Issue, Finish, Rise, Ask}
 use Rattle.rmodel.specs.State.{LockState}
 use Rattle.rmodel.specs.Steps.{next}
 use Rattle.rmodel.specs.Changes.{changes_between}
@@ -37,18 +38,39 @@ abbrev pub kind_text : Kind → List ℕ
 kind_text Read = codes "read"
 kind_text Write = codes "write"
 kind_text Mixed = codes "mixed"
+kind_text Upgrade = codes "upgrade"
+kind_text Nested = codes "nested"
 
--- the fields with the sets of a request of this kind: of a mixed one what it reads and what it writes
-abbrev pub set_fields : List (List ℕ) → Kind → Set → Set → Row
-set_fields resources Read reads writes = set_text resources reads ∷ []
-set_fields resources Write reads writes = set_text resources writes ∷ []
-set_fields resources Mixed reads writes = set_text resources reads ∷ set_text resources writes ∷ []
+-- the sets of a request of this kind, as its record names them: of a mixed one what it reads and what it writes, of a nested one its first part too
+abbrev pub sets_told : Kind → RequestFields → List Set
+sets_told Read r = r.reads ∷ []
+sets_told Write r = r.writes ∷ []
+sets_told Mixed r = r.reads ∷ r.writes ∷ []
+sets_told Upgrade r = r.reads ∷ []
+sets_told Nested r = r.reads ∷ r.writes ∷ r.first ∷ []
+
+-- the lengths of a request of this kind: of an upgrade the later one too
+abbrev pub lengths_told : Kind → RequestFields → List ℕ
+lengths_told Read r = r.len ∷ []
+lengths_told Write r = r.len ∷ []
+lengths_told Mixed r = r.len ∷ []
+lengths_told Upgrade r = r.len ∷ r.later ∷ []
+lengths_told Nested r = r.len ∷ []
+
+-- the fields with the sets of a request, and those with its lengths
+abbrev pub set_fields : List (List ℕ) → RequestFields → Row
+set_fields resources r = map (set_text resources) (sets_told r.kind r)
+
+abbrev pub length_fields : RequestFields → Row
+length_fields r = map decimal (lengths_told r.kind r)
 
 -- the record of an event
 abbrev pub event_row : List (List ℕ) → List (List ℕ) → Event → Row
 event_row resources tasks (Issue seat r) =
-    codes "issue" ∷ name_at tasks seat ∷ kind_text r.kind ∷ (set_fields resources r.kind r.reads r.writes ++ decimal r.len ∷ [])
+    codes "issue" ∷ name_at tasks seat ∷ kind_text r.kind ∷ (set_fields resources r ++ length_fields r)
 event_row resources tasks (Finish seat) = codes "finish" ∷ name_at tasks seat ∷ []
+event_row resources tasks (Rise seat) = codes "rise" ∷ name_at tasks seat ∷ []
+event_row resources tasks (Ask seat part) = codes "ask" ∷ name_at tasks seat ∷ set_text resources part ∷ []
 
 abbrev pub claim_text : Bool → List ℕ
 claim_text write_half = if write_half then codes "write" else codes "read"

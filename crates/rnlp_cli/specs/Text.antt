@@ -28,6 +28,9 @@ abbrev pub refusal_number : Refusal → ℕ
 refusal_number (Step refused.SeatBusy) = 1
 refusal_number (Step refused.Full) = 2
 refusal_number (Step refused.NotHolding) = 3
+refusal_number (Step refused.NotUpgradeable) = 4
+refusal_number (Step refused.NotNested) = 5
+refusal_number (Step refused.AskOutside) = 6
 refusal_number (Request cause.EmptyRequest) = 7
 refusal_number (Request cause.Undeclared) = 8
 refusal_number (Request cause.FirstOutside) = 9

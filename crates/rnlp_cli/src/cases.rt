@@ -1,7 +1,7 @@
 // Worked lists, and what is written of each.
 
 /// Each list with what `replay` writes of it.
-pub const CASES: [(&[u8], &[u8]); 39] = [
+pub const CASES: [(&[u8], &[u8]); 50] = [
     // a read and a write wait for a write without wait lines
     (
         b"rnlp,1
@@ -38,6 +38,42 @@ ledger,a,0,0
 ledger,b,0,0
 end
 ",
+    ),
+    // ask of a read
+    (
+        b"rnlp,1
+resource,a
+resource,b
+resource,c
+resource,e
+group,a+b
+group,b+c
+task,t1
+task,t2
+task,t3
+task,t4
+issue,t1,read,a,1
+ask,t1,a
+",
+        b"error,13,4,5\n",
+    ),
+    // ask outside the request
+    (
+        b"rnlp,1
+resource,a
+resource,b
+resource,c
+resource,e
+group,a+b
+group,b+c
+task,t1
+task,t2
+task,t3
+task,t4
+issue,t1,nested,-,a+e,a,1
+ask,t1,b
+",
+        b"error,13,4,6\n",
     ),
     // blank lines are no records
     (
@@ -172,6 +208,41 @@ end
         b"rnlp,1\nresource,a\nresource,b\ntask,t1\nfinish,t1\nend\n",
         b"error,5,4,3\n",
     ),
+    // finish of a task without a request
+    (
+        b"rnlp,1
+resource,a
+resource,b
+resource,c
+resource,e
+group,a+b
+group,b+c
+task,t1
+task,t2
+task,t3
+task,t4
+issue,t1,read,a,1
+finish,t2
+",
+        b"error,13,4,3\n",
+    ),
+    // first part outside the request
+    (
+        b"rnlp,1
+resource,a
+resource,b
+resource,c
+resource,e
+group,a+b
+group,b+c
+task,t1
+task,t2
+task,t3
+task,t4
+issue,t1,nested,-,a,b,1
+",
+        b"error,12,4,9\n",
+    ),
     // group with repeats in another order
     (
         b"rnlp,1\nresource,b\nresource,a\ngroup,a+b+b\ntask,t1\nend\n",
@@ -234,6 +305,40 @@ ledger,c,0,0
 ledger,e,0,0
 end
 ",
+    ),
+    // issue of a task that is not declared
+    (
+        b"rnlp,1
+resource,a
+resource,b
+resource,c
+resource,e
+group,a+b
+group,b+c
+task,t1
+task,t2
+task,t3
+task,t4
+issue,t9,read,a,1
+",
+        b"error,12,2\n",
+    ),
+    // issue of an empty read
+    (
+        b"rnlp,1
+resource,a
+resource,b
+resource,c
+resource,e
+group,a+b
+group,b+c
+task,t1
+task,t2
+task,t3
+task,t4
+issue,t1,read,-,1
+",
+        b"error,12,4,7\n",
     ),
     // issue of an empty write
     (
@@ -624,6 +729,104 @@ end
     ),
     // name with a newline in quotes
     (b"rnlp,1\nresource,\"a\nb\"\ntask,t1\nend\n", b"error,2,1\n"),
+    // nested early grant and pending ask without wait lines
+    (
+        b"rnlp,1
+resource,a
+resource,b
+resource,c
+resource,e
+group,a+b
+group,b+c
+task,t1
+task,t2
+task,t3
+task,t4
+issue,t1,read,e,3
+issue,t2,nested,-,a+e,a,4
+ask,t2,e
+finish,t1
+finish,t2
+end
+",
+        b"rnlp,1
+resource,a
+resource,b
+resource,c
+resource,e
+group,a+b
+group,b+c
+task,t1
+task,t2
+task,t3
+task,t4
+cap,4
+issue,t1,read,e,3
+now,t1,read,satisfied
+grant,t1,e
+issue,t2,nested,-,a+e,a,4
+now,t2,write,entitled
+grant,t2,a
+ask,t2,e
+finish,t1
+now,t2,write,satisfied
+grant,t2,a+e
+finish,t2
+ledger,a,0,0
+ledger,b,0,0
+ledger,c,0,0
+ledger,e,0,0
+end
+",
+    ),
+    // nested leaves while only entitled without wait lines
+    (
+        b"rnlp,1
+resource,a
+resource,b
+resource,c
+resource,e
+group,a+b
+group,b+c
+task,t1
+task,t2
+task,t3
+task,t4
+issue,t1,read,e,3
+issue,t2,nested,-,a+e,a,4
+issue,t3,read,a,1
+finish,t2
+end
+",
+        b"rnlp,1
+resource,a
+resource,b
+resource,c
+resource,e
+group,a+b
+group,b+c
+task,t1
+task,t2
+task,t3
+task,t4
+cap,4
+issue,t1,read,e,3
+now,t1,read,satisfied
+grant,t1,e
+issue,t2,nested,-,a+e,a,4
+now,t2,write,entitled
+grant,t2,a
+issue,t3,read,a,1
+finish,t2
+now,t3,read,satisfied
+grant,t3,a
+ledger,a,0,0
+ledger,b,0,0
+ledger,c,0,0
+ledger,e,0,0
+end
+",
+    ),
     // number of too many digits
     (
         b"rnlp,1
@@ -676,6 +879,24 @@ issue,t1,read,a+b,1
 end
 ",
         b"error,5,4,8\n",
+    ),
+    // rise of a read
+    (
+        b"rnlp,1
+resource,a
+resource,b
+resource,c
+resource,e
+group,a+b
+group,b+c
+task,t1
+task,t2
+task,t3
+task,t4
+issue,t1,read,a,1
+rise,t1
+",
+        b"error,13,4,4\n",
     ),
     // second issue of a busy seat
     (
@@ -757,6 +978,101 @@ end
     (
         b"rnlp,1\nresource,a\ntask,t1\nend\n",
         b"rnlp,1\nresource,a\ntask,t1\ncap,1\nledger,a,0,0\nend\n",
+    ),
+    // upgrade that does not rise without wait lines
+    (
+        b"rnlp,1
+resource,a
+resource,b
+resource,c
+resource,e
+group,a+b
+group,b+c
+task,t1
+task,t2
+task,t3
+task,t4
+issue,t1,upgrade,a,3,2
+issue,t2,read,a,1
+finish,t1
+end
+",
+        b"rnlp,1
+resource,a
+resource,b
+resource,c
+resource,e
+group,a+b
+group,b+c
+task,t1
+task,t2
+task,t3
+task,t4
+cap,4
+issue,t1,upgrade,a,3,2
+now,t1,read,satisfied
+now,t1,write,entitled
+grant,t1,a
+issue,t2,read,a,1
+finish,t1
+now,t2,read,satisfied
+grant,t2,a
+ledger,a,0,0
+ledger,b,0,0
+ledger,c,0,0
+ledger,e,0,0
+end
+",
+    ),
+    // upgrade that rises without wait lines
+    (
+        b"rnlp,1
+resource,a
+resource,b
+resource,c
+resource,e
+group,a+b
+group,b+c
+task,t1
+task,t2
+task,t3
+task,t4
+issue,t1,upgrade,a,3,2
+issue,t2,read,a,1
+rise,t1
+finish,t1
+end
+",
+        b"rnlp,1
+resource,a
+resource,b
+resource,c
+resource,e
+group,a+b
+group,b+c
+task,t1
+task,t2
+task,t3
+task,t4
+cap,4
+issue,t1,upgrade,a,3,2
+now,t1,read,satisfied
+now,t1,write,entitled
+grant,t1,a
+issue,t2,read,a,1
+rise,t1
+now,t1,write,satisfied
+now,t2,read,entitled
+grant,t1,a
+finish,t1
+now,t2,read,satisfied
+grant,t2,a
+ledger,a,0,0
+ledger,b,0,0
+ledger,c,0,0
+ledger,e,0,0
+end
+",
     ),
     // waiting read keeps write back without wait lines
     (

@@ -2,7 +2,7 @@
 ghost use Rattle.std.specs.Prelude.{◌≡◌, ◌++◌, ◌∷◌, [], map, OnOk, decimal};
 ghost use Rattle.std.specs.List.{flat_map};
 ghost use Rattle.rnlp_cli.specs.Text.{line, lines_of, behind_comma};
-ghost use Rattle.rnlp_cli.specs.Report.{name_at, event_row, now_row, grant_row, change_rows, set_text, set_fields, kind_text, status_text};
+ghost use Rattle.rnlp_cli.specs.Report.{name_at, event_row, now_row, grant_row, change_rows, set_text, set_fields, length_fields, kind_text, status_text};
 
 use crate::text::{push_field, push_number};
 use rclaim::{Changes, Event, GrantChange, Kind, Request, Status, StatusChange};
@@ -44,37 +44,61 @@ fn push_event(
             text.extend_from_slice(b"finish")?;
             push_field(text, name_at(tasks, *seat))?;
         }
+        Event::Rise { seat } => {
+            text.extend_from_slice(b"rise")?;
+            push_field(text, name_at(tasks, *seat))?;
+        }
+        Event::Ask { seat, set } => {
+            text.extend_from_slice(b"ask")?;
+            push_field(text, name_at(tasks, *seat))?;
+            push_set(text, resources, *set)?;
+        }
     }
     text.push(b'\n')?;
     Ok(())
 }
 
-// Appends the kind, the sets and the length of a request.
+// Appends the kind, the sets and the lengths of a request.
 fn push_request(
     text: &mut Vec<u8>,
     resources: &NameTable,
     request: &Request,
 ) -> Result<(), AllocError>
     ensures { OnOk result (text.new.items ≡ text.old.items ++ (behind_comma (kind_text request.now.kind)
-        ++ flat_map behind_comma (set_fields resources.now request.now.kind request.now.reads request.now.writes ++ decimal request.now.len ∷ []))) }
+        ++ flat_map behind_comma (set_fields resources.now request.now ++ length_fields request.now))) }
 {
     push_field(text, kind_word(request.kind()))?;
     push_sets(text, resources, request)?;
-    push_number(text, u64::from(request.len()))
+    push_lengths(text, request)
 }
 
 // Appends the sets of a request.
 fn push_sets(text: &mut Vec<u8>, resources: &NameTable, request: &Request) -> Result<(), AllocError>
-    ensures { OnOk result (text.new.items ≡ text.old.items
-        ++ flat_map behind_comma (set_fields resources.now request.now.kind request.now.reads request.now.writes)) }
+    ensures { OnOk result (text.new.items ≡ text.old.items ++ flat_map behind_comma (set_fields resources.now request.now)) }
 {
     match request.kind() {
-        Kind::Read => push_set(text, resources, request.reads()),
+        Kind::Read | Kind::Upgrade => push_set(text, resources, request.reads()),
         Kind::Write => push_set(text, resources, request.writes()),
         Kind::Mixed => {
             push_set(text, resources, request.reads())?;
             push_set(text, resources, request.writes())
         }
+        Kind::Nested => {
+            push_set(text, resources, request.reads())?;
+            push_set(text, resources, request.writes())?;
+            push_set(text, resources, request.first())
+        }
+    }
+}
+
+// Appends the lengths of a request.
+fn push_lengths(text: &mut Vec<u8>, request: &Request) -> Result<(), AllocError>
+    ensures { OnOk result (text.new.items ≡ text.old.items ++ flat_map behind_comma (length_fields request.now)) }
+{
+    push_number(text, u64::from(request.len()))?;
+    match request.kind() {
+        Kind::Upgrade => push_number(text, u64::from(request.later())),
+        Kind::Read | Kind::Write | Kind::Mixed | Kind::Nested => Ok(()),
     }
 }
 
@@ -85,6 +109,8 @@ fn kind_word(kind: Kind) -> &'static [u8]
         Kind::Read => b"read",
         Kind::Write => b"write",
         Kind::Mixed => b"mixed",
+        Kind::Upgrade => b"upgrade",
+        Kind::Nested => b"nested",
     }
 }
 

@@ -32,7 +32,7 @@ pub enum Refusal {
 #[derive(Clone, Copy, Debug, PartialEq, Eq)]
 pub enum Code {
     /// It is no record of this kind of input, a name that it declares is bad, repeated or past the limit, a group has
-    /// no member or is past the limit, or its length or its cap is none.
+    /// no member or is past the limit, or a length of it or its cap is none.
     BadField,
     /// It names a task or a resource that is not declared.
     UnknownName,

@@ -13,6 +13,8 @@ ghost use Rattle.rnlp_cli.specs.Tool.{IsWritten};
 mod cases;
 mod fields;
 mod history;
+#[cfg(test)]
+mod kinds;
 mod list;
 #[cfg(test)]
 mod pins;

@@ -5,19 +5,18 @@ ghost use Rattle.rset.specs.Sets.{all_below};
 ghost use Rattle.rset.specs.declared.TheConstants.{SEATS};
 ghost use Rattle.rexpand.specs.declared.TheConstants.{GROUPS};
 ghost use Rattle.rexpand.specs.Groups.{ReadGroups};
-ghost use Rattle.rclaim.specs.Requests.{normalised};
 ghost use Rattle.rmodel.specs.Steps.{Fits, refusal, next};
 ghost use Rattle.rmodel.specs.Changes.{changes_between};
 ghost use Rattle.rnlp_cli.specs.Fields.{cap_told};
 ghost use Rattle.rnlp_cli.specs.Records.{Row, AreRowsOf, word_of};
-ghost use Rattle.rnlp_cli.specs.Events.{request_refusal};
+ghost use Rattle.rnlp_cli.specs.Events.{request_told, request_refusal};
 ghost use Rattle.rnlp_cli.specs.Faults.{first_fault, is_bad_order, is_bad_name, is_bad_group, is_event, is_group, is_end, has_word};
 ghost use Rattle.rnlp_cli.specs.Lists.{Listed, IsEventList};
 ghost use Rattle.rnlp_cli.specs.Report.{Keeps, head_kept, event_row, change_rows};
 ghost use Rattle.rnlp_cli.specs.Text.{lines_of};
 ghost use Rattle.rnlp_cli.specs.Reading.{HasRead, IsReady, HasGroups, Takes, Refuses, Notes, IsBadNote, StepsBy, groups_of, head_of, state_of, step_code, error_at};
 
-use crate::fields::{cap_of, length_field, length_of, set_of, sets_of};
+use crate::fields::{RequestLengths, RequestSets, cap_of, lengths_of, set_of, sets_of};
 use crate::history::push_step;
 use crate::list::{Code, EventList, Fault, Refusal};
 use crate::record::{Word, field_of, word_of};
@@ -123,6 +122,8 @@ impl Reading {
         match word_of(fields) {
             Word::Issue(kind) => self.issue(alloc, kind, fields),
             Word::Finish => self.finish_of(alloc, fields),
+            Word::Rise => self.rise_of(alloc, fields),
+            Word::Ask => self.ask_of(alloc, fields),
             Word::Group => self.group(alloc, fields),
             word => self.head(alloc, word, fields),
         }
@@ -156,7 +157,9 @@ impl Reading {
             Word::Group => self.resources.len() == 0 || !no_task || self.machine.is_some(),
             Word::Task => self.resources.len() == 0 || self.cap.is_some() || self.is_behind(),
             Word::Cap => no_task || self.cap.is_some() || self.is_behind(),
-            Word::Issue(_) | Word::Finish => self.resources.len() == 0 || no_task || self.ended,
+            Word::Issue(_) | Word::Finish | Word::Rise | Word::Ask => {
+                self.resources.len() == 0 || no_task || self.ended
+            }
             Word::End => no_task || self.ended,
             Word::Unknown => false,
         }
@@ -187,9 +190,10 @@ impl Reading {
                 self.ended = true;
                 Ok(())
             }
-            Word::Group | Word::Issue(_) | Word::Finish | Word::Unknown => {
+            Word::Group | Word::Issue(_) | Word::Finish | Word::Rise | Word::Ask => {
                 Err(RowErr::Bad(Code::BadField))
             }
+            Word::Unknown => Err(RowErr::Bad(Code::BadField)),
         }
     }
 
@@ -289,7 +293,7 @@ impl Reading {
         ensures taken { OnOk result (Takes self.old self.new (fields_of fields.now)) }
         ensures bad { (code : Code) → result ≡ Err (RowErr.Bad code) → Refuses self.old (fields_of fields.now) code }
     {
-        let Some(len) = length_of(length_field(kind, fields)) else {
+        let Some(lengths) = lengths_of(kind, fields) else {
             return Err(RowErr::Bad(Code::BadField));
         };
         let Some(seat) = self.tasks.number_of(field_of(fields, 1)) else {
@@ -304,7 +308,7 @@ impl Reading {
         let Some(groups) = &self.groups else {
             return Err(RowErr::Memory);
         };
-        match request_of(groups, kind, sets.0, sets.1, len) {
+        match request_of(groups, kind, &sets, &lengths) {
             Ok(request) => self.step(alloc, &Event::Issue { seat, request }),
             Err(cause) => Err(RowErr::Bad(Code::Refused(Refusal::Request(cause)))),
         }
@@ -324,6 +328,41 @@ impl Reading {
             return Err(RowErr::Bad(Code::BadOrder));
         }
         self.step(alloc, &Event::Finish { seat })
+    }
+
+    // Takes a rise.
+    fn rise_of(&mut self, alloc: Global, fields: &ByteRecord) -> Result<(), RowErr>
+        requires word { word_of (fields_of fields.now) ≡ Word.Rise }
+        requires ready { IsReady self.old }
+        ensures taken { OnOk result (Takes self.old self.new (fields_of fields.now)) }
+        ensures bad { (code : Code) → result ≡ Err (RowErr.Bad code) → Refuses self.old (fields_of fields.now) code }
+    {
+        let Some(seat) = self.tasks.number_of(field_of(fields, 1)) else {
+            return Err(RowErr::Bad(Code::UnknownName));
+        };
+        if self.misplaces(Word::Rise) {
+            return Err(RowErr::Bad(Code::BadOrder));
+        }
+        self.step(alloc, &Event::Rise { seat })
+    }
+
+    // Takes an ask.
+    fn ask_of(&mut self, alloc: Global, fields: &ByteRecord) -> Result<(), RowErr>
+        requires word { word_of (fields_of fields.now) ≡ Word.Ask }
+        requires ready { IsReady self.old }
+        ensures taken { OnOk result (Takes self.old self.new (fields_of fields.now)) }
+        ensures bad { (code : Code) → result ≡ Err (RowErr.Bad code) → Refuses self.old (fields_of fields.now) code }
+    {
+        let Some(seat) = self.tasks.number_of(field_of(fields, 1)) else {
+            return Err(RowErr::Bad(Code::UnknownName));
+        };
+        let Some(set) = set_of(&self.resources, field_of(fields, 2)) else {
+            return Err(RowErr::Bad(Code::UnknownName));
+        };
+        if self.misplaces(Word::Ask) {
+            return Err(RowErr::Bad(Code::BadOrder));
+        }
+        self.step(alloc, &Event::Ask { seat, set })
     }
 
     // Takes an event in its place.
@@ -409,19 +448,26 @@ impl Reading {
     }
 }
 
-// The request of this kind for these sets, under read groups.
+// The request of this kind for these sets and lengths, under read groups.
 fn request_of(
     groups: &Groups,
     kind: Kind,
-    reads: ResourceSet,
-    writes: ResourceSet,
-    len: u32,
+    sets: &RequestSets,
+    lengths: &RequestLengths,
 ) -> Result<Request, RequestErr>
-    requires { len ≤ LENGTH_LIMIT }
-    ensures made { IfOk result (λ r. (r ≡ normalised kind reads writes len) × (request_refusal groups.now.groups (normalised kind reads writes len) ≡ None)) }
-    ensures refused { IfErr result (λ cause. request_refusal groups.now.groups (normalised kind reads writes len) ≡ Some cause) }
+    requires len { lengths.now.len ≤ LENGTH_LIMIT }
+    requires later { lengths.now.later ≤ LENGTH_LIMIT }
+    ensures made { IfOk result (λ r. (r ≡ request_told kind sets.now lengths.now) × (request_refusal groups.now.groups (request_told kind sets.now lengths.now) ≡ None)) }
+    ensures refused { IfErr result (λ cause. request_refusal groups.now.groups (request_told kind sets.now lengths.now) ≡ Some cause) }
 {
-    let request = Request::new(kind, reads, writes, ResourceSet::empty(), len, 0)?;
+    let request = Request::new(
+        kind,
+        sets.reads,
+        sets.writes,
+        sets.first,
+        lengths.len,
+        lengths.later,
+    )?;
     admit(groups, &request)?;
     Ok(request)
 }

@@ -1,7 +1,7 @@
 // What a record of a list is, by the number of its fields and the words in them.
 ghost use Rattle.std.specs.Prelude.{◌≡◌};
 ghost use Rattle.csv.specs.Records.{fields_of};
-ghost use Rattle.rnlp_cli.specs.Records.{word_of, word_alone, word_with, word_of_five, word_of_six, field_of};
+ghost use Rattle.rnlp_cli.specs.Records.{word_of, word_alone, word_with, word_of_three, word_of_five, word_of_six, word_of_seven, field_of};
 
 use csv::ByteRecord;
 use rclaim::Kind;
@@ -19,10 +19,15 @@ pub enum Word {
     Task,
     /// `cap,M`
     Cap,
-    /// `issue,TASK,KIND,SET,LEN`, or `issue,TASK,mixed,READS,WRITES,LEN`
+    /// `issue,TASK,KIND,SET,LEN`; of a mixed request `issue,TASK,mixed,READS,WRITES,LEN`, of an upgrade
+    /// `issue,TASK,upgrade,SET,LEN,LATER`, of a nested one `issue,TASK,nested,READS,WRITES,FIRST,LEN`
     Issue(Kind),
     /// `finish,TASK`
     Finish,
+    /// `rise,TASK`
+    Rise,
+    /// `ask,TASK,SET`
+    Ask,
     /// `end`
     End,
     /// No record of this kind of input.
@@ -36,8 +41,10 @@ pub fn word_of(fields: &ByteRecord) -> Word
     match fields.len() {
         1 => word_alone(field_of(fields, 0)),
         2 => word_with(field_of(fields, 0), field_of(fields, 1)),
+        3 => word_of_three(field_of(fields, 0)),
         5 => word_of_five(field_of(fields, 0), field_of(fields, 2)),
         6 => word_of_six(field_of(fields, 0), field_of(fields, 2)),
+        7 => word_of_seven(field_of(fields, 0), field_of(fields, 2)),
         _ => Word::Unknown,
     }
 }
@@ -59,6 +66,8 @@ fn word_with(first: &[u8], second: &[u8]) -> Word
 {
     if first == b"finish".as_slice() {
         Word::Finish
+    } else if first == b"rise".as_slice() {
+        Word::Rise
     } else if first == b"resource".as_slice() {
         Word::Resource
     } else if first == b"group".as_slice() {
@@ -69,6 +78,17 @@ fn word_with(first: &[u8], second: &[u8]) -> Word
         Word::Cap
     } else if first == b"rnlp".as_slice() && second == b"1".as_slice() {
         Word::Version
+    } else {
+        Word::Unknown
+    }
+}
+
+// What a record of three fields is.
+fn word_of_three(first: &[u8]) -> Word
+    ensures { result ≡ word_of_three first.now }
+{
+    if first == b"ask".as_slice() {
+        Word::Ask
     } else {
         Word::Unknown
     }
@@ -93,6 +113,19 @@ fn word_of_six(first: &[u8], kind: &[u8]) -> Word
 {
     if first == b"issue".as_slice() && kind == b"mixed".as_slice() {
         Word::Issue(Kind::Mixed)
+    } else if first == b"issue".as_slice() && kind == b"upgrade".as_slice() {
+        Word::Issue(Kind::Upgrade)
+    } else {
+        Word::Unknown
+    }
+}
+
+// What a record of seven fields is: its third names the kind of a request.
+fn word_of_seven(first: &[u8], kind: &[u8]) -> Word
+    ensures { result ≡ word_of_seven first.now kind.now }
+{
+    if first == b"issue".as_slice() && kind == b"nested".as_slice() {
+        Word::Issue(Kind::Nested)
     } else {
         Word::Unknown
     }

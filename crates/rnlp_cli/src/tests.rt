@@ -1,5 +1,6 @@
 // Runs of `plain_tool` over memory, with their exact outputs.
 use crate::cases::CASES;
+use crate::kinds::KINDS;
 use crate::{ToolStatus, plain_tool};
 use io_ends::{MemSink, MemSource};
 use std::alloc::Global;
@@ -150,7 +151,7 @@ const REPLAYS: [(&[u8], &[u8]); 32] = [
 const HEAD: &str = "rnlp,1\nresource,a\nresource,b\ntask,t1\n";
 
 // Events of one task, and the line of their first fault.
-const FAULTS: [(&str, &[u8]); 12] = [
+const FAULTS: [(&str, &[u8]); 36] = [
     // the request: a read of many, an empty set, lengths
     ("issue,t1,read,a+b,1\nend\n", b"error,5,4,8\n"),
     ("issue,t1,write,-,1\nend\n", b"error,5,4,7\n"),
@@ -170,6 +171,35 @@ const FAULTS: [(&str, &[u8]); 12] = [
     // the order
     ("issue,t1,read,a,1\ntask,t2\nend\n", b"error,6,3\n"),
     ("end\nfinish,t1\n", b"error,6,3\n"),
+    ("end\nrise,t1\n", b"error,6,3\n"),
+    ("end\nask,t1,a\n", b"error,6,3\n"),
+    // upgrades: an undeclared set, an empty one, lengths, numbers of fields, a second rise
+    ("issue,t1,upgrade,a+b,1,1\nend\n", b"error,5,4,8\n"),
+    ("issue,t1,upgrade,-,1,1\nend\n", b"error,5,4,7\n"),
+    ("issue,t1,upgrade,a,1000001,1\nend\n", b"error,5,1\n"),
+    ("issue,t1,upgrade,a,1,1000001\nend\n", b"error,5,1\n"),
+    ("issue,t1,upgrade,a,1,\nend\n", b"error,5,1\n"),
+    ("issue,t1,upgrade,a,1\nend\n", b"error,5,1\n"),
+    ("rise,t1\nend\n", b"error,5,4,3\n"),
+    ("rise,t2\nend\n", b"error,5,2\n"),
+    ("rise,t1,a\nend\n", b"error,5,1\n"),
+    (
+        "issue,t1,upgrade,a,1,1\nrise,t1\nrise,t1\nend\n",
+        b"error,7,4,4\n",
+    ),
+    ("issue,t1,upgrade,a,1,1\nask,t1,a\nend\n", b"error,6,4,5\n"),
+    // nested requests: no writes, a first part that is empty or outside, unknown names, numbers of fields, asks
+    ("issue,t1,nested,a,-,b,1\nend\n", b"error,5,4,7\n"),
+    ("issue,t1,nested,a,b,-,1\nend\n", b"error,5,4,9\n"),
+    ("issue,t1,nested,-,a,a+b,1\nend\n", b"error,5,4,9\n"),
+    ("issue,t1,nested,a,b,c,1\nend\n", b"error,5,2\n"),
+    ("issue,t1,nested,a,b,a\nend\n", b"error,5,1\n"),
+    ("ask,t1,a\nend\n", b"error,5,4,3\n"),
+    ("ask,t2,a\nend\n", b"error,5,2\n"),
+    ("ask,t1,c\nend\n", b"error,5,2\n"),
+    ("ask,t1\nend\n", b"error,5,1\n"),
+    ("issue,t1,nested,a,b,a,1\nask,t1,-\nend\n", b"error,6,4,6\n"),
+    ("issue,t1,nested,a,b,a,1\nrise,t1\nend\n", b"error,6,4,4\n"),
 ];
 
 // A list of three tasks, and its report.
@@ -237,7 +267,17 @@ fn replays(rt: HostRuntime) -> Result<(), Fail> {
 
 #[test]
 fn cases(rt: HostRuntime) -> Result<(), Fail> {
-    for (input, output) in CASES {
+    for (input, output) in &CASES {
+        let (status, written) = run(rt.alloc(), &["replay"], input, &[], &[])?;
+        assert_eq!(rt; written.as_slice(), *output);
+        assert_eq!(rt; status, status_with(output));
+    }
+    Ok(())
+}
+
+#[test]
+fn kinds(rt: HostRuntime) -> Result<(), Fail> {
+    for (input, output) in KINDS {
         let (status, written) = run(rt.alloc(), &["replay"], input, &[], &[])?;
         assert_eq!(rt; written.as_slice(), output);
         assert_eq!(rt; status, status_with(output));

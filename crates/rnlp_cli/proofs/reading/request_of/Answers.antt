@@ -3,15 +3,15 @@ use Rattle.std.specs.Prelude.{Err}
 use Rattle.std.proofs.lemmas.Result.{err_from_is_err_and}
 use Rattle.rnlp_cli.specs.Events.{request_refusal}
 use Rattle.rnlp_cli.proofs.Spelled.{right_request}
-use Rattle.rnlp_cli.proofs.Codes.{refused_empty, refused_undeclared, undeclared_of, err_cause, err_of}
+use Rattle.rnlp_cli.proofs.Codes.{refused_new, refused_undeclared, undeclared_of, err_cause, err_of}
 use Rattle.rnlp_cli.proofs.reading.request_of.Goals as goal
 
 pub returns-in_err-request-clause-refused : goal.returns-in_err-request-clause-refused
 returns-in_err-request-clause-refused c =
     let out = err_from_is_err_and c.from_residual.result c.from_residual.ensures.1 in
-    let empty = c.in_err-request.ensures.empty.0 (ap Err c.in_err-request.ensures.only) in
     err_cause c.from_residual.result out.0 _ out.1
-    (refused_empty c.args.groups.now.groups c.args.kind c.args.reads c.args.writes c.args.len empty ∙ ap Some (sym (out.2 ∙ c.in_err-request.ensures.only)))
+    (refused_new c.args.groups.now.groups c.args.kind c.args.sets.now c.args.lengths.now _ c.in_err-request.ensures.only
+    (λ is. c.in_err-request.ensures.empty.0 (ap Err is)) (λ is. c.in_err-request.ensures.outside.0 (ap Err is)) ∙ ap Some (sym out.2))
 
 pub returns-in_err-admit-clause-refused : goal.returns-in_err-admit-clause-refused
 returns-in_err-admit-clause-refused c =

@@ -1,0 +1,196 @@
+// Lists with upgrades and nested requests, and what is written of each; settled by hand from the rules.
+
+/// Each list with what `replay` writes of it.
+pub const KINDS: [(&[u8], &[u8]); 5] = [
+    // a nested request finishes while it is only entitled: it was granted a beside the reader of b
+    (
+        b"rnlp,1
+resource,a
+resource,b
+task,t1
+task,t2
+task,t3
+issue,t1,read,b,1
+issue,t2,nested,-,a+b,a,2
+issue,t3,write,b,1
+finish,t2
+finish,t1
+finish,t3
+end
+",
+        b"rnlp,1
+resource,a
+resource,b
+task,t1
+task,t2
+task,t3
+cap,3
+issue,t1,read,b,1
+now,t1,read,satisfied
+grant,t1,b
+issue,t2,nested,-,a+b,a,2
+now,t2,write,entitled
+grant,t2,a
+issue,t3,write,b,1
+finish,t2
+now,t3,write,entitled
+finish,t1
+now,t3,write,satisfied
+grant,t3,b
+finish,t3
+ledger,a,0,0
+ledger,b,0,0
+end
+",
+    ),
+    // an upgrade finishes before its rise: both halves go, and those that they kept waiting are served
+    (
+        b"rnlp,1
+resource,a
+resource,b
+group,a+b
+task,t1
+task,t2
+task,t3
+issue,t1,upgrade,b+a,02,3
+issue,t2,read,b,1
+issue,t3,write,a,1
+finish,t1
+end
+",
+        b"rnlp,1
+resource,a
+resource,b
+group,a+b
+task,t1
+task,t2
+task,t3
+cap,3
+issue,t1,upgrade,a+b,2,3
+now,t1,read,satisfied
+now,t1,write,entitled
+grant,t1,a+b
+issue,t2,read,b,1
+issue,t3,write,a,1
+finish,t1
+now,t2,read,satisfied
+now,t3,write,satisfied
+grant,t2,b
+grant,t3,a
+ledger,a,0,0
+ledger,b,0,0
+end
+",
+    ),
+    // an ask of what is already granted is granted in its own event, and changes nothing
+    (
+        b"rnlp,1
+resource,a
+resource,b
+task,t1
+issue,t1,nested,b+a,a,a,2
+ask,t1,a
+ask,t1,b+a
+finish,t1
+end
+",
+        b"rnlp,1
+resource,a
+resource,b
+task,t1
+cap,1
+issue,t1,nested,b,a,a,2
+now,t1,write,satisfied
+grant,t1,a
+ask,t1,a
+ask,t1,a+b
+grant,t1,a+b
+finish,t1
+ledger,a,0,0
+ledger,b,0,0
+end
+",
+    ),
+    // an ask while another is pending is refused, as one of a seat that holds nothing
+    (
+        b"rnlp,1
+resource,a
+resource,b
+resource,c
+task,t1
+task,t2
+issue,t1,read,b,1
+issue,t2,nested,-,a+b+c,a,2
+ask,t2,b
+ask,t2,c
+end
+",
+        b"error,10,4,3\n",
+    ),
+    // two early grants in one event: what a mixed request read comes to two nested ones, each still beside a reader
+    (
+        b"rnlp,1
+resource,a
+resource,b
+resource,c
+resource,d
+resource,e
+task,t1
+task,t2
+task,t3
+task,t4
+task,t5
+issue,t1,mixed,a+c,e,1
+issue,t4,read,b,1
+issue,t5,read,d,1
+issue,t2,nested,-,a+b,a,2
+issue,t3,nested,-,c+d,c,2
+finish,t1
+finish,t4
+ask,t2,b
+finish,t5
+end
+",
+        b"rnlp,1
+resource,a
+resource,b
+resource,c
+resource,d
+resource,e
+task,t1
+task,t2
+task,t3
+task,t4
+task,t5
+cap,5
+issue,t1,mixed,a+c,e,1
+now,t1,write,satisfied
+grant,t1,a+c+e
+issue,t4,read,b,1
+now,t4,read,satisfied
+grant,t4,b
+issue,t5,read,d,1
+now,t5,read,satisfied
+grant,t5,d
+issue,t2,nested,-,a+b,a,2
+now,t2,write,entitled
+issue,t3,nested,-,c+d,c,2
+now,t3,write,entitled
+finish,t1
+grant,t2,a
+grant,t3,c
+finish,t4
+now,t2,write,satisfied
+ask,t2,b
+grant,t2,a+b
+finish,t5
+now,t3,write,satisfied
+ledger,a,0,0
+ledger,b,0,0
+ledger,c,0,0
+ledger,d,0,0
+ledger,e,0,0
+end
+",
+    ),
+];
