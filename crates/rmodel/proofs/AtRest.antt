@@ -44,7 +44,7 @@ all_at_rest all (x ∷ xs) none =
     at false true h = (h, λ r. refl)
     at false false h = absurd (true≢false h)
 
-map_same : (f : Claimed → Claimed) (xs : List Claimed) → AllByRecursion (λ x. f x ≡ x) xs → map f xs ≡ xs
+pub map_same : (f : Claimed → Claimed) (xs : List Claimed) → AllByRecursion (λ x. f x ≡ x) xs → map f xs ≡ xs
 map_same f [] same = refl
 map_same f (x ∷ xs) same = (λ i. same.0 i ∷ map_same f xs same.1 i)
 
@@ -135,7 +135,7 @@ any_weaker p q gives (x ∷ xs) h =
       | inr later ↦ ap (λ b. q x || b) (any_weaker p q gives xs later) ∙ or_true (q x)
     ]
 
-all_weaker : (p q : Claimed → Bool) → ((x : Claimed) → p x ≡ true → q x ≡ true) → (xs : List Claimed) → list_all p xs ≡ true → list_all q xs ≡ true
+pub all_weaker : (p q : Claimed → Bool) → ((x : Claimed) → p x ≡ true → q x ≡ true) → (xs : List Claimed) → list_all p xs ≡ true → list_all q xs ≡ true
 all_weaker p q gives [] h = refl
 all_weaker p q gives (x ∷ xs) h =
     let parts = and_parts (p x) (list_all p xs) h in
@@ -181,7 +181,7 @@ reads_same xs i d y h same read =
         ∙ ap (λ (c : Claim). with_read all (record (get_or xs i d) { claim = c })) same
 
 -- where no read is unsatisfied, none is near
-none_near : (all s : Set) (xs : List Claimed) → AllByRecursion AtRest xs
+pub none_near : (all s : Set) (xs : List Claimed) → AllByRecursion AtRest xs
     → fold (λ all x. cond (not x.claim.write_half && not (is_satisfied x) && meets x.claim.reads s) (union all x.claim.reads) all) all xs ≡ all
 none_near all s [] rest = refl
 none_near all s (x ∷ xs) rest =

@@ -75,7 +75,7 @@ fails_among (v ∷ done) c rises are h = at (bars c v) refl (λ later. fails_amo
         and_false (clear_at c.claim c.claim.places v) _ (among (ap (λ t. t || list_any (bars c) done) (sym e) ∙ h))
 
 -- the claims before one in a well-formed list rise to it
-rise_to : (done rest : List Claimed) (x : Claimed) → EachPair Rises (done ++ x ∷ rest) → AllByRecursion (λ v. Rises v x) done
+pub rise_to : (done rest : List Claimed) (x : Claimed) → EachPair Rises (done ++ x ∷ rest) → AllByRecursion (λ v. Rises v x) done
 rise_to [] rest x h = tt
 rise_to (v ∷ done) rest x h = (here done h.0, rise_to done rest x h.1)
   where
@@ -83,11 +83,11 @@ rise_to (v ∷ done) rest x h = (here done h.0, rise_to done rest x h.1)
     here [] a = a.0
     here (y ∷ ys) a = here ys a.1
 
-front : (done rest : List Claimed) → AllByRecursion (λ v. IsClaim v.claim) (done ++ rest) → AllByRecursion (λ v. IsClaim v.claim) done
+pub front : (done rest : List Claimed) → AllByRecursion (λ v. IsClaim v.claim) (done ++ rest) → AllByRecursion (λ v. IsClaim v.claim) done
 front [] rest h = tt
 front (v ∷ done) rest h = (h.0, front done rest h.1)
 
-barred_in : (done rest : List Claimed) (x : Claimed) → AreWellFormed (done ++ x ∷ rest) → meets (bars_of done) x.claim.places ≡ true → has_way (done ++ x ∷ rest) x.claim ≡ false
+pub barred_in : (done rest : List Claimed) (x : Claimed) → AreWellFormed (done ++ x ∷ rest) → meets (bars_of done) x.claim.places ≡ true → has_way (done ++ x ∷ rest) x.claim ≡ false
 unfolding bars_of has_way is_clear clear_at bars bars_with
 barred_in done rest x well h =
     let some : list_any (bars x) done ≡ true = sym (gathered (λ v. v.claim.write_half) bars_with x.claim.places done) ∙ h in
@@ -148,7 +148,7 @@ rise_from : (done rest : List Claimed) (x : Claimed) → EachPair Rises (done ++
 rise_from [] rest x h = h.0
 rise_from (v ∷ done) rest x h = rise_from done rest x h.1
 
-clear_in : (done rest : List Claimed) (x : Claimed) → AreWellFormed (done ++ x ∷ rest) → meets (bars_of done) x.claim.places ≡ false → is_clear (done ++ x ∷ rest) x.claim x.claim.places ≡ true
+pub clear_in : (done rest : List Claimed) (x : Claimed) → AreWellFormed (done ++ x ∷ rest) → meets (bars_of done) x.claim.places ≡ false → is_clear (done ++ x ∷ rest) x.claim x.claim.places ≡ true
 unfolding bars_of is_clear clear_at bars bars_with
 clear_in done rest x well h =
     let none : list_any (bars x) done ≡ false = sym (gathered (λ v. v.claim.write_half) bars_with x.claim.places done) ∙ h in

@@ -57,6 +57,19 @@ same_kept_from xs ys same c part = sym (any_zip SameStanding _ _ (λ x y h. (λ 
 pub same_with_asked : (xs ys : List Claimed) → AllZip SameStanding xs ys → (x : Claimed) → with_asked ys x ≡ with_asked xs x
 same_with_asked xs ys same x = ap (λ b. cond (is_satisfied x || (is_active x && not b)) (record x { asked = empty; granted = union x.granted x.asked }) x) (same_kept_from xs ys same x.claim x.asked)
 
+-- what came to claims comes to none once more
+pub given_again : (xs : List Claimed) → given (given xs) ≡ given xs
+unfolding given
+given_again xs = each xs
+  where
+    at : (x : Claimed) (b : Bool) → gets_asked xs x ≡ b → let y = cond b (record x { asked = empty; granted = union x.granted x.asked }) x in with_asked (map (with_asked xs) xs) y ≡ y
+    at x true is = asks_nothing (map (with_asked xs) xs) (record x { asked = empty; granted = union x.granted x.asked }) refl
+    at x false is = same_with_asked xs (given xs) (given_standing xs) x ∙ ap (λ b. cond b (record x { asked = empty; granted = union x.granted x.asked }) x) is
+
+    each : (ys : List Claimed) → map (with_asked (map (with_asked xs) xs)) (map (with_asked xs) ys) ≡ map (with_asked xs) ys
+    each [] = refl
+    each (y ∷ ys) = (λ i. at y (gets_asked xs y) refl i ∷ each ys i)
+
 -- as far as a place
 so_far : (xs : List Claimed) (i : ℕ) → AllZip SameStanding xs (map (with_asked xs) (take i xs) ++ drop i xs)
 so_far xs i =

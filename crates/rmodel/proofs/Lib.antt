@@ -20,6 +20,9 @@ pub mod EarlyGrants
 pub mod Standing
 pub mod Giving
 pub mod Reached
+pub mod Issued
+pub mod NewSettled
+pub mod IssueSteps
 pub mod Exclusive
 pub mod Earliest
 pub mod Somebody

@@ -272,3 +272,19 @@ all_map f P (x ∷ xs) each = (each x (inl refl), all_map f P xs (λ y there. ea
 
 pub all_filter : {X : Type 0} (P : X → Type 0) (p : X → Bool) (xs : List X) → AllByRecursion P xs → AllByRecursion P (filter p xs)
 all_filter P p xs all = all_from P (filter p xs) (λ x there. all_at P xs x all (among_filter p xs x there).0)
+
+-- ---- a list behind another
+
+pub behind : {X : Type 0} (P : X → Type 0) (xs ys : List X) → AllByRecursion P (xs ++ ys) → AllByRecursion P ys
+behind P [] ys all = all
+behind P (w ∷ zs) ys all = behind P zs ys all.1
+
+-- two elements, one of each of them
+pub pairs_across : {X : Type 0} (R : X → X → Type 0) (ys xs : List X) (x y : X) → EachPair R (xs ++ ys) → Among x xs → Among y ys → R x y
+pairs_across R ys [] x y pairs a b = absurd a
+pairs_across R ys (z ∷ xs) x y pairs (inl same) b = all_at (R x) ys y (subst (λ w. AllByRecursion (R w) ys) (sym same) (behind (R z) xs ys pairs.0)) b
+pairs_across R ys (z ∷ xs) x y pairs (inr later) b = pairs_across R ys xs x y pairs.1 later b
+
+pub among_behind : {X : Type 0} (xs ys : List X) (x : X) → Among x ys → Among x (xs ++ ys)
+among_behind [] ys x there = there
+among_behind (z ∷ xs) ys x there = inr (among_behind xs ys x there)

@@ -13,29 +13,45 @@ use Rattle.rmodel.specs.Claims.{claims_by, claims_of}
 use Rattle.rclaim.specs.Changes.{ChangeLists}
 use Rattle.rclaim.specs.Events.{IsNormalEvent}
 use Rattle.rclaim.specs.declared.event.Event.{Event}
+use Rattle.rclaim.specs.declared.event.Event.TheVariants.{Ask}
+use Rattle.rmodel.specs.Reached.{IsReached}
+use Rattle.rmodel.proofs.OneSettlement.{only_one}
+use Rattle.rmodel.proofs.Standing.{settles_standing, asking_standing}
 use Rattle.rmodel.specs.declared.claimed.Claimed.{Claimed}
 use Rattle.rmodel.specs.declared.plain.Plain.TheInside.{Inside}
 use Rattle.rmodel.specs.Changes.{changes_between, status_changes, grant_changes}
 use Rattle.rmodel.specs.Machine.{Standing}
-use Rattle.rmodel.specs.Plain.{standing_of, state_of, IsKept}
+use Rattle.rmodel.specs.Plain.{standing_of, state_of, IsKept, IsTaken}
 use Rattle.rmodel.specs.Rules.{Settles}
 use Rattle.rmodel.specs.Settling.{settled}
 use Rattle.rmodel.specs.State.{LockState}
-use Rattle.rmodel.specs.Steps.{Fits, Accepts, Comes, Steps, changed, next, gets_asked, with_asked, given}
+use Rattle.rmodel.specs.Steps.{Fits, Accepts, Comes, Steps, changed, next, asking, gets_asked, with_asked, given}
 use Rattle.rmodel.specs.WellFormed.{EachPair, Distinct, IsSound}
 use Rattle.rmodel.proofs.ChangesTold.{changes_told}
 use Rattle.rmodel.proofs.ListFacts.{contrary, false_from, all_at, all_map, zip_map_right}
 use Rattle.rmodel.proofs.Settlement.{settles_settled}
 use Rattle.rmodel.proofs.Soundness.{SameClaim, same_claims, sound_changed, read_of_half}
 
--- an event that comes to the lock state that contracts see leaves a sound one
-pub kept_event : (a : Inside) (m : Standing) (e : Event) → standing_of a ≡ m → IsKept a → Fits m.state e → Accepts m.state e → IsNormalEvent e → IsSound (changed (state_of a) e)
-kept_event a m e view kept fits accepted normal =
-    sound_changed (state_of a) e kept.sound (record {
-      fits = subst (λ (n : Standing). Fits n.state e) (sym view) fits;
-      normal = normal;
-      accepted = subst (λ (n : Standing). Accepts n.state e) (sym view) accepted;
-    })
+-- an event that comes to the lock state that contracts see comes to the one that is kept
+pub kept_comes : (a : Inside) (m : Standing) (e : Event) → standing_of a ≡ m → Fits m.state e → Accepts m.state e → IsNormalEvent e → Comes (state_of a) e
+kept_comes a m e view fits accepted normal = record {
+  fits = subst (λ (n : Standing). Fits n.state e) (sym view) fits;
+  normal = normal;
+  accepted = subst (λ (n : Standing). Accepts n.state e) (sym view) accepted;
+}
+
+-- the machine took the event, as contracts see it
+pub taken : (a : Inside) (m : Standing) (e : Event) (n : Standing) → standing_of a ≡ m → IsKept a → Comes (state_of a) e → n.state ≡ next (state_of a) e
+    → n.last.statuses ≡ status_changes (changed (state_of a) e).claims n.state.claims → n.last.grants ≡ grant_changes (changed (state_of a) e).claims n.state.claims → IsTaken m e n
+taken a m e n view kept comes state statuses grants =
+    subst (λ (m : Standing). IsTaken m e n) view (record { sound = kept.reached.sound; normal = comes.normal; state = state; statuses = statuses; grants = grants })
+
+-- an ask changes no status
+pub ask_settled : (s : LockState) (seat : ℕ) (part : Set) → IsReached s → Comes s (Ask seat part) → settled (map (asking seat part) s.claims) ≡ map (asking seat part) s.claims
+ask_settled s seat part reached comes =
+    let ys = map (asking seat part) s.claims in
+    only_one ys (settled ys) ys (settles_settled ys (sound_changed s (Ask seat part) reached.sound comes).well_formed)
+    (settles_standing s.claims ys (asking_standing seat part s.claims) reached.stable)
 
 -- what is granted after a settlement changes no claim
 same_given : (xs t : List Claimed) → AllZip SameClaim xs t → AllZip SameClaim xs (given t)
@@ -46,24 +62,19 @@ same_given xs t same = zip_map_right (with_asked t) SameClaim SameClaim (λ x y 
     at y true = refl
     at y false = refl
 
-module _ (s mid t : LockState) (e : Event) (sound : IsSound s) (comes : Comes s e) (to_mid : mid ≡ changed s e) (to_t : t ≡ record mid { claims = given (settled mid.claims) }) where
-  pub to_next : t ≡ next s e
-  to_next = to_t ∙ ap (λ (m : LockState). let after : LockState = record m { claims = given (settled m.claims) } in after) to_mid
-
+module _ (s t : LockState) (e : Event) (sound : IsSound s) (comes : Comes s e) (to_next : t ≡ next s e) where
   settles : Settles (changed s e).claims (settled (changed s e).claims)
   settles = settles_settled (changed s e).claims (sound_changed s e sound comes).well_formed
 
   pub step_holds : Steps s e t
   step_holds = subst (λ (u : LockState). Steps s e u) (sym to_next) (record { accepted = comes.accepted; settled_to = settled (changed s e).claims; settles = settles; others = refl })
 
-  pub changes_hold : (last : ChangeLists) → last.statuses ≡ status_changes mid.claims t.claims → last.grants ≡ grant_changes mid.claims t.claims → last ≡ changes_between s t
+  pub changes_hold : (last : ChangeLists) → last.statuses ≡ status_changes (changed s e).claims t.claims → last.grants ≡ grant_changes (changed s e).claims t.claims → last ≡ changes_between s t
   changes_hold last statuses grants =
-      let told : List Claimed → ChangeLists = λ xs. record { statuses = status_changes xs t.claims; grants = grant_changes xs t.claims } in
-      let lists : last ≡ told mid.claims = (λ i. record { statuses = statuses i; grants = grants i }) in
       let same : AllZip SameClaim (changed s e).claims t.claims
       = subst (λ (u : LockState). AllZip SameClaim (changed s e).claims u.claims) (sym to_next)
       (same_given (changed s e).claims (settled (changed s e).claims) (same_claims (changed s e).claims (settled (changed s e).claims) settles)) in
-      lists ∙ ap (λ (m : LockState). told m.claims) to_mid ∙ sym (changes_told s t e sound comes same)
+      (λ i. record { statuses = statuses i; grants = grants i }) ∙ sym (changes_told s t e sound comes same)
 
 -- ---- rooms
 

@@ -14,7 +14,8 @@ use Rattle.rmodel.specs.Rules.{Settles}
 use Rattle.rmodel.specs.Settling.{settled}
 use Rattle.rmodel.specs.State.{LockState, opening}
 use Rattle.rmodel.specs.Steps.{changed, next, after, asking, is_kept_from, gets_asked, with_asked, given, Comes, AreAccepted}
-use Rattle.rmodel.specs.WellFormed.{EachPair, IsSound, Entered, Apart, AreAdmittedBy, AreExclusive, TakeTurns, IsFreeOf, AreFree}
+pub use Rattle.rmodel.specs.Reached.{IsReached}
+use Rattle.rmodel.specs.WellFormed.{EachPair, Entered, Apart, AreAdmittedBy, AreExclusive, TakeTurns, IsFreeOf, AreFree}
 use Rattle.rmodel.proofs.ListFacts.{Among, contrary, none_among, all_at, all_map, zip_among, zip_weaker, zip_map_right, zip_same, pairs_append_all, pairs_filter, pairs_from_all, pairs_of_zip}
 use Rattle.rmodel.proofs.NewClaims.{IsNew, new_claims}
 use Rattle.rmodel.proofs.OneSettlement.{both_cases}
@@ -24,19 +25,9 @@ use Rattle.rmodel.proofs.Admitted.{admitted_settled, admitted_changed, admitted_
 use Rattle.rmodel.proofs.Keeping.{entered_settled, apart_settled, not_false}
 use Rattle.rmodel.proofs.Turns.{turns_settled}
 use Rattle.rmodel.proofs.EarlyGrants.{free_settled, none_on_both, none_on_nothing}
+use Rattle.rmodel.proofs.Giving.{given_again}
 use Rattle.rmodel.proofs.Standing.{SameStanding, settles_standing, entered_standing, apart_standing, turns_standing, asking_standing, given_standing}
 use Rattle.rmodel.proofs.Soundness.{sound_changed, sound_settled, sound_next, sound_opening}
-
-pub record IsReached (s : LockState) : Type 0 where
-  pub sound : IsSound s
-  pub entered : EachPair Entered s.claims
-  pub apart : EachPair Apart s.claims
-  pub stable : Settles s.claims s.claims
-  pub admitted : AreAdmittedBy s.groups.groups s.claims
-  pub turns : EachPair TakeTurns s.claims
-  pub free : EachPair AreFree s.claims
-  -- no ask of a satisfied claim is pending
-  pub answered : AllByRecursion (λ x. is_satisfied x ≡ true → x.asked ≡ empty) s.claims
 
 -- ---- an event keeps them
 
@@ -57,14 +48,14 @@ pairs_issued R s seat r for_new comes pairs =
     pairs_append_all R s.claims ns pairs (pairs_from_all (IsNew s.issued seat) R (λ m n is_m is_n. for_new.with_new s.issued seat m n is_n) ns new.each)
     (λ x n in_s in_new. for_new.with_new s.issued seat x n (all_at (IsNew s.issued seat) ns n new.each in_new))
 
-entered_changed : (s : LockState) (e : Event) → Comes s e → EachPair Entered s.claims → EachPair Entered (changed s e).claims
+pub entered_changed : (s : LockState) (e : Event) → Comes s e → EachPair Entered s.claims → EachPair Entered (changed s e).claims
 entered_changed s (Issue seat r) comes pairs =
     pairs_issued Entered s seat r (record { with_new = λ stamp at x n new w w' share active. contrary (is_active n) active (waits_inactive n stamp at new) }) comes pairs
 entered_changed s (Finish seat) comes pairs = pairs_filter Entered _ s.claims pairs
 entered_changed s (Rise seat) comes pairs = pairs_filter Entered _ s.claims pairs
 entered_changed s (Ask seat part) comes pairs = entered_standing s.claims _ (asking_standing seat part s.claims) pairs
 
-apart_changed : (s : LockState) (e : Event) → Comes s e → EachPair Apart s.claims → EachPair Apart (changed s e).claims
+pub apart_changed : (s : LockState) (e : Event) → Comes s e → EachPair Apart s.claims → EachPair Apart (changed s e).claims
 apart_changed s (Issue seat r) comes pairs =
     pairs_issued Apart s seat r (record { with_new = λ stamp at x n new sat sat'. contrary (is_satisfied n) sat' (waits_unsatisfied n stamp at new) }) comes pairs
 apart_changed s (Finish seat) comes pairs = pairs_filter Apart _ s.claims pairs
@@ -179,6 +170,7 @@ reached_next s e reached comes =
       entered = entered_standing t (given t) same (entered_settled xs t settles mid.well_formed entered apart);
       apart = apart_standing t (given t) same (apart_settled xs t settles mid.well_formed entered apart);
       stable = settles_standing t (given t) same (stable_settled xs t settles);
+      at_rest = given_again t;
       admitted = admitted_given groups t (admitted_settled groups xs t admitted settles);
       turns = turns_standing t (given t) same (turns_settled groups xs t settles exclusive admitted mid.one_each (turns_changed s e comes reached.turns));
       free = free_given t (free_settled xs t settles mid.well_formed entered apart mid.parts (free_changed s e comes reached.free));
@@ -190,4 +182,5 @@ reached_after s [] reached accepted = reached
 reached_after s (e ∷ es) reached accepted = reached_after (next s e) es (reached_next s e reached accepted.0) accepted.1
 
 pub reached_opening : (groups : ReadGroups) (seats cap : ℕ) → IsReached (opening groups seats cap)
-reached_opening groups seats cap = record { sound = sound_opening groups seats cap; entered = tt; apart = tt; stable = tt; admitted = tt; turns = tt; free = tt; answered = tt }
+unfolding given
+reached_opening groups seats cap = record { sound = sound_opening groups seats cap; entered = tt; apart = tt; stable = tt; at_rest = refl; admitted = tt; turns = tt; free = tt; answered = tt }

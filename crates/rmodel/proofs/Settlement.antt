@@ -161,11 +161,11 @@ has_way_is xs c only =
 -- ---- the passes, claim by claim
 
 -- what the first pass makes of a claim
-abbrev first_pass : Set → Claimed → Claimed
+abbrev pub first_pass : Set → Claimed → Claimed
 first_pass busy x = with_status x (read_status busy x)
 
 -- what the third pass makes of a claim
-abbrev third_pass : Set → Claimed → Claimed
+abbrev pub third_pass : Set → Claimed → Claimed
 third_pass busy x = with_status x (kept_status busy x)
 
 -- what the second pass makes of a claim, in the list that it leaves
@@ -190,7 +190,7 @@ first_write : (w m : Bool) (a : Status) → w ≡ true → cond (not w && not m)
 first_write true m a is = refl
 first_write false m a is = absurd (true≢false (sym is))
 
-third_satisfied : (w m : Bool) (a : Status) → satisfied_by (cond (w || satisfied_by a) a (cond m Entitled Waiting)) ≡ satisfied_by a
+pub third_satisfied : (w m : Bool) (a : Status) → satisfied_by (cond (w || satisfied_by a) a (cond m Entitled Waiting)) ≡ satisfied_by a
 third_satisfied true m a = refl
 third_satisfied false true Waiting = refl
 third_satisfied false true Entitled = refl
@@ -208,7 +208,7 @@ third_active false false Waiting is = refl
 third_active false false Entitled is = refl
 third_active false false Satisfied is = refl
 
-third_write : (w m : Bool) (a : Status) → w ≡ true → cond (w || satisfied_by a) a (cond m Entitled Waiting) ≡ a
+pub third_write : (w m : Bool) (a : Status) → w ≡ true → cond (w || satisfied_by a) a (cond m Entitled Waiting) ≡ a
 third_write true m a is = refl
 third_write false m a is = absurd (true≢false (sym is))
 

@@ -4,8 +4,10 @@ pub mod State
 pub mod Holds
 pub mod Settling
 pub mod Steps
+pub mod NewClaim
 pub mod Changes
 pub mod WellFormed
+pub mod Reached
 pub mod Codes
 pub mod Machine
 pub mod Laws

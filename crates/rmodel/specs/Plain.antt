@@ -1,11 +1,16 @@
 -- How the plain machine keeps its lock state, and what it keeps true.
-use Rattle.std.specs.Prelude.{◌≤◌, ◌+◌, vec_capacity}
+use Rattle.std.specs.Prelude.{◌≡◌, ◌≤◌, ◌+◌, vec_capacity}
 use Rattle.rset.specs.declared.TheConstants.{SEATS}
 use Rattle.rclaim.specs.declared.TheConstants.{STATUS_ROOM}
 use Rattle.rmodel.specs.declared.plain.Plain.TheInside.{Inside}
+use Rattle.rclaim.specs.Events.{IsNormalEvent}
+use Rattle.rclaim.specs.declared.event.Event.{Event}
+use Rattle.rmodel.specs.Changes.{status_changes, grant_changes}
+use Rattle.rmodel.specs.Steps.{changed, next}
+use Rattle.rmodel.specs.WellFormed.{IsSound}
 use Rattle.rmodel.specs.State.{LockState}
 use Rattle.rmodel.specs.Machine.{Standing}
-use Rattle.rmodel.specs.WellFormed.{IsSound}
+use Rattle.rmodel.specs.Reached.{IsReached}
 
 -- the lock state of a plain machine
 abbrev pub state_of : Inside → LockState
@@ -15,10 +20,18 @@ state_of a = record { groups = a.groups; seats = a.seats; cap = a.cap; issued = 
 abbrev pub standing_of : Inside → Standing
 standing_of a = record { state = state_of a; last = a.changes }
 
--- its state is sound, and there is room for the claims of all seats
+-- its state is one that accepted events lead to, as far as its claims go, and there is room for the claims of all seats
 pub record IsKept (a : Inside) : Type 0 where
-  pub sound : IsSound (state_of a)
+  pub reached : IsReached (state_of a)
   pub cap : a.cap ≤ SEATS
   pub seats : a.seats ≤ SEATS
   pub claims_room : STATUS_ROOM + 2 ≤ vec_capacity a.claims
   pub before_room : STATUS_ROOM ≤ vec_capacity a.before
+
+-- the machine took an accepted event: the changes are those from the claims that the event leaves to what they settle to
+pub record IsTaken (old : Standing) (e : Event) (new : Standing) : Type 0 where
+  pub sound : IsSound old.state
+  pub normal : IsNormalEvent e
+  pub state : new.state ≡ next old.state e
+  pub statuses : new.last.statuses ≡ status_changes (changed old.state e).claims new.state.claims
+  pub grants : new.last.grants ≡ grant_changes (changed old.state e).claims new.state.claims

@@ -1,11 +1,14 @@
 // From requests to claims.
-ghost use Rattle.std.specs.Prelude.{◌≡◌, ◌≤◌, ◌+◌, ◌++◌, ◌↔◌, IsTrue, IsOk, IsErrOf, length, map, vec_capacity};
+ghost use Rattle.std.specs.Prelude.{◌≡◌, ◌≤◌, ◌+◌, ◌↔◌, IsTrue, IsOk, IsErrOf, length, map, vec_capacity};
 ghost use Rattle.rset.specs.Sets.{all_below};
 ghost use Rattle.rclaim.specs.Requests.{IsNormal};
+ghost use Rattle.rclaim.specs.Changes.{no_changes};
+ghost use Rattle.rmodel.specs.NewClaim.{settled_behind, told_behind};
 ghost use Rattle.rmodel.specs.Claims.{is_admitted, IsUndeclared, needs_declared, claim_of, claims_of, waiting};
 
 use crate::claimed::Claimed;
-use rclaim::{Claim, Kind, Request, RequestErr};
+use crate::new_claim::push_new;
+use rclaim::{Changes, Claim, Kind, Request, RequestErr};
 use rexpand::Groups;
 use rset::ResourceSet;
 
@@ -61,19 +64,23 @@ fn claim_of(
     }
 }
 
-/// Adds the claims of a request, waiting, behind the others.
+/// Adds the claims of a request behind settled ones, settled, with what they ask for granted if that comes to them, and
+/// tells what changes of them.
 pub(crate) fn push_claims(
     claims: &mut Vec<Claimed>,
     groups: &Groups,
     stamp: u64,
     seat: u8,
     request: &Request,
+    changes: &mut Changes,
 )
     requires reads { IsTrue (all_below groups.now.q request.now.reads) }
     requires writes { IsTrue (all_below groups.now.q request.now.writes) }
     requires room { length claims.old.items + length (claims_of groups.now.groups stamp seat request.now) ≤ vec_capacity claims.old }
-    ensures items { claims.new.items ≡ claims.old.items ++ map (waiting request.now.first) (claims_of groups.now.groups stamp seat request.now) }
+    requires none { changes.old ≡ no_changes }
+    ensures items { claims.new.items ≡ settled_behind claims.old.items (map (waiting request.now.first) (claims_of groups.now.groups stamp seat request.now)) }
     ensures capacity { vec_capacity claims.new ≡ vec_capacity claims.old }
+    ensures changes { changes.new ≡ told_behind no_changes claims.old.items (map (waiting request.now.first) (claims_of groups.now.groups stamp seat request.now)) }
     ensures normal { IsNormal request.now }
 {
     let kind = request.kind();
@@ -84,17 +91,17 @@ pub(crate) fn push_claims(
     match kind {
         Kind::Read => {
             let claim = claim_of(groups, false, stamp, seat, kind, reads, writes);
-            claims.push_reserved(Claimed::waiting(first, claim));
+            push_new(claims, &Claimed::waiting(first, claim), changes);
         }
         Kind::Write | Kind::Mixed | Kind::Nested => {
             let claim = claim_of(groups, true, stamp, seat, kind, reads, writes);
-            claims.push_reserved(Claimed::waiting(first, claim));
+            push_new(claims, &Claimed::waiting(first, claim), changes);
         }
         Kind::Upgrade => {
             let read_half = claim_of(groups, false, stamp, seat, kind, reads, none);
             let write_half = claim_of(groups, true, stamp, seat, kind, none, reads);
-            claims.push_reserved(Claimed::waiting(first, read_half));
-            claims.push_reserved(Claimed::waiting(first, write_half));
+            push_new(claims, &Claimed::waiting(first, read_half), changes);
+            push_new(claims, &Claimed::waiting(first, write_half), changes);
         }
     }
 }

@@ -43,6 +43,17 @@ fn with_asked(claims: &[Claimed], x: &Claimed) -> Claimed
     }
 }
 
+/// The claim likewise; few ask for anything, and for the others nothing is looked at.
+pub(crate) fn granted_to(claims: &[Claimed], x: &Claimed) -> Claimed
+    ensures { result ≡ with_asked claims.now x.now }
+{
+    if x.asked.len() > 0 {
+        with_asked(claims, x)
+    } else {
+        *x
+    }
+}
+
 /// Grants what the claim at a place asks for, if it comes to it.
 fn give_at(claims: &mut [Claimed], i: usize)
     requires { i < length claims.old }

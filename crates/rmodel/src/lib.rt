@@ -12,6 +12,7 @@ mod granted;
 pub mod laws;
 mod list;
 mod machine;
+mod new_claim;
 mod plain;
 mod refused;
 mod settle;

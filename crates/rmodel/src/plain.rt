@@ -1,10 +1,9 @@
 // The machine over a plain list of claims.
 ghost use Rattle.std.specs.Prelude.{◌≡◌};
 ghost use Rattle.rclaim.specs.Events.{IsNormalEvent};
-ghost use Rattle.rmodel.specs.Changes.{status_changes, grant_changes};
-ghost use Rattle.rmodel.specs.Steps.{Fits, Accepts, refusal, changed, given};
-ghost use Rattle.rmodel.specs.Settling.{settled};
-ghost use Rattle.rmodel.specs.WellFormed.{IsSound};
+ghost use Rattle.rclaim.specs.declared.event.Event.TheVariants.{Issue, Finish, Rise, Ask};
+ghost use Rattle.rmodel.specs.Plain.{IsTaken};
+ghost use Rattle.rmodel.specs.Steps.{Fits, Accepts, refusal};
 
 use crate::claimed::Claimed;
 use crate::claims::push_claims;
@@ -12,10 +11,11 @@ use crate::list::{
     ask, has_request, holds_of, incomplete, is_not_holding, is_part_of, may_ask, may_rise,
     remove_read_half, remove_seat, status_in,
 };
-use crate::settle::settle;
+use crate::settle::{give_once, settle};
 use crate::{Granted, Machine, Refused};
-use rclaim::{Changes, Event, STATUS_ROOM, Status};
+use rclaim::{Changes, Event, Request, STATUS_ROOM, Status};
 use rexpand::Groups;
+use rset::ResourceSet;
 use std::alloc::{AllocError, Global};
 use std::marker::Model;
 
@@ -69,8 +69,7 @@ impl Machine for Plain {
         if let Some(cause) = self.refusal(&event) {
             return Err(cause);
         }
-        self.change(&event);
-        self.settle();
+        self.take(&event);
         Ok(())
     }
 
@@ -148,31 +147,65 @@ impl Plain {
         }
     }
 
-    // Changes the claims for an accepted event.
-    fn change(&mut self, event: &Event)
+    // Takes an accepted event: it changes the claims, and they are settled once, with what is asked for granted.
+    fn take(&mut self, event: &Event)
         requires fits { Fits self.old.state event.now }
         requires accepted { Accepts self.old.state event.now }
-        ensures state { self.new.state ≡ changed self.old.state event.now }
-        ensures sound { IsSound self.old.state }
-        ensures normal { IsNormalEvent event.now }
+        ensures { IsTaken self.old event.now self.new }
     {
         match event {
-            Event::Issue { seat, request } => {
-                push_claims(&mut self.claims, &self.groups, self.issued, *seat, request);
-                self.issued += 1;
-            }
-            Event::Finish { seat } => remove_seat(&mut self.claims, *seat),
-            Event::Rise { seat } => remove_read_half(&mut self.claims, *seat),
-            Event::Ask { seat, set } => ask(&mut self.claims, *seat, *set),
+            Event::Issue { seat, request } => self.issue(*seat, request),
+            Event::Finish { seat } => self.finish(*seat),
+            Event::Rise { seat } => self.rise(*seat),
+            Event::Ask { seat, set } => self.ask(*seat, *set),
         }
     }
 
-    // Settles the claims once, grants what is asked for, and tells the changes.
-    fn settle(&mut self)
-        ensures state { self.new.state ≡ record self.old.state { claims = given (settled self.old.state.claims) } }
-        ensures statuses { self.new.last.statuses ≡ status_changes self.old.state.claims self.new.state.claims }
-        ensures grants { self.new.last.grants ≡ grant_changes self.old.state.claims self.new.state.claims }
+    // Takes an issue. The claims that were there stay as they are.
+    fn issue(&mut self, seat: u8, request: &Request)
+        requires fits { Fits self.old.state (Issue seat request.now) }
+        requires accepted { Accepts self.old.state (Issue seat request.now) }
+        ensures { IsTaken self.old (Issue seat request.now) self.new }
     {
+        self.changes.clear();
+        push_claims(
+            &mut self.claims,
+            &self.groups,
+            self.issued,
+            seat,
+            request,
+            &mut self.changes,
+        );
+        self.issued += 1;
+    }
+
+    // Takes a finish.
+    fn finish(&mut self, seat: u8)
+        requires fits { Fits self.old.state (Finish seat) }
+        requires accepted { Accepts self.old.state (Finish seat) }
+        ensures { IsTaken self.old (Finish seat) self.new }
+    {
+        remove_seat(&mut self.claims, seat);
         settle(&mut self.claims, &mut self.before, &mut self.changes);
+    }
+
+    // Takes a rise.
+    fn rise(&mut self, seat: u8)
+        requires fits { Fits self.old.state (Rise seat) }
+        requires accepted { Accepts self.old.state (Rise seat) }
+        ensures { IsTaken self.old (Rise seat) self.new }
+    {
+        remove_read_half(&mut self.claims, seat);
+        settle(&mut self.claims, &mut self.before, &mut self.changes);
+    }
+
+    // Takes an ask. No status changes, so that only what is asked for is looked at.
+    fn ask(&mut self, seat: u8, set: ResourceSet)
+        requires fits { Fits self.old.state (Ask seat set) }
+        requires accepted { Accepts self.old.state (Ask seat set) }
+        ensures { IsTaken self.old (Ask seat set) self.new }
+    {
+        ask(&mut self.claims, seat, set);
+        give_once(&mut self.claims, &mut self.before, &mut self.changes);
     }
 }

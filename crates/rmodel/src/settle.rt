@@ -88,7 +88,7 @@ fn written_by_satisfied(claims: &[Claimed]) -> ResourceSet
 
 /// What is read by the unsatisfied reads that touch these resources.
 #[tactic(auto, unfolding(crate::specs::Settling::read_near))]
-fn read_near(claims: &[Claimed], resources: ResourceSet) -> ResourceSet
+pub(crate) fn read_near(claims: &[Claimed], resources: ResourceSet) -> ResourceSet
     ensures { result ≡ read_near claims.now resources }
 {
     claims.iter().fold(ResourceSet::empty(), |all, x| {
@@ -109,7 +109,7 @@ fn is_earlier_write(claim: &Claim, other: &Claim) -> bool
 
 /// Whether each earlier write that shares a place with the claim is satisfied and writes nothing of `away`.
 #[tactic(auto, unfolding(crate::specs::Settling::is_clear))]
-fn is_clear(claims: &[Claimed], claim: &Claim, away: ResourceSet) -> bool
+pub(crate) fn is_clear(claims: &[Claimed], claim: &Claim, away: ResourceSet) -> bool
     ensures { result ≡ is_clear claims.now claim.now away }
 {
     claims.iter().all(|v| {
@@ -212,7 +212,7 @@ fn stays(x: &Claimed, bars: ResourceSet, held: ResourceSet) -> bool
 
 /// These resources, and those with which a write bars later ones.
 #[inline]
-fn with_bars(all: ResourceSet, x: &Claimed) -> ResourceSet
+pub(crate) fn with_bars(all: ResourceSet, x: &Claimed) -> ResourceSet
     ensures { result ≡ with_bars all x.now }
 {
     if !x.claim.write_half {
@@ -363,4 +363,19 @@ pub(crate) fn settle(claims: &mut Vec<Claimed>, before: &mut Vec<Claimed>, chang
     ensures grants { changes.new.grants ≡ grant_changes claims.old.items claims.new.items }
 {
     settle_once(claims, before, changes);
+}
+
+/// Grants what is asked for in settled claims, and makes the changes those from the list before. `before` is room.
+pub(crate) fn give_once(claims: &mut Vec<Claimed>, before: &mut Vec<Claimed>, changes: &mut Changes)
+    requires room { length claims.old.items ≤ GRANT_ROOM }
+    requires before_room { length claims.old.items ≤ vec_capacity before.old }
+    ensures items { claims.new.items ≡ given claims.old.items }
+    ensures capacity { vec_capacity claims.new ≡ vec_capacity claims.old }
+    ensures before_capacity { vec_capacity before.old ≤ vec_capacity before.new }
+    ensures statuses { changes.new.statuses ≡ status_changes claims.old.items claims.new.items }
+    ensures grants { changes.new.grants ≡ grant_changes claims.old.items claims.new.items }
+{
+    copy_into(before, claims);
+    give(claims);
+    tell_changes(before, claims, changes);
 }

@@ -4,11 +4,11 @@ use Rattle.rmodel.proofs.plain.PlainMachine.step.Goals as goal
 
 pub returns-clause-step : goal.returns-clause-step
 returns-clause-step c =
-    step_holds c.args.self.now.state c.change.new.self.state c.settle.new.self.state c.args.event c.change.ensures.sound
-    (record { fits = c.requires; normal = c.change.ensures.normal; accepted = sym c.refusal.ensures ∙ c.in_default.is }) c.change.ensures.state c.settle.ensures.state
+    step_holds c.args.self.now.state c.take.new.self.state c.args.event c.take.ensures.sound
+    (record { fits = c.requires; normal = c.take.ensures.normal; accepted = sym c.refusal.ensures ∙ c.in_default.is }) c.take.ensures.state
 
 pub returns-clause-changes : goal.returns-clause-changes
 returns-clause-changes c =
-    changes_hold c.args.self.now.state c.change.new.self.state c.settle.new.self.state c.args.event c.change.ensures.sound
-    (record { fits = c.requires; normal = c.change.ensures.normal; accepted = sym c.refusal.ensures ∙ c.in_default.is }) c.change.ensures.state c.settle.ensures.state
-    c.settle.new.self.last c.settle.ensures.statuses c.settle.ensures.grants
+    changes_hold c.args.self.now.state c.take.new.self.state c.args.event c.take.ensures.sound
+    (record { fits = c.requires; normal = c.take.ensures.normal; accepted = sym c.refusal.ensures ∙ c.in_default.is }) c.take.ensures.state
+    c.take.new.self.last c.take.ensures.statuses c.take.ensures.grants

@@ -1,0 +1,64 @@
+use Rattle.std.proofs.Common.{◌≡◌, ◌+◌, ◌≤◌, List, length, map, refl, sym, ap, subst, ◌∙◌, arith}
+use Rattle.rset.specs.declared.TheConstants.{SEATS}
+use Rattle.rclaim.specs.declared.TheConstants.{STATUS_ROOM}
+use Rattle.rclaim.specs.declared.event.Event.TheVariants.{Issue, Finish, Rise, Ask}
+use Rattle.rmodel.specs.declared.claimed.Claimed.{Claimed}
+use Rattle.rmodel.specs.Changes.{status_changes, grant_changes}
+use Rattle.rmodel.specs.State.{LockState}
+use Rattle.rmodel.specs.Plain.{state_of}
+use Rattle.rmodel.specs.Reached.{IsReached}
+use Rattle.rmodel.specs.Settling.{settled}
+use Rattle.rmodel.specs.Steps.{changed, given}
+use Rattle.rmodel.specs.WellFormed.{AreWellFormed}
+use Rattle.rmodel.proofs.PlainSteps.{kept_comes, taken, ask_settled, few_claims}
+use Rattle.rmodel.proofs.Reached.{reached_next}
+use Rattle.rmodel.proofs.Soundness.{sound_changed}
+use Rattle.rmodel.proofs.plain.Plain.ask.Goals as goal
+
+pub give_once-requires-clause-room : goal.give_once-requires-clause-room
+give_once-requires-clause-room c =
+    let a = c.self.inside in
+    let e = Ask c.args.seat c.args.set in
+    let comes = kept_comes a c.args.self.now e c.self.view_is c.requires.fits c.requires.accepted tt in
+    let few = few_claims (changed (state_of a) e) (sound_changed (state_of a) e c.self.invariant.reached.sound comes) in
+    let same = ap length c.ask.ensures.items in
+    let seats = c.self.invariant.seats in
+    omega arith
+
+pub give_once-requires-clause-before_room : goal.give_once-requires-clause-before_room
+give_once-requires-clause-before_room c =
+    let a = c.self.inside in
+    let e = Ask c.args.seat c.args.set in
+    let comes = kept_comes a c.args.self.now e c.self.view_is c.requires.fits c.requires.accepted tt in
+    let few = few_claims (changed (state_of a) e) (sound_changed (state_of a) e c.self.invariant.reached.sound comes) in
+    let same = ap length c.ask.ensures.items in
+    let seats = c.self.invariant.seats in
+    let room = c.self.invariant.before_room in
+    omega arith
+
+pub invariant_of-self : goal.invariant_of-self
+invariant_of-self c =
+    let a = c.self.inside in
+    let e = Ask c.args.seat c.args.set in
+    let comes = kept_comes a c.args.self.now e c.self.view_is c.requires.fits c.requires.accepted tt in
+    let same = ask_settled (state_of a) c.args.seat c.args.set c.self.invariant.reached comes in
+    record {
+      reached = subst (λ (xs : List Claimed). IsReached (record (state_of a) { claims = xs })) (sym (c.give_once.ensures.items ∙ ap given (c.ask.ensures.items ∙ sym same)))
+          (reached_next (state_of a) e c.self.invariant.reached comes);
+      cap = c.self.invariant.cap;
+      seats = c.self.invariant.seats;
+      claims_room = subst (λ n. STATUS_ROOM + 2 ≤ n) (sym (c.give_once.ensures.capacity ∙ c.ask.ensures.capacity)) c.self.invariant.claims_room;
+      before_room = (let had = c.self.invariant.before_room in let kept = c.give_once.ensures.before_capacity in omega arith);
+    }
+
+pub returns : goal.returns
+returns c =
+    let a = c.self.inside in
+    let e = Ask c.args.seat c.args.set in
+    let comes = kept_comes a c.args.self.now e c.self.view_is c.requires.fits c.requires.accepted tt in
+    let same = ask_settled (state_of a) c.args.seat c.args.set c.self.invariant.reached comes in
+    let items = c.give_once.ensures.items in
+    taken a c.args.self.now e _ c.self.view_is c.self.invariant comes
+    (ap (λ (ys : List Claimed). let s : LockState = record (state_of a) { claims = ys } in s) (items ∙ ap given (c.ask.ensures.items ∙ sym same)))
+    (c.give_once.ensures.statuses ∙ ap (λ ys. status_changes ys c.give_once.new.claims.items) c.ask.ensures.items)
+    (c.give_once.ensures.grants ∙ ap (λ ys. grant_changes ys c.give_once.new.claims.items) c.ask.ensures.items)

@@ -1,0 +1,58 @@
+use Rattle.std.proofs.Common.{◌≡◌, ◌+◌, ◌≤◌, List, ◌++◌, length, map, refl, sym, ap, subst, ◌∙◌, arith}
+use Rattle.rset.specs.declared.TheConstants.{SEATS}
+use Rattle.rclaim.specs.declared.TheConstants.{STATUS_ROOM}
+use Rattle.rclaim.specs.declared.event.Event.TheVariants.{Issue, Finish, Rise, Ask}
+use Rattle.rmodel.specs.declared.claimed.Claimed.{Claimed}
+use Rattle.rclaim.specs.Changes.{ChangeLists}
+use Rattle.rmodel.specs.Changes.{status_changes, grant_changes}
+use Rattle.rmodel.specs.Claims.{waiting, claims_of}
+use Rattle.rmodel.specs.State.{LockState}
+use Rattle.rmodel.specs.Plain.{state_of}
+use Rattle.rmodel.specs.Reached.{IsReached}
+use Rattle.rmodel.specs.Settling.{settled}
+use Rattle.rmodel.specs.Steps.{changed, given}
+use Rattle.rmodel.specs.WellFormed.{AreWellFormed}
+use Rattle.rmodel.proofs.PlainSteps.{kept_comes, taken, few_claims, two_claims}
+use Rattle.rmodel.proofs.IssueSteps.{issue_is, told_is}
+use Rattle.rmodel.proofs.Reached.{reached_next}
+use Rattle.rmodel.proofs.Soundness.{sound_changed}
+use Rattle.rmodel.proofs.plain.Plain.issue.Goals as goal
+
+pub push_claims-requires-clause-room : goal.push_claims-requires-clause-room
+push_claims-requires-clause-room c =
+    let a = c.self.inside in
+    let few = few_claims (state_of a) c.self.invariant.reached.sound in
+    let two = two_claims a.groups.groups a.issued c.args.seat c.args.request.now in
+    let seats = c.self.invariant.seats in
+    let room = c.self.invariant.claims_room in
+    omega arith
+
+pub invariant_of-self : goal.invariant_of-self
+invariant_of-self c =
+    let a = c.self.inside in
+    let e = Issue c.args.seat c.args.request.now in
+    let comes = kept_comes a c.args.self.now e c.self.view_is c.requires.fits c.requires.accepted c.push_claims.ensures.normal in
+    record {
+      reached = subst (λ (xs : List Claimed). IsReached (record (state_of a) { issued = a.issued + 1; claims = xs }))
+          (sym (c.push_claims.ensures.items ∙ sym (issue_is (state_of a) c.args.seat c.args.request.now c.self.invariant.reached comes)))
+          (reached_next (state_of a) e c.self.invariant.reached comes);
+      cap = c.self.invariant.cap;
+      seats = c.self.invariant.seats;
+      claims_room = subst (λ n. STATUS_ROOM + 2 ≤ n) (sym c.push_claims.ensures.capacity) c.self.invariant.claims_room;
+      before_room = c.self.invariant.before_room;
+    }
+
+pub returns : goal.returns
+returns c =
+    let a = c.self.inside in
+    let r = c.args.request.now in
+    let e = Issue c.args.seat r in
+    let comes = kept_comes a c.args.self.now e c.self.view_is c.requires.fits c.requires.accepted c.push_claims.ensures.normal in
+    let xs = a.claims.items in
+    let ns = map (waiting r.first) (claims_of a.groups.groups a.issued c.args.seat r) in
+    let items = c.push_claims.ensures.items in
+    let told = c.push_claims.ensures.changes ∙ told_is xs ns in
+    taken a c.args.self.now e _ c.self.view_is c.self.invariant comes
+    (ap (λ (ys : List Claimed). let s : LockState = record (state_of a) { issued = a.issued + 1; claims = ys } in s) (items ∙ sym (issue_is (state_of a) c.args.seat r c.self.invariant.reached comes)))
+    (ap (λ (t : ChangeLists). t.statuses) told ∙ ap (status_changes (xs ++ ns)) (sym items))
+    (ap (λ (t : ChangeLists). t.grants) told ∙ ap (grant_changes (xs ++ ns)) (sym items))

@@ -1,0 +1,24 @@
+-- What holds of each lock state that a list of accepted events leads to.
+use Rattle.std.specs.Prelude.{◌≡◌, true}
+use Rattle.std.specs.List.{AllByRecursion}
+use Rattle.std.specs.FinSet.{empty}
+use Rattle.rmodel.specs.declared.claimed.Claimed.{Claimed}
+use Rattle.rmodel.specs.Claims.{is_satisfied}
+use Rattle.rmodel.specs.Rules.{Settles}
+use Rattle.rmodel.specs.State.{LockState}
+use Rattle.rmodel.specs.Steps.{given}
+use Rattle.rmodel.specs.WellFormed.{EachPair, Entered, Apart, TakeTurns, AreFree, AreAdmittedBy, IsSound}
+
+pub record IsReached (s : LockState) : Type 0 where
+  pub sound : IsSound s
+  pub entered : EachPair Entered s.claims
+  pub apart : EachPair Apart s.claims
+  -- the claims settle to themselves
+  pub stable : Settles s.claims s.claims
+  -- and nothing that is asked for comes to a claim
+  pub at_rest : given s.claims ≡ s.claims
+  pub admitted : AreAdmittedBy s.groups.groups s.claims
+  pub turns : EachPair TakeTurns s.claims
+  pub free : EachPair AreFree s.claims
+  -- no ask of a satisfied claim is pending
+  pub answered : AllByRecursion (λ x. is_satisfied x ≡ true → x.asked ≡ empty) s.claims
