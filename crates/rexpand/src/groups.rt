@@ -2,8 +2,9 @@
 ghost use Rattle.std.specs.Prelude.{◌≡◌, ◌≢◌, ◌<◌, ◌≤◌, ◌++◌, ◌∷◌, [], ◌↔◌, IfOk, OnOk, OnErr, IsTrue, Some, length, slice_get};
 ghost use Rattle.std.specs.FinSet.{empty};
 ghost use Rattle.rset.specs.Sets.{all_below};
-ghost use Rattle.rexpand.specs.Groups.{no_groups, shared_with, places_of, is_inside, is_declared, are_groups};
+ghost use Rattle.rexpand.specs.Groups.{no_groups, shared_with, places_of, is_declared, are_groups};
 
+use crate::noting::{is_inside, note, unnoted};
 use crate::sharing::{alone, share};
 use crate::{GROUPS, GroupErr};
 use rset::{RESOURCES, ResourceSet};
@@ -15,6 +16,7 @@ use std::marker::Model;
 pub struct Groups {
     groups: Vec<ResourceSet>,
     shared: Vec<ResourceSet>,
+    noted: Vec<ResourceSet>,
 }
 
 impl Model for Groups {
@@ -29,7 +31,7 @@ impl Model for Groups {
 
     ghost view = { λ a. record { q = length a.shared.items; groups = a.groups.items } };
 
-    ghost invariant = { λ a. IsKept a.groups.items a.shared.items };
+    ghost invariant = { λ a. IsKept a.groups.items a.shared.items a.noted.items };
 }
 
 impl Groups {
@@ -44,9 +46,11 @@ impl Groups {
         ensures { IfOk result (λ groups. groups ≡ no_groups q) }
     {
         let shared = alone(alloc, q)?;
+        let noted = unnoted(alloc, q)?;
         Ok(Groups {
             groups: Vec::new(alloc),
             shared,
+            noted,
         })
     }
 
@@ -66,12 +70,14 @@ impl Groups {
         if set.is_empty() {
             return Err(GroupErr::EmptyGroup);
         }
-        if self.groups.len() >= GROUPS {
+        let number = self.groups.len();
+        if number >= GROUPS {
             return Err(GroupErr::TooMany);
         }
         self.groups.reserve(1)?;
         self.groups.push_reserved(set);
         share(&mut self.shared, set);
+        note(&mut self.noted, number, set);
         Ok(())
     }
 
@@ -130,16 +136,8 @@ impl Groups {
         match set.first() {
             None => false,
             // A set inside a group lies in what is shared with each of its members, and that is quickly seen.
-            Some(l) => l < self.q() && set.within(self.shared(l)) && self.is_inside(set),
+            Some(l) => l < self.q() && set.within(self.shared(l)) && is_inside(&self.noted, set, l),
         }
-    }
-
-    // Whether the set lies inside one group.
-    #[tactic(auto, unfolding(crate::specs::Groups::is_inside))]
-    fn is_inside(&self, set: ResourceSet) -> bool
-        ensures { result ≡ is_inside self.now.groups set }
-    {
-        self.groups.iter().any(|group| set.within(*group))
     }
 
     /// Groups with the same number of resources and the same groups, or an error where memory runs out.
@@ -149,6 +147,7 @@ impl Groups {
         Ok(Groups {
             groups: Vec::from_slice(alloc, &self.groups)?,
             shared: Vec::from_slice(alloc, &self.shared)?,
+            noted: Vec::from_slice(alloc, &self.noted)?,
         })
     }
 }

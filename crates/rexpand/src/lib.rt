@@ -7,12 +7,17 @@
 
 mod errors;
 mod groups;
+mod noting;
 mod sharing;
 #[cfg(test)]
 mod tests;
 
 pub use errors::GroupErr;
 pub use groups::Groups;
+use rset::RESOURCES;
 
 /// The number of groups that may be declared.
 pub const GROUPS: usize = 256;
+
+// A set holds the numbers of as many groups as there may be resources, so the numbers of all groups come in this many blocks.
+const BLOCKS: usize = (GROUPS - 1) / RESOURCES as usize + 1;

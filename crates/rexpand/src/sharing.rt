@@ -24,7 +24,7 @@ pub(crate) fn alone(alloc: Global, q: u8) -> Result<Vec<ResourceSet>, AllocError
 // Adds a group to what is shared with each of its members.
 pub(crate) fn share(shared: &mut [ResourceSet], group: ResourceSet)
     requires { IsTrue (all_below (length shared.old) group) }
-    ensures { shared.new ≡ fold (widen group) shared.old (rising group) }
+    ensures { shared.new ≡ fold (widen (λ l. l) group) shared.old (rising group) }
 {
     for l in group.iter() {
         let place = usize::from(l);

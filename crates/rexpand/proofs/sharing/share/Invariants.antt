@@ -7,4 +7,4 @@ use Rattle.rexpand.proofs.sharing.share.Given as goal
 abbrev pub invariant-loop-l : goal.invariant-loop-l
 invariant-loop-l l =
     (list_all (λ m. nat_lt m (length l.shared)) (rising l.l-iterator) ≡ true)
-    × (fold (widen l.group) l.shared (rising l.l-iterator) ≡ fold (widen l.group) l.initial.shared (rising l.group))
+    × (fold (widen (λ m. m) l.group) l.shared (rising l.l-iterator) ≡ fold (widen (λ m. m) l.group) l.initial.shared (rising l.group))

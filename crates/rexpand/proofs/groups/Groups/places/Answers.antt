@@ -3,7 +3,7 @@ use Rattle.std.specs.List.{list_all}
 use Rattle.std.specs.FinSet.{union}
 use Rattle.rset.specs.Sets.{rising}
 use Rattle.rexpand.specs.Groups.{shared_with}
-use Rattle.rexpand.proofs.KeptLemmas.{rising_all_below}
+use Rattle.rexpand.proofs.EntryLemmas.{rising_all_below}
 use Rattle.rexpand.proofs.PlaceLemmas.{places_by_rising}
 use Rattle.rexpand.proofs.groups.Groups.places.Goals as goal
 

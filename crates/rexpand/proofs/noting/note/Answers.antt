@@ -1,0 +1,12 @@
+use Rattle.std.proofs.Common.{◌≡◌, ◌/◌, length, fold, nat_lt, ap, ◌∙◌}
+use Rattle.std.specs.List.{list_all}
+use Rattle.rset.specs.Sets.{rising}
+use Rattle.rexpand.specs.declared.TheConstants.{BLOCKS}
+use Rattle.rexpand.specs.Kept.{place_in, widen}
+use Rattle.rexpand.proofs.EntryLemmas.{rising_all_below}
+use Rattle.rexpand.proofs.noting.note.Goals as goal
+
+pub loop-l-init : goal.loop-l-init
+loop-l-init c =
+    let whole : c.into_iter-l-iterator.result ≡ c.args.group = c.into_iter-l-iterator.ensures.into_iter_gives ∙ c.iter-l-items.ensures.value in
+    (ap (λ s. list_all (λ m. nat_lt m (length c.args.noted.now / BLOCKS)) (rising s)) whole ∙ rising_all_below (length c.args.noted.now / BLOCKS) c.args.group c.requires.within, ap (λ s. fold (widen (place_in (c.args.number / c.from.result)) c.one-one.result) c.args.noted.now (rising s)) whole)
