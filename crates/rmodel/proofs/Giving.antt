@@ -12,6 +12,7 @@ use Rattle.rexpand.proofs.DeclaredLemmas.{some_members}
 use Rattle.rclaim.specs.declared.claim.Claim.{Claim}
 use Rattle.rmodel.specs.declared.claimed.Claimed.{Claimed}
 use Rattle.rmodel.specs.Claims.{conflicts_on, is_satisfied, is_active, satisfied_by}
+use Rattle.rmodel.specs.Changes.{SameClaim}
 use Rattle.rmodel.specs.Rules.{SettlesAt, Settles}
 use Rattle.rmodel.specs.Settling.{settled}
 use Rattle.rmodel.specs.Steps.{some_asks, is_kept_from, gets_asked, with_asked, given}
@@ -69,6 +70,15 @@ given_again xs = each xs
     each : (ys : List Claimed) → map (with_asked (map (with_asked xs) xs)) (map (with_asked xs) ys) ≡ map (with_asked xs) ys
     each [] = refl
     each (y ∷ ys) = (λ i. at y (gets_asked xs y) refl i ∷ each ys i)
+
+-- what is granted after a settlement changes no claim
+pub same_given : (xs t : List Claimed) → AllZip SameClaim xs t → AllZip SameClaim xs (given t)
+unfolding given
+same_given xs t same = zip_map_right (with_asked t) SameClaim SameClaim (λ x y e. at y (gets_asked t y) ∙ e) xs t same
+  where
+    at : (y : Claimed) (b : Bool) → (cond b (record y { asked = empty; granted = union y.granted y.asked }) y).claim ≡ y.claim
+    at y true = refl
+    at y false = refl
 
 -- as far as a place
 so_far : (xs : List Claimed) (i : ℕ) → AllZip SameStanding xs (map (with_asked xs) (take i xs) ++ drop i xs)

@@ -15,6 +15,7 @@ use Rattle.rclaim.specs.Events.{IsNormalEvent}
 use Rattle.rclaim.specs.declared.event.Event.{Event}
 use Rattle.rclaim.specs.declared.event.Event.TheVariants.{Ask}
 use Rattle.rmodel.specs.Reached.{IsReached}
+use Rattle.rmodel.proofs.Giving.{same_given}
 use Rattle.rmodel.proofs.OneSettlement.{only_one}
 use Rattle.rmodel.proofs.Standing.{settles_standing, asking_standing}
 use Rattle.rmodel.specs.declared.claimed.Claimed.{Claimed}
@@ -52,15 +53,6 @@ ask_settled s seat part reached comes =
     let ys = map (asking seat part) s.claims in
     only_one ys (settled ys) ys (settles_settled ys (sound_changed s (Ask seat part) reached.sound comes).well_formed)
     (settles_standing s.claims ys (asking_standing seat part s.claims) reached.stable)
-
--- what is granted after a settlement changes no claim
-same_given : (xs t : List Claimed) → AllZip SameClaim xs t → AllZip SameClaim xs (given t)
-unfolding given
-same_given xs t same = zip_map_right (with_asked t) SameClaim SameClaim (λ x y e. at y (gets_asked t y) ∙ e) xs t same
-  where
-    at : (y : Claimed) (b : Bool) → (cond b (record y { asked = empty; granted = union y.granted y.asked }) y).claim ≡ y.claim
-    at y true = refl
-    at y false = refl
 
 module _ (s t : LockState) (e : Event) (sound : IsSound s) (comes : Comes s e) (to_next : t ≡ next s e) where
   settles : Settles (changed s e).claims (settled (changed s e).claims)

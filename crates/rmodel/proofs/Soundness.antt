@@ -20,6 +20,7 @@ use Rattle.rmodel.specs.declared.claimed.Claimed.{Claimed}
 use Rattle.rmodel.specs.declared.refused.Refused.{Refused}
 use Rattle.rmodel.specs.Claims.{claims_of, waiting, is_nested, is_upgrade, is_read_half, is_active, is_satisfied, active_by, satisfied_by}
 use Rattle.rmodel.specs.Holds.{has_request, may_ask, is_part_of}
+pub use Rattle.rmodel.specs.Changes.{SameClaim}
 use Rattle.rmodel.specs.Rules.{may_enter, SettlesAt, Settles}
 use Rattle.rmodel.specs.Settling.{settled}
 use Rattle.rmodel.specs.State.{LockState, opening}
@@ -186,10 +187,6 @@ asking_parts : (s : LockState) (seat : ℕ) (part : Set) → IsSound s → Accep
 asking_parts s seat part sound accepted =
     all_map (asking seat part) HasParts s.claims
     (λ x there. asking_has_parts seat part x (all_at HasParts s.claims x sound.parts there) (asks s.claims seat part x sound.one_each (ask_is_right s seat part accepted) there))
-
--- the claims are the same
-abbrev pub SameClaim : Claimed → Claimed → Type 0
-SameClaim x y = y.claim ≡ x.claim
 
 pub asking_same : (seat : ℕ) (part : Set) (xs : List Claimed) → AllZip SameClaim xs (map (asking seat part) xs)
 asking_same seat part xs = zip_map_right (asking seat part) (λ x y. x ≡ y) SameClaim (λ x y e. at y (y.claim.seat == seat) ∙ ap (λ z. z.claim) (sym e)) xs xs (zip_same (λ x y. x ≡ y) (λ x. refl) xs)

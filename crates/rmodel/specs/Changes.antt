@@ -1,5 +1,5 @@
 -- The changes of a step: the claims whose status is another, and the requests that hold more.
-use Rattle.std.specs.Prelude.{ℕ, Bool, not, ◌&&◌, ◌==◌, Option, Some, None, unwrap_or, List, [], ◌∷◌, ◌++◌, find, if◌then◌else◌}
+use Rattle.std.specs.Prelude.{◌≡◌, ℕ, Bool, not, ◌&&◌, ◌==◌, Option, Some, None, unwrap_or, List, [], ◌∷◌, ◌++◌, find, if◌then◌else◌}
 use Rattle.std.specs.List.{filter_map}
 use Rattle.std.specs.Option.{option_map, option_to_list}
 use Rattle.std.specs.FinSet.{empty}
@@ -33,6 +33,10 @@ status_in xs seat write_half = option_map (λ x. x.status) (claim_at xs seat wri
 -- a claim as it was in a list; a new claim was waiting, with nothing granted
 abbrev pub was_in : List Claimed → Claim → Claimed
 was_in xs c = unwrap_or (claim_at xs c.seat c.write_half) (waiting empty c)
+
+-- a claim, and the same claim later
+abbrev pub SameClaim : Claimed → Claimed → Type 0
+SameClaim x y = y.claim ≡ x.claim
 
 -- the change of status of a claim, if there is one
 abbrev pub status_change : Claimed → Claimed → Option StatusChange

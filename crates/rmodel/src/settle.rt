@@ -26,23 +26,21 @@ struct Reads {
     held: ResourceSet,
 }
 
-/// What was seen of reads, and a claim more.
+/// What was seen of reads, and a claim more. It makes no branch, as nothing foretells which claims are reads.
+#[inline]
 fn with_read(all: Reads, x: &Claimed) -> Reads
     ensures { result ≡ with_read all x.now }
 {
-    if x.claim.write_half {
-        return all;
-    }
-    if x.is_satisfied() {
-        Reads {
-            waiting: all.waiting,
-            held: all.held.union(x.claim.reads),
-        }
-    } else {
-        Reads {
-            waiting: true,
-            held: all.held,
-        }
+    let reads = x.claim.reads;
+    let read = !x.claim.write_half;
+    let satisfied = x.is_satisfied();
+    Reads {
+        waiting: all.waiting | (read & !satisfied),
+        held: if read & satisfied {
+            all.held.union(reads)
+        } else {
+            all.held
+        },
     }
 }
 
@@ -64,8 +62,9 @@ fn written_by_active(claims: &[Claimed]) -> ResourceSet
     ensures { result ≡ written_by_active claims.now }
 {
     claims.iter().fold(ResourceSet::empty(), |all, x| {
-        if x.claim.write_half && x.is_active() {
-            all.union(x.claim.writes)
+        let writes = x.claim.writes;
+        if x.claim.write_half & x.is_active() {
+            all.union(writes)
         } else {
             all
         }
@@ -78,8 +77,9 @@ fn written_by_satisfied(claims: &[Claimed]) -> ResourceSet
     ensures { result ≡ written_by_satisfied claims.now }
 {
     claims.iter().fold(ResourceSet::empty(), |all, x| {
-        if x.claim.write_half && x.is_satisfied() {
-            all.union(x.claim.writes)
+        let writes = x.claim.writes;
+        if x.claim.write_half & x.is_satisfied() {
+            all.union(writes)
         } else {
             all
         }
@@ -92,8 +92,9 @@ pub(crate) fn read_near(claims: &[Claimed], resources: ResourceSet) -> ResourceS
     ensures { result ≡ read_near claims.now resources }
 {
     claims.iter().fold(ResourceSet::empty(), |all, x| {
-        if !x.claim.write_half && !x.is_satisfied() && x.claim.reads.meets(resources) {
-            all.union(x.claim.reads)
+        let reads = x.claim.reads;
+        if !x.claim.write_half & !x.is_satisfied() & reads.meets(resources) {
+            all.union(reads)
         } else {
             all
         }
@@ -144,10 +145,11 @@ fn is_held_up(claims: &[Claimed], claim: &Claim) -> bool
 fn read_status(busy: ResourceSet, x: &Claimed) -> Status
     ensures { result ≡ read_status busy x.now }
 {
-    if !x.claim.write_half && !busy.meets(x.claim.reads) {
+    let status = x.status;
+    if !x.claim.write_half & !busy.meets(x.claim.reads) {
         Status::Satisfied
     } else {
-        x.status
+        status
     }
 }
 
@@ -174,12 +176,16 @@ fn write_status(claims: &[Claimed], x: &Claimed, reads_wait: bool) -> Status
 fn kept_status(busy: ResourceSet, x: &Claimed) -> Status
     ensures { result ≡ kept_status busy x.now }
 {
-    if x.claim.write_half || x.is_satisfied() {
-        x.status
-    } else if busy.meets(x.claim.reads) {
+    let status = x.status;
+    let kept = if busy.meets(x.claim.reads) {
         Status::Entitled
     } else {
         Status::Waiting
+    };
+    if x.claim.write_half | x.is_satisfied() {
+        status
+    } else {
+        kept
     }
 }
 
@@ -200,14 +206,9 @@ fn settle_reads(claims: &mut [Claimed])
 fn stays(x: &Claimed, bars: ResourceSet, held: ResourceSet) -> bool
     ensures { result ≡ stays x.now bars held }
 {
-    if !x.claim.write_half {
-        return true;
-    }
-    match x.status {
-        Status::Waiting => bars.meets(x.claim.places),
-        Status::Entitled => held.meets(x.claim.writes),
-        Status::Satisfied => true,
-    }
+    let barred = !x.is_active() & bars.meets(x.claim.places);
+    let held_up = x.is_active() & held.meets(x.claim.writes);
+    !x.claim.write_half | x.is_satisfied() | barred | held_up
 }
 
 /// These resources, and those with which a write bars later ones.
@@ -215,14 +216,11 @@ fn stays(x: &Claimed, bars: ResourceSet, held: ResourceSet) -> bool
 pub(crate) fn with_bars(all: ResourceSet, x: &Claimed) -> ResourceSet
     ensures { result ≡ with_bars all x.now }
 {
-    if !x.claim.write_half {
-        return all;
-    }
-    if x.is_satisfied() {
-        all.union(x.claim.writes)
-    } else {
-        all.union(x.claim.places)
-    }
+    let writes = x.claim.writes;
+    let places = x.claim.places;
+    let write = x.claim.write_half;
+    let bars = if x.is_satisfied() { writes } else { places };
+    if write { all.union(bars) } else { all }
 }
 
 /// The claim at a place with its status after the second pass, where the writes before it are settled.
@@ -365,7 +363,21 @@ pub(crate) fn settle(claims: &mut Vec<Claimed>, before: &mut Vec<Claimed>, chang
     settle_once(claims, before, changes);
 }
 
-/// Grants what is asked for in settled claims, and makes the changes those from the list before. `before` is room.
+/// Grants what is asked for, and makes the changes those from the claims before. `before` is room.
+fn give_told(claims: &mut [Claimed], before: &mut Vec<Claimed>, changes: &mut Changes)
+    requires room { length claims.old ≤ GRANT_ROOM }
+    requires before_room { length claims.old ≤ vec_capacity before.old }
+    ensures given { claims.new ≡ given claims.old }
+    ensures capacity { vec_capacity before.old ≤ vec_capacity before.new }
+    ensures statuses { changes.new.statuses ≡ status_changes claims.old claims.new }
+    ensures grants { changes.new.grants ≡ grant_changes claims.old claims.new }
+{
+    copy_into(before, claims);
+    give(claims);
+    tell_changes(before, claims, changes);
+}
+
+/// Grants what is asked for in the claims of a list, and makes the changes those from the list before. `before` is room.
 pub(crate) fn give_once(claims: &mut Vec<Claimed>, before: &mut Vec<Claimed>, changes: &mut Changes)
     requires room { length claims.old.items ≤ GRANT_ROOM }
     requires before_room { length claims.old.items ≤ vec_capacity before.old }
@@ -375,7 +387,5 @@ pub(crate) fn give_once(claims: &mut Vec<Claimed>, before: &mut Vec<Claimed>, ch
     ensures statuses { changes.new.statuses ≡ status_changes claims.old.items claims.new.items }
     ensures grants { changes.new.grants ≡ grant_changes claims.old.items claims.new.items }
 {
-    copy_into(before, claims);
-    give(claims);
-    tell_changes(before, claims, changes);
+    give_told(claims, before, changes);
 }

@@ -1,5 +1,7 @@
 // The changes of a step.
-ghost use Rattle.std.specs.Prelude.{◌≡◌, ◌<◌, ◌≤◌, ◌++◌, length};
+ghost use Rattle.std.specs.Prelude.{◌≡◌, ◌<◌, ◌≤◌, ◌++◌, IsTrue, length};
+ghost use Rattle.std.specs.List.{AllZip};
+ghost use Rattle.rmodel.specs.Changes.{SameClaim};
 ghost use Rattle.std.specs.Option.{option_to_list};
 ghost use Rattle.rclaim.specs.declared.TheConstants.{STATUS_ROOM, GRANT_ROOM};
 ghost use Rattle.rmodel.specs.Changes.{status_change, grant_change, status_changes, grant_changes, with_change};
@@ -66,16 +68,37 @@ pub(crate) fn tell_claim(was: &Claimed, now: &Claimed, changes: &mut Changes)
     tell_grant(was, now, changes);
 }
 
+/// Whether a claim is as far as the same claim before, and as much is granted to it.
+fn is_as_it_was(was: &Claimed, now: &Claimed) -> bool
+    ensures status { IsTrue result → now.now.status ≡ was.now.status }
+    ensures granted { IsTrue result → now.now.granted ≡ was.now.granted }
+{
+    (was.status == now.status) & (was.granted == now.granted)
+}
+
+/// Tells the changes from a claim to the same claim later. Most are as they were, which is seen at once.
+#[inline]
+fn tell_changed(was: &Claimed, now: &Claimed, changes: &mut Changes)
+    requires same { now.now.claim ≡ was.now.claim }
+    requires statuses_room { length changes.old.statuses < STATUS_ROOM }
+    requires grants_room { length changes.old.grants < GRANT_ROOM }
+    ensures { changes.new ≡ with_change changes.old was.now now.now }
+{
+    if !is_as_it_was(was, now) {
+        tell_claim(was, now, changes);
+    }
+}
+
 /// Makes the changes those from a list of claims to the same claims later.
 pub(crate) fn tell_changes(before: &[Claimed], claims: &[Claimed], changes: &mut Changes)
-    requires same { length before.now ≡ length claims.now }
+    requires same { AllZip SameClaim before.now claims.now }
+    requires length { length before.now ≡ length claims.now }
     requires room { length claims.now ≤ GRANT_ROOM }
     ensures statuses { changes.new.statuses ≡ status_changes before.now claims.now }
     ensures grants { changes.new.grants ≡ grant_changes before.now claims.now }
 {
     changes.clear();
     for i in 0..claims.len() {
-        tell_status(&before[i], &claims[i], changes);
-        tell_grant(&before[i], &claims[i], changes);
+        tell_changed(&before[i], &claims[i], changes);
     }
 }

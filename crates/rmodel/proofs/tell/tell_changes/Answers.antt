@@ -3,9 +3,18 @@ use Rattle.std.specs.Option.{option_to_list}
 use Rattle.rclaim.specs.Changes.{ChangeLists}
 use Rattle.rclaim.specs.declared.changes.StatusChange.{StatusChange}
 use Rattle.rclaim.specs.declared.changes.GrantChange.{GrantChange}
-use Rattle.rmodel.specs.Changes.{status_change, grant_change, status_changes, grant_changes}
+use Rattle.rmodel.specs.Changes.{SameClaim, status_change, grant_change, status_changes, grant_changes, with_change}
+use Rattle.std.proofs.lemmas.List.Elements.{AllZip-get_or}
 use Rattle.rmodel.proofs.ChangeSteps.{status_step, grant_step, status_end, grant_end, one_more}
 use Rattle.rmodel.proofs.tell.tell_changes.Goals as goal
+
+pub tell_changed-requires-clause-same : goal.tell_changed-requires-clause-same
+tell_changed-requires-clause-same c =
+    let x = c.index-before-i.result in
+    let y = c.index-claims-i.result in
+    let at : SameClaim (get_or c.args.before.now c.loop-i.i x) (get_or c.args.claims.now c.loop-i.i y)
+    = AllZip-get_or SameClaim c.args.before.now c.args.claims.now c.loop-i.i x y c.requires.same (omega arith) in
+    (λ k. (c.index-claims-i.is k).claim) ∙ at ∙ (λ k. (sym c.index-before-i.is k).claim)
 
 pub loop-i-preserved : goal.loop-i-preserved
 loop-i-preserved c =
@@ -15,23 +24,20 @@ loop-i-preserved c =
     let in_xs : i < length xs = omega arith in
     let in_ys : i < length ys = omega arith in
     let old = c.loop-i.changes in
-    let x = get_or xs i c.index-before-i.result in
-    let y = get_or ys i c.index-claims-i.result in
-    let x' = get_or xs i c.index-before-i-in-loop-i.result in
-    let y' = get_or ys i c.index-claims-i-in-loop-i.result in
-    let statuses : c.tell_grant.new.changes.statuses ≡ old.statuses ++ option_to_list (status_change x y)
-    = ap (λ (ch : ChangeLists). ch.statuses) c.tell_grant.ensures ∙ ap (λ (ch : ChangeLists). ch.statuses) c.tell_status.ensures
-    ∙ (λ j. old.statuses ++ option_to_list (status_change (c.index-before-i.is j) (c.index-claims-i.is j))) in
-    let grants : c.tell_grant.new.changes.grants ≡ old.grants ++ option_to_list (grant_change x' y')
-    = ap (λ (ch : ChangeLists). ch.grants) c.tell_grant.ensures ∙ ap (λ (ch : ChangeLists). ch.grants ++ option_to_list (grant_change c.index-before-i-in-loop-i.result c.index-claims-i-in-loop-i.result)) c.tell_status.ensures
-    ∙ (λ j. old.grants ++ option_to_list (grant_change (c.index-before-i-in-loop-i.is j) (c.index-claims-i-in-loop-i.is j))) in
+    let d = c.index-before-i.result in
+    let e = c.index-claims-i.result in
+    let x = get_or xs i d in
+    let y = get_or ys i e in
+    let told : c.tell_changed.new.changes ≡ with_change old x y = c.tell_changed.ensures ∙ (λ j. with_change old (c.index-before-i.is j) (c.index-claims-i.is j)) in
+    let statuses : c.tell_changed.new.changes.statuses ≡ old.statuses ++ option_to_list (status_change x y) = ap (λ (ch : ChangeLists). ch.statuses) told in
+    let grants : c.tell_changed.new.changes.grants ≡ old.grants ++ option_to_list (grant_change x y) = ap (λ (ch : ChangeLists). ch.grants) told in
     record {
       statuses = ap (λ (told : List StatusChange). told ++ status_changes (drop (i + 1) xs) (drop (i + 1) ys)) statuses
-          ∙ status_step xs ys i c.index-before-i.result c.index-claims-i.result in_xs in_ys old.statuses ∙ c.loop-i.invariant.statuses;
+          ∙ status_step xs ys i d e in_xs in_ys old.statuses ∙ c.loop-i.invariant.statuses;
       grants = ap (λ (told : List GrantChange). told ++ grant_changes (drop (i + 1) xs) (drop (i + 1) ys)) grants
-          ∙ grant_step xs ys i c.index-before-i-in-loop-i.result c.index-claims-i-in-loop-i.result in_xs in_ys old.grants ∙ c.loop-i.invariant.grants;
+          ∙ grant_step xs ys i d e in_xs in_ys old.grants ∙ c.loop-i.invariant.grants;
       few_statuses = subst (λ (told : List StatusChange). length told ≤ i + 1) (sym statuses) (one_more old.statuses (status_change x y) i c.loop-i.invariant.few_statuses);
-      few_grants = subst (λ (told : List GrantChange). length told ≤ i + 1) (sym grants) (one_more old.grants (grant_change x' y') i c.loop-i.invariant.few_grants);
+      few_grants = subst (λ (told : List GrantChange). length told ≤ i + 1) (sym grants) (one_more old.grants (grant_change x y) i c.loop-i.invariant.few_grants);
     }
 
 pub returns-clause-statuses : goal.returns-clause-statuses
