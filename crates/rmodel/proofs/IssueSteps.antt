@@ -128,7 +128,7 @@ module _ (groups : List Set) (xs : List Claimed) (x : Claimed) (b : IsBehind gro
       ∙ ap (λ a. with_status x a ∷ [])
       (ap (λ k. cond (x.claim.write_half || satisfied_by y.status) y.status (cond (meets k x.claim.reads) Entitled Waiting)) (kept_same xs y read ∙ sym (kept_seen xs))
       ∙ ap (λ k. let a = cond (not x.claim.write_half && not (meets k x.claim.reads)) Satisfied x.status in
-        cond (x.claim.write_half || satisfied_by a) a (cond (meets (seen_of xs).kept x.claim.reads) Entitled Waiting)) (active_same xs x read ∙ sym (active_seen xs))
+      cond (x.claim.write_half || satisfied_by a) a (cond (meets (seen_of xs).kept x.claim.reads) Entitled Waiting)) (active_same xs x read ∙ sym (active_seen xs))
       ∙ read_told x.claim.write_half (meets (seen_of xs).active x.claim.reads) (meets (seen_of xs).kept x.claim.reads) x.status (new_write_status xs (seen_of xs) x) read waits)
 
   of_write : x.claim.write_half ≡ true → map (third_pass (written_by_satisfied (xs ++ seconds groups xs (x ∷ []) b))) (seconds groups xs (x ∷ []) b) ≡ result ∷ []
@@ -202,14 +202,14 @@ module _ (groups : List Set) (xs : List Claimed) (x x' : Claimed) (b : IsBehind 
       let only = claims.0.read_only read in
       kept_is (xs ++ y ∷ e ∷ []) x.claim only
       ∙ kept_alike xs b.stable (are groups xs (x ∷ x' ∷ []) b) groups (y ∷ e ∷ []) kept (subst AreExclusive whole b.exclusive) (subst (AreAdmittedBy groups) whole b.admitted)
-        y (among_behind xs (y ∷ e ∷ []) y (inl refl)) read (sym (kept_out_is xs x.claim only) ∙ ap (λ s. meets s x.claim.reads) (sym (active_seen xs)) ∙ out)
+      y (among_behind xs (y ∷ e ∷ []) y (inl refl)) read (sym (kept_out_is xs x.claim only) ∙ ap (λ s. meets s x.claim.reads) (sym (active_seen xs)) ∙ out)
       ∙ sym (kept_is xs x.claim only)
       ∙ ap (λ s. meets s x.claim.reads) (sym (kept_seen xs))
 
   half_is : third_pass kept y ≡ half
   half_is =
       ap (λ k. let a = cond (not x.claim.write_half && not (meets k x.claim.reads)) Satisfied x.status in
-        with_status x (cond (x.claim.write_half || satisfied_by a) a (cond (meets kept x.claim.reads) Entitled Waiting))) (none_active ∙ sym (active_seen xs))
+      with_status x (cond (x.claim.write_half || satisfied_by a) a (cond (meets kept x.claim.reads) Entitled Waiting))) (none_active ∙ sym (active_seen xs))
       ∙ ap (with_status x)
       (read_told x.claim.write_half (meets (seen_of xs).active x.claim.reads) (meets kept x.claim.reads) x.status (new_write_status xs (seen_of xs) x) read waits
       ∙ ap (cond x.claim.write_half (new_write_status xs (seen_of xs) x)) (at (meets (seen_of xs).active x.claim.reads) (meets kept x.claim.reads) (meets (seen_of xs).kept x.claim.reads) kept_as_seen))
@@ -227,14 +227,14 @@ module _ (groups : List Set) (xs : List Claimed) (x x' : Claimed) (b : IsBehind 
       let own : (zs : List Claimed) → AllZip SameSatisfied zs zs = zip_same SameSatisfied (λ z. record { claim = refl; satisfied = refl }) in
       zip_append SameSatisfied (xs ++ y ∷ []) (xs ++ half ∷ []) (x' ∷ []) (x' ∷ [])
       (zip_append SameSatisfied xs xs (y ∷ []) (half ∷ []) (own xs)
-        (record { claim = refl; satisfied = sym (third_satisfied y.claim.write_half (meets kept y.claim.reads) y.status) ∙ ap is_satisfied half_is }, tt))
+      (record { claim = refl; satisfied = sym (third_satisfied y.claim.write_half (meets kept y.claim.reads) y.status) ∙ ap is_satisfied half_is }, tt))
       (own (x' ∷ []))
 
   only_reads : (z : Claimed) → z.claim ≡ x.claim → AllByRecursion ReadsOnly ((xs ++ z ∷ []) ++ x' ∷ [])
   only_reads z same =
       all_append ReadsOnly (xs ++ z ∷ []) (x' ∷ [])
       (all_append ReadsOnly xs (z ∷ []) (all_from ReadsOnly xs (λ v there. (all_at (λ z. IsClaim z.claim) xs v (are groups xs (x ∷ x' ∷ []) b) there).read_only))
-        ((λ r. ap (λ k. k.writes) same ∙ claims.0.read_only (ap (λ k. k.write_half) (sym same) ∙ r)), tt))
+      ((λ r. ap (λ k. k.writes) same ∙ claims.0.read_only (ap (λ k. k.write_half) (sym same) ∙ r)), tt))
       (claims.1.0.read_only, tt)
 
   half_well_formed : AreWellFormed ((xs ++ half ∷ []) ++ x' ∷ [])

@@ -112,16 +112,16 @@ module _ (xs : List Claimed) (stable : Settles xs xs) (are : AllByRecursion (λ 
       let busy = written_by_active (xs ++ ns) in
       map-append (first_pass busy) xs ns
       ∙ ap (λ ys. ys ++ map (first_pass busy) ns) (map_same (first_pass busy) xs (all_from (λ x. first_pass busy x ≡ x) xs (λ x there.
-        ap (with_status x) (first_left x.claim.write_half (meets busy x.claim.reads) (is_kept_out xs x.claim) x.status (by_rule x there).reads
-        (λ r out. kept_out_is (xs ++ ns) x.claim ((is_claim x there).read_only r) ∙ kept_out_more xs ns x.claim out)))))
+      ap (with_status x) (first_left x.claim.write_half (meets busy x.claim.reads) (is_kept_out xs x.claim) x.status (by_rule x there).reads
+      (λ r out. kept_out_is (xs ++ ns) x.claim ((is_claim x there).read_only r) ∙ kept_out_more xs ns x.claim out)))))
 
   pub second_stays : (ns : List Claimed) → AllByRecursion ReadsOnly ns → settle_rest [] (xs ++ ns) ≡ xs ++ settle_rest xs ns
   unfolding write_status
   second_stays ns only =
       rest_left [] xs ns (all_from (λ x. write_status (xs ++ ns) x ≡ x.status) xs (λ x there.
-        let at = by_rule x there in
-        second_left x.claim.write_half (has_way (xs ++ ns) x.claim) (is_held_up (xs ++ ns) x.claim) (may_enter xs x.claim) (is_held_up xs x.claim) x.status at.entitlement at.satisfaction
-        (λ e. enters_less xs ns x.claim (sym (has_way_is (xs ++ ns) x.claim all_only) ∙ e)) (held_up_more xs ns x.claim)))
+      let at = by_rule x there in
+      second_left x.claim.write_half (has_way (xs ++ ns) x.claim) (is_held_up (xs ++ ns) x.claim) (may_enter xs x.claim) (is_held_up xs x.claim) x.status at.entitlement at.satisfaction
+      (λ e. enters_less xs ns x.claim (sym (has_way_is (xs ++ ns) x.claim all_only) ∙ e)) (held_up_more xs ns x.claim)))
     where
       all_only : AllByRecursion ReadsOnly (xs ++ ns)
       all_only = all_append ReadsOnly xs ns (all_from ReadsOnly xs (λ x there. (is_claim x there).read_only)) only
@@ -142,11 +142,11 @@ module _ (xs : List Claimed) (stable : Settles xs xs) (are : AllByRecursion (λ 
         (one_keeps groups (map g (xs ++ ns)) exclusive admitted (g r) (among_map g (xs ++ ns) r there) is_read) in
         let none : list_any (λ u. u.claim.write_half && is_satisfied u && conflicts u.claim r.claim) ns ≡ false
         = none_from _ ns (λ u in_ns. false_from _ (λ h.
-          let parts = and_parts (u.claim.write_half && is_satisfied u) (conflicts u.claim r.claim) h in
-          let first = and_parts u.claim.write_half (is_satisfied u) parts.0 in
-          contrary (keeps_out r.claim (g u))
-          (keeps r.claim u (and_from (u.claim.write_half && is_active u) (conflicts u.claim r.claim) (and_from u.claim.write_half (is_active u) first.0 (active_of_satisfied u.status first.1)) parts.1))
-          (pairs_across _ (map g ns) (map g xs) (g v.0) (g u) pairs (among_map g xs v.0 v.1) (among_map g ns u in_ns) (keeps r.claim v.0 v.2)))) in
+        let parts = and_parts (u.claim.write_half && is_satisfied u) (conflicts u.claim r.claim) h in
+        let first = and_parts u.claim.write_half (is_satisfied u) parts.0 in
+        contrary (keeps_out r.claim (g u))
+        (keeps r.claim u (and_from (u.claim.write_half && is_active u) (conflicts u.claim r.claim) (and_from u.claim.write_half (is_active u) first.0 (active_of_satisfied u.status first.1)) parts.1))
+        (pairs_across _ (map g ns) (map g xs) (g v.0) (g u) pairs (among_map g xs v.0 v.1) (among_map g ns u in_ns) (keeps r.claim v.0 v.2)))) in
         list_any-append _ xs ns ∙ ap (λ b. is_kept xs r.claim || b) none ∙ or_none (is_kept xs r.claim)
       where
         or_none : (b : Bool) → (b || false) ≡ b
@@ -157,11 +157,11 @@ module _ (xs : List Claimed) (stable : Settles xs xs) (are : AllByRecursion (λ 
     third_stays is =
         map-append (third_pass busy) xs ns
         ∙ ap (λ ys. ys ++ map (third_pass busy) ns) (map_same (third_pass busy) xs (all_from (λ x. third_pass busy x ≡ x) xs (λ x there.
-          ap (with_status x) (third_left x.claim.write_half (meets busy x.claim.reads) x.status (λ r unsat.
-            let at = by_rule x there in
-            let out : is_kept_out xs x.claim ≡ true = must_be (is_satisfied x) (is_kept_out xs x.claim) (at.reads r) unsat in
-            ap (λ s. meets s x.claim.reads) is ∙ kept_is (xs ++ ns) x.claim ((is_claim x there).read_only r) ∙ kept_alike x (among_front xs ns x there) r out
-            ∙ ap (λ b. b || is_kept xs x.claim) (sym unsat) ∙ sym (at.kept_reads r))))))
+        ap (with_status x) (third_left x.claim.write_half (meets busy x.claim.reads) x.status (λ r unsat.
+        let at = by_rule x there in
+        let out : is_kept_out xs x.claim ≡ true = must_be (is_satisfied x) (is_kept_out xs x.claim) (at.reads r) unsat in
+        ap (λ s. meets s x.claim.reads) is ∙ kept_is (xs ++ ns) x.claim ((is_claim x there).read_only r) ∙ kept_alike x (among_front xs ns x there) r out
+        ∙ ap (λ b. b || is_kept xs x.claim) (sym unsat) ∙ sym (at.kept_reads r))))))
       where
         must_be : (s out : Bool) → s ≡ (s || not out) → s ≡ false → out ≡ true
         must_be s true h unsat = refl

@@ -102,7 +102,7 @@ module _ (xs : List Claimed) (x : Claimed) (well : AreWellFormed (xs ++ x ∷ []
   clear_same s =
       list_all-append (λ v. not (is_earlier_write x.claim v.claim && share_place v.claim x.claim) || (is_satisfied v && not (meets v.claim.writes s))) xs (x ∷ [])
       ∙ ap (λ l. list_all (λ v. not (is_earlier_write x.claim v.claim && share_place v.claim x.claim) || (is_satisfied v && not (meets v.claim.writes s))) xs
-        && ((not ((x.claim.write_half && l) && share_place x.claim x.claim) || (is_satisfied x && not (meets x.claim.writes s))) && true)) (not_below_self x.claim.stamp)
+      && ((not ((x.claim.write_half && l) && share_place x.claim x.claim) || (is_satisfied x && not (meets x.claim.writes s))) && true)) (not_below_self x.claim.stamp)
       ∙ own x.claim.write_half (share_place x.claim x.claim) (is_satisfied x && not (meets x.claim.writes s)) _
     where
       own : (w p q all : Bool) → (all && ((not ((w && false) && p) || q) && true)) ≡ all
@@ -132,17 +132,17 @@ module _ (xs : List Claimed) (x : Claimed) (well : AreWellFormed (xs ++ x ∷ []
   held_up_is =
       (λ i. (kept_meets xs x.claim.reads i || kept_meets xs x.claim.writes i) || read_meets xs x.claim.writes i)
       ∙ ap (λ b. b || list_any (λ v. is_satisfied v && meets v.claim.reads x.claim.writes) xs)
-        (any_or (λ v. (v.claim.write_half && is_satisfied v) && meets v.claim.writes x.claim.reads) (λ v. (v.claim.write_half && is_satisfied v) && meets v.claim.writes x.claim.writes) xs)
+      (any_or (λ v. (v.claim.write_half && is_satisfied v) && meets v.claim.writes x.claim.reads) (λ v. (v.claim.write_half && is_satisfied v) && meets v.claim.writes x.claim.writes) xs)
       ∙ any_or _ (λ v. is_satisfied v && meets v.claim.reads x.claim.writes) xs
       ∙ any_agree (λ v. Rises v x × IsClaim v.claim) _ _
-        (λ v h.
-          at v.claim.write_half (is_satisfied v) (nat_lt v.claim.stamp x.claim.stamp) (meets v.claim.writes x.claim.reads) (meets v.claim.writes x.claim.writes) (meets v.claim.reads x.claim.writes)
-          (λ w. lt-ltb v.claim.stamp x.claim.stamp (h.0.after_write w))
-          (λ r. ap (λ s. meets s x.claim.reads) (h.1.read_only r) ∙ meets_empty_left x.claim.reads)
-          (λ r. ap (λ s. meets s x.claim.writes) (h.1.read_only r) ∙ meets_empty_left x.claim.writes)
-          ∙ (λ i. is_satisfied v && (not v.claim.write_half || is_earlier_write x.claim v.claim)
-            && ((meets_symmetric v.claim.writes x.claim.reads i || meets_symmetric v.claim.writes x.claim.writes i) || (meets v.claim.reads x.claim.writes || meets v.claim.writes x.claim.writes))))
-        xs (all_both (λ v. Rises v x) (λ v. IsClaim v.claim) xs (rise_to xs [] x well.rising) (front xs (x ∷ []) well.claims))
+      (λ v h.
+      at v.claim.write_half (is_satisfied v) (nat_lt v.claim.stamp x.claim.stamp) (meets v.claim.writes x.claim.reads) (meets v.claim.writes x.claim.writes) (meets v.claim.reads x.claim.writes)
+      (λ w. lt-ltb v.claim.stamp x.claim.stamp (h.0.after_write w))
+      (λ r. ap (λ s. meets s x.claim.reads) (h.1.read_only r) ∙ meets_empty_left x.claim.reads)
+      (λ r. ap (λ s. meets s x.claim.writes) (h.1.read_only r) ∙ meets_empty_left x.claim.writes)
+      ∙ (λ i. is_satisfied v && (not v.claim.write_half || is_earlier_write x.claim v.claim)
+      && ((meets_symmetric v.claim.writes x.claim.reads i || meets_symmetric v.claim.writes x.claim.writes i) || (meets v.claim.reads x.claim.writes || meets v.claim.writes x.claim.writes))))
+      xs (all_both (λ v. Rises v x) (λ v. IsClaim v.claim) xs (rise_to xs [] x well.rising) (front xs (x ∷ []) well.claims))
     where
       last : (a b c : Bool) → ((a || b) || c) ≡ ((a || b) || (c || b))
       last true b c = refl

@@ -37,11 +37,27 @@ fn with_seen(all: Seen, x: &Claimed) -> Seen
     let reads = x.claim.reads;
     let writes = x.claim.writes;
     Seen {
-        active: if write & active { all.active.union(writes) } else { all.active },
-        kept: if write & satisfied { all.kept.union(writes) } else { all.kept },
+        active: if write & active {
+            all.active.union(writes)
+        } else {
+            all.active
+        },
+        kept: if write & satisfied {
+            all.kept.union(writes)
+        } else {
+            all.kept
+        },
         bars: with_bars(all.bars, x),
-        awaited: if !write & !satisfied { all.awaited.union(reads) } else { all.awaited },
-        read: if satisfied { all.read.union(reads) } else { all.read },
+        awaited: if !write & !satisfied {
+            all.awaited.union(reads)
+        } else {
+            all.awaited
+        },
+        read: if satisfied {
+            all.read.union(reads)
+        } else {
+            all.read
+        },
     }
 }
 
