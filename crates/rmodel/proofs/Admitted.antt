@@ -1,5 +1,5 @@
 -- Claims stay such as groups admit: those that an event brings are, and settling changes no claim.
-use Rattle.std.proofs.Common.{◌≡◌, ℕ, ◌==◌, true, false, not, ◌&&◌, ◌||◌, List, map, refl, sym, subst}
+use Rattle.std.proofs.Common.{◌≡◌, ℕ, ◌==◌, true, not, ◌&&◌, ◌||◌, List, map, refl, sym, subst}
 use Rattle.std.specs.List.{AllZip}
 use Rattle.rexpand.specs.Groups.{is_declared}
 use Rattle.std.proofs.lemmas.Bool.{true≢false}

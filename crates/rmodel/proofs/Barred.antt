@@ -1,24 +1,23 @@
 -- A write that has a place among the bars of earlier writes has no way.
-use Rattle.std.proofs.Common.{◌≡◌, ℕ, ◌+◌, ◌<◌, ◌≤◌, Bool, true, false, not, ◌&&◌, ◌||◌, cond, List, [], ◌∷◌, ◌++◌, map, length, get_or, take, drop, nat_lt, refl, sym, ap, subst, ◌∙◌, append_assoc, arith, add-one, true≢false}
-use Rattle.std.proofs.Math.ListN.{set}
+use Rattle.std.proofs.Common.{◌≡◌, ℕ, ◌+◌, ◌<◌, ◌≤◌, ◌==◌, Bool, true, false, not, ◌&&◌, ◌||◌, cond, List, [], ◌∷◌, ◌++◌, length, get_or, take, drop, nat_lt, refl, sym, ap, ◌∙◌, arith, add-one, true≢false}
 use Rattle.std.proofs.Math.Seq.{drop-cons}
+use Rattle.std.proofs.lemmas.Bool.{eqb-true}
 use Rattle.std.proofs.lemmas.Bool.Decides.{nat_tests}
-use Rattle.std.proofs.lemmas.List.{take_more_set, drop-set-lt, take-append-drop}
+use Rattle.std.proofs.lemmas.List.{take-append-drop}
 use Rattle.std.proofs.lemmas.List.Folds.{list_all-append}
-use Rattle.std.proofs.lemmas.List.Sums.{fold-append}
-use Rattle.std.specs.List.{fold, list_all, list_any, AllByRecursion}
-use Rattle.std.specs.FinSet.{empty}
+use Rattle.std.specs.List.{list_all, list_any, AllByRecursion}
+use Rattle.std.specs.FinSet.{empty, len, empty_of_len}
 use Rattle.rset.specs.Sets.{Set, meets}
-use Rattle.rset.proofs.SetLemmas.{meets_within_left}
+use Rattle.rset.proofs.SetLemmas.{meets_within_left, meets_empty_right}
 use Rattle.rclaim.specs.declared.claim.Claim.{Claim}
 use Rattle.rmodel.specs.declared.claimed.Claimed.{Claimed}
 use Rattle.rmodel.specs.Claims.{share_place, is_satisfied}
+use Rattle.rmodel.specs.NewClaim.{is_past}
 use Rattle.rmodel.specs.Rules.{is_earlier_write}
-use Rattle.rmodel.specs.Settling.{with_status, with_bars, bars_of, is_clear, has_way, read_near, read_status, settle_reads, written_by_active}
+use Rattle.rmodel.specs.Settling.{bars_of, is_clear, has_way, read_near}
 use Rattle.rmodel.specs.WellFormed.{EachPair, Rises, IsClaim, AreWellFormed}
-use Rattle.rmodel.proofs.ListFacts.{zip_same, zip_append, zip_map_right}
+use Rattle.rmodel.proofs.ListFacts.{all_weaker}
 use Rattle.rmodel.proofs.Settlement.{gathered}
-use Rattle.rmodel.proofs.Soundness.{SameClaim, same_claims_well_formed}
 
 both_of : (a b : Bool) → (a && b) ≡ true → (a ≡ true) × (b ≡ true)
 both_of true b h = (refl, h)
@@ -99,11 +98,6 @@ barred_in done rest x well h =
 pub between : (xs : List Claimed) (i : ℕ) (d : Claimed) → i < length xs → take i xs ++ (get_or xs i d ∷ drop (i + 1) xs) ≡ xs
 between xs i d h = ap (λ r. take i xs ++ r) (sym (drop-cons xs i d h ∙ ap (λ n. get_or xs i d ∷ drop n xs) (sym (add-one i)))) ∙ take-append-drop i xs
 
-pub barred : (xs : List Claimed) (i : ℕ) (d : Claimed) → i < length xs → AreWellFormed xs → meets (bars_of (take i xs)) (get_or xs i d).claim.places ≡ true → has_way xs (get_or xs i d).claim ≡ false
-barred xs i d h well m =
-    let whole = between xs i d h in
-    ap (λ all. has_way all (get_or xs i d).claim) (sym whole) ∙ barred_in (take i xs) (drop (i + 1) xs) (get_or xs i d) (subst AreWellFormed (sym whole) well) m
-
 -- ---- a write that has no place among the bars
 
 clear_by : (w l s : Bool) (writes places away : Set) → (w && meets (cond s writes places) away) ≡ false → (not ((w && l) && meets places away) || (s && not (meets writes away))) ≡ true
@@ -144,9 +138,28 @@ clear_behind : (rest : List Claimed) (c : Claimed) → AllByRecursion (Rises c) 
 clear_behind [] c rises = refl
 clear_behind (v ∷ rest) c rises = (λ i. clear_later v c rises.0.not_above i && clear_behind rest c rises.1 i)
 
-rise_from : (done rest : List Claimed) (x : Claimed) → EachPair Rises (done ++ x ∷ rest) → AllByRecursion (Rises x) rest
+pub rise_from : (done rest : List Claimed) (x : Claimed) → EachPair Rises (done ++ x ∷ rest) → AllByRecursion (Rises x) rest
 rise_from [] rest x h = h.0
 rise_from (v ∷ done) rest x h = rise_from done rest x h.1
+
+-- what is clear of the places of c is clear of nothing
+pub clear_of_none : (xs : List Claimed) (c : Claim) → is_clear xs c c.places ≡ true → is_clear xs c empty ≡ true
+unfolding is_clear
+clear_of_none xs c clear =
+    all_weaker _ _
+    (λ v h. passes (is_earlier_write c v.claim && share_place v.claim c) (is_satisfied v) (meets v.claim.writes c.places) (meets v.claim.writes empty) (meets_empty_right v.claim.writes) h) xs clear
+  where
+    passes : (e q m n : Bool) → n ≡ false → (not e || (q && not m)) ≡ true → (not e || (q && not n)) ≡ true
+    passes false q m n none h = refl
+    passes true true m n none h = ap not none
+    passes true false m n none h = absurd (true≢false (sym h))
+
+pub past_is : (xs : List Claimed) (c : Claim) (near : Set) → is_clear xs c c.places ≡ true → is_past xs c near ≡ is_clear xs c near
+past_is xs c near clear = at (len near == 0) refl
+  where
+    at : (b : Bool) → (len near == 0) ≡ b → (b || is_clear xs c near) ≡ is_clear xs c near
+    at true none = sym (ap (is_clear xs c) (empty_of_len near (eqb-true (len near) 0 none)) ∙ clear_of_none xs c clear)
+    at false some = refl
 
 pub clear_in : (done rest : List Claimed) (x : Claimed) → AreWellFormed (done ++ x ∷ rest) → meets (bars_of done) x.claim.places ≡ false → is_clear (done ++ x ∷ rest) x.claim x.claim.places ≡ true
 unfolding bars_of is_clear clear_at bars bars_with
@@ -155,32 +168,3 @@ clear_in done rest x well h =
     let self : x.claim.stamp ≤ x.claim.stamp = omega arith in
     list_all-append (clear_at x.claim x.claim.places) done (x ∷ rest)
     ∙ (λ i. clear_among done x none i && (clear_later x x self i && clear_behind rest x (rise_from done rest x well.rising) i))
-
-pub clear_unless_barred : (xs : List Claimed) (i : ℕ) (d : Claimed) → i < length xs → AreWellFormed xs → meets (bars_of (take i xs)) (get_or xs i d).claim.places ≡ false
-    → is_clear xs (get_or xs i d).claim (get_or xs i d).claim.places ≡ true
-clear_unless_barred xs i d h well m =
-    let whole = between xs i d h in
-    ap (λ all. is_clear all (get_or xs i d).claim (get_or xs i d).claim.places) (sym whole) ∙ clear_in (take i xs) (drop (i + 1) xs) (get_or xs i d) (subst AreWellFormed (sym whole) well) m
-
--- a claim with another status is the same claim
-pub well_set : (xs : List Claimed) (i : ℕ) (d y : Claimed) → i < length xs → y.claim ≡ (get_or xs i d).claim → AreWellFormed xs → AreWellFormed (set xs i y)
-well_set xs i d y h same well =
-    let less : i < i + 1 = omega arith in
-    let ys : (take i xs ++ y ∷ []) ++ drop (i + 1) xs ≡ set xs i y =
-    (λ k. sym (take_more_set xs i y h) k ++ sym (drop-set-lt (i + 1) xs i y less) k) ∙ take-append-drop (i + 1) (set xs i y) in
-    let zip = zip_append SameClaim (take i xs) (take i xs) (get_or xs i d ∷ drop (i + 1) xs) (y ∷ drop (i + 1) xs)
-    (zip_same SameClaim (λ x. refl) (take i xs)) (same, zip_same SameClaim (λ x. refl) (drop (i + 1) xs)) in
-    subst AreWellFormed (sym (append_assoc (take i xs) (y ∷ []) (drop (i + 1) xs)) ∙ ys)
-    (same_claims_well_formed (take i xs ++ (get_or xs i d ∷ drop (i + 1) xs)) (take i xs ++ (y ∷ drop (i + 1) xs)) (subst AreWellFormed (sym (between xs i d h)) well) zip)
-
--- the bars, with those of one more
-pub bars_more : (xs : List Claimed) (i : ℕ) (y : Claimed) → i < length xs → bars_of (take (i + 1) (set xs i y)) ≡ with_bars (bars_of (take i xs)) y
-unfolding bars_of
-bars_more xs i y h = ap (fold with_bars empty) (take_more_set xs i y h) ∙ fold-append with_bars empty (take i xs) (y ∷ [])
-
--- the first pass changes no claim
-pub well_reads : (xs : List Claimed) → AreWellFormed xs → AreWellFormed (settle_reads xs)
-unfolding settle_reads
-well_reads xs well =
-    same_claims_well_formed xs (map (λ x. with_status x (read_status (written_by_active xs) x)) xs) well
-    (zip_map_right (λ x. with_status x (read_status (written_by_active xs) x)) (λ x y. y ≡ x) SameClaim (λ x y e. ap (λ z. z.claim) e) xs xs (zip_same (λ x y. y ≡ x) (λ x. refl) xs))

@@ -1,16 +1,16 @@
 -- What was granted to a claim that is not satisfied stays free of satisfied claims.
-use Rattle.std.proofs.Common.{◌≡◌, Bool, true, false, not, ◌&&◌, ◌||◌, List, refl, sym, ap, subst, ◌∙◌, inl, inr}
-use Rattle.std.proofs.lemmas.Bool.{true≢false, or_cases, or_left, or_right, or_parts, and_parts, and_from}
-use Rattle.std.specs.List.{AllZip, AllByRecursion}
+use Rattle.std.proofs.Common.{◌≡◌, Bool, true, false, ◌&&◌, ◌||◌, List, refl, sym, ap, ◌∙◌, inl, inr}
+use Rattle.std.proofs.lemmas.Bool.{true≢false, or_cases, or_left, or_right, or_parts}
+use Rattle.std.specs.List.{AllByRecursion}
 use Rattle.std.specs.FinSet.{empty, union, intersection, is_subset, contains}
 use Rattle.rset.specs.Sets.{Set, meets}
 use Rattle.rset.proofs.SetLemmas.{same_members, contains_union, contains_intersection, meets_symmetric, meets_empty_right, meets_union_right, meets_within_right, intersection_within_left, intersection_within_right, empty_within}
 use Rattle.rclaim.specs.declared.claim.Claim.{Claim}
 use Rattle.rmodel.specs.declared.claimed.Claimed.{Claimed}
 use Rattle.rmodel.specs.Claims.{conflicts, conflicts_on, touches, share_place, is_active, is_satisfied, is_nested}
-use Rattle.rmodel.specs.Rules.{is_kept_out, may_enter, SettlesAt, Settles}
-use Rattle.rmodel.specs.WellFormed.{EachPair, IsClaim, AreWellFormed, Entered, Apart, IsFreeOf, AreFree, HasParts}
-use Rattle.rmodel.proofs.ListFacts.{Among, contrary, false_from, zip_all, pairs_both, pairs_of_zip}
+use Rattle.rmodel.specs.Rules.{Settles}
+use Rattle.rmodel.specs.WellFormed.{EachPair, AreWellFormed, Entered, Apart, IsFreeOf, AreFree, HasParts}
+use Rattle.rmodel.proofs.ListFacts.{contrary, false_from, zip_all, pairs_both, pairs_of_zip}
 use Rattle.rmodel.proofs.OneSettlement.{both_cases}
 use Rattle.rmodel.proofs.Soundness.{active_of_satisfied}
 use Rattle.rmodel.proofs.Keeping.{conflicts_symmetric, conflict_shares, Moves, Before, moves, before, entered_after, read_apart}

@@ -2,22 +2,22 @@
 use Rattle.std.proofs.Common.{◌≡◌, ℕ, ◌+◌, ◌<◌, ◌≤◌, Bool, true, false, nat_lt, ◌&&◌, ◌||◌, not, cond, List, [], ◌∷◌, ◌++◌, map, take, drop, length, get_or, append-nil, refl, sym, ap, subst, ◌∙◌, arith}
 use Rattle.std.proofs.Math.ListN.{set}
 use Rattle.std.proofs.lemmas.Bool.{or_parts, ltb-false}
-use Rattle.std.proofs.lemmas.List.{take_all, drop_all, take-append-drop, set-get_or, get_or_default}
+use Rattle.std.proofs.lemmas.List.{take_all, drop_all, take-append-drop, get_or_default}
 use Rattle.std.proofs.lemmas.List.Edits.{map_over_more}
-use Rattle.std.specs.List.{list_any, AllZip, AllByRecursion}
+use Rattle.std.specs.List.{AllZip, list_any}
 use Rattle.std.specs.FinSet.{empty, union, len, empty_of_len}
 use Rattle.rset.specs.Sets.{Set}
 use Rattle.rset.proofs.SetLemmas.{union_empty_right}
-use Rattle.rexpand.proofs.DeclaredLemmas.{some_members}
 use Rattle.rclaim.specs.declared.claim.Claim.{Claim}
 use Rattle.rmodel.specs.declared.claimed.Claimed.{Claimed}
 use Rattle.rmodel.specs.Claims.{conflicts_on, is_satisfied, is_active, satisfied_by}
 use Rattle.rmodel.specs.Changes.{SameClaim}
-use Rattle.rmodel.specs.Rules.{SettlesAt, Settles}
+use Rattle.rmodel.specs.Rules.{SettlesAt}
 use Rattle.rmodel.specs.Settling.{settled}
-use Rattle.rmodel.specs.Steps.{some_asks, is_kept_from, gets_asked, with_asked, given}
+use Rattle.rmodel.specs.Steps.{some_asks, is_kept_from, gets_asked, gets, with_asked, given}
 use Rattle.rmodel.specs.WellFormed.{AreWellFormed}
-use Rattle.rmodel.proofs.ListFacts.{contrary, false_from, any_zip, all_of_zip, zip_append, zip_same, zip_map_right, zip_weaker}
+use Rattle.rmodel.proofs.ListFacts.{contrary, false_from, any_zip, zip_append, zip_same, zip_map_right}
+use Rattle.rmodel.proofs.Soundness.{active_of_satisfied}
 use Rattle.rmodel.proofs.Settlement.{settles_settled}
 use Rattle.rmodel.proofs.Standing.{SameStanding, given_standing}
 
@@ -48,6 +48,28 @@ given_none xs none = each xs xs none
     each all (y ∷ ys) h = let parts = or_parts (nat_lt 0 (len y.asked)) (some_asks ys) h in (λ i. asks_nothing all y (no_members y.asked parts.0) i ∷ each all ys parts.1 i)
 
 -- what claims settle to asks for as much
+-- where nothing that is asked for comes to a claim, nothing is given
+pub given_unless : (xs : List Claimed) → list_any (gets xs) xs ≡ false → given xs ≡ xs
+unfolding given
+given_unless xs none = each xs xs none
+  where
+    stays : (all : List Claimed) (y : Claimed) → gets all y ≡ false → with_asked all y ≡ y
+    stays all y h = at (nat_lt 0 (len y.asked)) (is_active y) refl refl h
+      where
+        left : gets_asked all y ≡ false → with_asked all y ≡ y
+        left none = ap (λ g. cond g (record y { asked = empty; granted = union y.granted y.asked }) y) none
+
+        at : (a b : Bool) → nat_lt 0 (len y.asked) ≡ a → is_active y ≡ b → ((a && b) && gets_asked all y) ≡ false → with_asked all y ≡ y
+        at true true some active h = left h
+        at true false some waits h =
+            let unsat : is_satisfied y ≡ false = false_from (is_satisfied y) (λ sat. contrary (is_active y) (active_of_satisfied y.status sat) waits) in
+            left (λ i. unsat i || (waits i && not (is_kept_from all y.claim y.asked)))
+        at false b none active h = asks_nothing all y (no_members y.asked none)
+
+    each : (all ys : List Claimed) → list_any (gets all) ys ≡ false → map (with_asked all) ys ≡ ys
+    each all [] h = refl
+    each all (y ∷ ys) h = let parts = or_parts (gets all y) (list_any (gets all) ys) h in (λ i. stays all y parts.0 i ∷ each all ys parts.1 i)
+
 pub settled_asks : (xs : List Claimed) → AreWellFormed xs → some_asks (settled xs) ≡ some_asks xs
 settled_asks xs well = sym (any_zip (SettlesAt xs (settled xs)) _ _ (λ x y h. ap (λ s. nat_lt 0 (len s)) (sym h.asked)) xs (settled xs) (settles_settled xs well))
 

@@ -1,7 +1,6 @@
 -- An issue: its claims are settled behind those that were there, and what changes of them is told.
-use Rattle.std.proofs.Common.{◌≡◌, ◌≢◌, ℕ, Bool, true, false, not, ◌&&◌, ◌||◌, cond, List, [], ◌∷◌, ◌++◌, map, fold, inl, refl, sym, ap, subst, ◌∙◌, append_assoc, append-nil}
+use Rattle.std.proofs.Common.{◌≡◌, ℕ, Bool, true, false, not, ◌&&◌, ◌||◌, cond, List, [], ◌∷◌, ◌++◌, map, fold, inl, refl, sym, ap, subst, ◌∙◌, append_assoc, append-nil}
 use Rattle.std.proofs.lemmas.Bool.{true≢false}
-use Rattle.std.proofs.lemmas.Bool.{or_left}
 use Rattle.std.proofs.lemmas.List.Folds.{list_any-append}
 use Rattle.std.proofs.lemmas.List.Sums.{fold-append}
 use Rattle.std.specs.List.{AllZip, AllByRecursion}
@@ -10,28 +9,23 @@ use Rattle.std.specs.Option.{option_to_list}
 use Rattle.rset.specs.Sets.{Set, meets}
 use Rattle.rclaim.specs.Changes.{ChangeLists, no_changes}
 use Rattle.rclaim.specs.Requests.{RequestFields, FitsFirst}
-use Rattle.rclaim.specs.declared.changes.StatusChange.{StatusChange}
-use Rattle.rclaim.specs.declared.changes.GrantChange.{GrantChange}
 use Rattle.rclaim.specs.declared.claim.Status.{Status}
 use Rattle.rclaim.specs.declared.claim.Status.TheVariants.{Waiting, Entitled, Satisfied}
-use Rattle.rclaim.specs.declared.event.Event.{Event}
 use Rattle.rclaim.specs.declared.event.Event.TheVariants.{Issue}
 use Rattle.rclaim.specs.declared.request.Kind.{Kind}
 use Rattle.rclaim.specs.declared.request.Kind.TheVariants.{Read, Write, Mixed, Upgrade, Nested}
 use Rattle.rmodel.specs.declared.claimed.Claimed.{Claimed}
-use Rattle.rmodel.specs.declared.new_claim.Seen.{Seen}
 use Rattle.rmodel.specs.Changes.{status_change, grant_change, status_changes, grant_changes, with_change}
 use Rattle.rmodel.specs.Claims.{claims_by, claims_of, conflicts_on, is_satisfied, is_active, satisfied_by, active_by, waiting}
 use Rattle.rmodel.specs.NewClaim.{seen_of, new_read_status, new_write_status, new_status, new_claim, settled_behind, told_behind}
 use Rattle.rmodel.specs.Reached.{IsReached}
-use Rattle.rmodel.specs.Rules.{Settles}
-use Rattle.rmodel.specs.Settling.{with_status, written_by_active, written_by_satisfied, entered, entered_status, write_status, settle_reads, settle_rest, settle_kept, settled}
+use Rattle.rmodel.specs.Rules.{is_held_up, Settles}
+use Rattle.rmodel.specs.Settling.{with_status, has_way, written_by_active, written_by_satisfied, entered, entered_status, write_status, settle_rest, settle_kept, settled}
 use Rattle.rmodel.specs.State.{LockState}
 use Rattle.rmodel.specs.Steps.{Comes, changed, is_kept_from, with_asked, given}
 use Rattle.rmodel.specs.WellFormed.{IsClaim, AreWellFormed, AreExclusive, AreAdmittedBy}
 use Rattle.rmodel.proofs.Admitted.{admitted_changed, admitted_settled}
 use Rattle.rmodel.proofs.Alike.{SameSatisfied, may_enter_alike, is_held_up_alike, same_satisfied_alike}
-use Rattle.rmodel.proofs.AtRest.{read_is_left}
 use Rattle.rmodel.proofs.Barred.{front}
 use Rattle.rmodel.proofs.ChangeSteps.{no_change}
 use Rattle.rmodel.proofs.Giving.{asks_nothing}
@@ -43,6 +37,15 @@ use Rattle.rmodel.proofs.Reached.{entered_changed, apart_changed}
 use Rattle.rmodel.proofs.Settlement.{ReadsOnly, first_pass, third_pass, third_write, third_satisfied, kept_out_is, kept_is, has_way_is, settles_settled}
 use Rattle.rmodel.proofs.OneSettlement.{both_cases}
 use Rattle.rmodel.proofs.Soundness.{SameClaim, same_claims_well_formed, sound_changed}
+
+second_read : (w e h : Bool) (a : Status) → w ≡ false → cond (not w || satisfied_by a) a (entered_status (active_by a || e) h) ≡ a
+second_read true e h a is = absurd (true≢false is)
+second_read false e h a is = refl
+
+-- the second pass leaves each read as it is
+read_is_left : (xs : List Claimed) (x : Claimed) → x.claim.write_half ≡ false → write_status xs x ≡ x.status
+unfolding write_status
+read_is_left xs x r = second_read x.claim.write_half (has_way xs x.claim) (is_held_up xs x.claim) x.status r
 
 -- new claims stand behind settled ones, of a state that accepted events lead to
 record IsBehind (groups : List Set) (xs ns : List Claimed) : Type 0 where

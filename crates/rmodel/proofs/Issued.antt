@@ -1,9 +1,9 @@
 -- An issue leaves the claims that were there as they are: the new claims stand behind settled ones.
-use Rattle.std.proofs.Common.{◌≡◌, ℕ, Bool, true, false, not, ◌&&◌, ◌||◌, cond, nat_lt, List, [], ◌∷◌, ◌++◌, map, refl, sym, ap, subst, ◌∙◌, append_assoc, append-nil, inl, inr, arith}
-use Rattle.std.proofs.lemmas.Bool.{true≢false, or_left, or_right, or_parts, and_parts, and_from}
+use Rattle.std.proofs.Common.{◌≡◌, Bool, true, false, not, ◌&&◌, ◌||◌, cond, List, [], ◌∷◌, ◌++◌, map, refl, sym, ap, subst, ◌∙◌, append_assoc, append-nil, inl, inr}
+use Rattle.std.proofs.lemmas.Bool.{true≢false, or_left, and_parts, and_from}
 use Rattle.std.proofs.lemmas.List.{map-append}
 use Rattle.std.proofs.lemmas.List.Folds.{list_any-append, list_all-append}
-use Rattle.std.specs.List.{list_any, list_all, AllZip, AllByRecursion}
+use Rattle.std.specs.List.{list_any, AllByRecursion}
 use Rattle.std.specs.FinSet.{empty, union}
 use Rattle.rset.specs.Sets.{Set, meets}
 use Rattle.rclaim.specs.declared.claim.Claim.{Claim}
@@ -12,13 +12,12 @@ use Rattle.rclaim.specs.declared.claim.Status.TheVariants.{Waiting, Entitled, Sa
 use Rattle.rmodel.specs.declared.claimed.Claimed.{Claimed}
 use Rattle.rmodel.specs.Claims.{conflicts, conflicts_on, share_place, is_satisfied, is_active, satisfied_by, active_by}
 use Rattle.rmodel.specs.Laws.{keeps_out}
-use Rattle.rmodel.specs.Rules.{is_earlier_write, is_kept_out, has_read_between, makes_way, may_enter, is_held_up, is_kept, SettlesAt, Settles}
-use Rattle.rmodel.specs.Settling.{with_status, written_by_active, written_by_satisfied, read_status, has_way, entered_status, write_status, kept_status, settle_reads, settle_rest, settle_kept, settled}
+use Rattle.rmodel.specs.Rules.{is_earlier_write, is_kept_out, has_read_between, may_enter, is_held_up, is_kept, SettlesAt, Settles}
+use Rattle.rmodel.specs.Settling.{with_status, written_by_active, written_by_satisfied, has_way, entered_status, write_status, settle_reads, settle_rest}
 use Rattle.rmodel.specs.Steps.{is_kept_from, gets_asked, with_asked, given}
-use Rattle.rmodel.specs.WellFormed.{EachPair, IsClaim, AreWellFormed, AreExclusive, AreAdmittedBy}
-use Rattle.rmodel.proofs.AtRest.{map_same, all_weaker}
+use Rattle.rmodel.specs.WellFormed.{EachPair, IsClaim, AreExclusive, AreAdmittedBy}
 use Rattle.rmodel.proofs.Giving.{asks_nothing}
-use Rattle.rmodel.proofs.ListFacts.{Among, pairs_across, contrary, false_from, none_from, passing, all_at, all_from, all_append, all_of_itself}
+use Rattle.rmodel.proofs.ListFacts.{Among, pairs_across, contrary, false_from, none_from, passing, all_at, all_from, all_append, all_of_itself, map_same, all_weaker}
 use Rattle.rmodel.proofs.OneWrite.{one_keeps}
 use Rattle.rmodel.proofs.Settlement.{ReadsOnly, first_pass, third_pass, third_write, kept_out_is, kept_is, has_way_is}
 use Rattle.rmodel.proofs.Soundness.{active_of_satisfied}

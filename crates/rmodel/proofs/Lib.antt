@@ -2,13 +2,10 @@ pub mod ListFacts
 pub mod Alike
 pub mod OneSettlement
 pub mod Settlement
-pub mod SettlingSteps
 pub mod ChangeSteps
 pub mod NewClaims
 pub mod Soundness
 pub mod Barred
-pub mod AtRest
-pub mod WriteSteps
 pub mod ChangesTold
 pub mod PlainSteps
 pub mod Stable
@@ -19,7 +16,13 @@ pub mod Turns
 pub mod EarlyGrants
 pub mod Standing
 pub mod Giving
+pub mod Behind
 pub mod Reached
+pub mod Removed
+pub mod RemovedSteps
+pub mod Sweeping
+pub mod SweepSteps
+pub mod Own
 pub mod Issued
 pub mod NewSettled
 pub mod IssueSteps

@@ -53,6 +53,18 @@ module _ {X : Type 0} (p : X → Bool) where
       at true pass rest (inr later) = let found = rest later in (inr found.0, found.1)
       at false fail rest later = let found = rest later in (inr found.0, found.1)
 
+-- an element that passes is left
+pub in_filter : {X : Type 0} (p : X → Bool) (xs : List X) (x : X) → Among x xs → p x ≡ true → Among x (filter p xs)
+in_filter p [] x there pass = absurd there
+in_filter p (y ∷ ys) x (inl same) pass =
+    let here : p y ≡ true = ap p (sym same) ∙ pass in
+    subst (λ (b : Bool). Among x (cond b (y ∷ filter p ys) (filter p ys))) (sym here) (inl same)
+in_filter p (y ∷ ys) x (inr later) pass = at (p y) (in_filter p ys x later pass)
+  where
+    at : (b : Bool) → Among x (filter p ys) → Among x (cond b (y ∷ filter p ys) (filter p ys))
+    at true there = inr there
+    at false there = there
+
 -- all pass a test where none passes another that bars it
 pub all_of_none : {X : Type 0} (p q : X → Bool) → ((x : X) → p x ≡ false → q x ≡ true) → (xs : List X) → list_any p xs ≡ false → list_all q xs ≡ true
 all_of_none p q passes [] none = refl
@@ -288,3 +300,16 @@ pairs_across R ys (z ∷ xs) x y pairs (inr later) b = pairs_across R ys xs x y 
 pub among_behind : {X : Type 0} (xs ys : List X) (x : X) → Among x ys → Among x (xs ++ ys)
 among_behind [] ys x there = there
 among_behind (z ∷ xs) ys x there = inr (among_behind xs ys x there)
+
+-- ---- maps and tests
+
+pub map_same : {X : Type 0} (f : X → X) (xs : List X) → AllByRecursion (λ x. f x ≡ x) xs → map f xs ≡ xs
+map_same f [] same = refl
+map_same f (x ∷ xs) same = (λ i. same.0 i ∷ map_same f xs same.1 i)
+
+-- where each passes a test, each passes a weaker one
+pub all_weaker : {X : Type 0} (p q : X → Bool) → ((x : X) → p x ≡ true → q x ≡ true) → (xs : List X) → list_all p xs ≡ true → list_all q xs ≡ true
+all_weaker p q gives [] h = refl
+all_weaker p q gives (x ∷ xs) h =
+    let parts = and_parts (p x) (list_all p xs) h in
+    (λ i. gives x parts.0 i && all_weaker p q gives xs parts.1 i)

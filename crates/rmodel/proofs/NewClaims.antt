@@ -1,8 +1,8 @@
 -- The claims of a request, as an issue adds them.
-use Rattle.std.proofs.Common.{◌≡◌, ◌≢◌, ℕ, ◌+◌, ◌≤◌, Bool, true, false, not, cond, List, [], ◌∷◌, map, refl, sym, ap, ◌∙◌, arith}
+use Rattle.std.proofs.Common.{◌≡◌, ◌≢◌, ℕ, ◌+◌, Bool, true, false, not, cond, List, [], ◌∷◌, map, refl, sym, ap, ◌∙◌, arith}
 use Rattle.std.proofs.lemmas.Bool.{true≢false, and_parts}
 use Rattle.std.specs.List.{count_by, AllByRecursion}
-use Rattle.std.specs.FinSet.{empty, union, is_subset, len}
+use Rattle.std.specs.FinSet.{empty, union, is_subset}
 use Rattle.rset.specs.Sets.{Set}
 use Rattle.rset.proofs.SetLemmas.{within_empty, union_empty_left}
 use Rattle.rexpand.proofs.DeclaredLemmas.{filled_by_number}
@@ -14,7 +14,7 @@ use Rattle.rclaim.specs.declared.claim.Claim.{Claim}
 use Rattle.rclaim.specs.declared.claim.Status.TheVariants.{Waiting}
 use Rattle.rmodel.specs.declared.claimed.Claimed.{Claimed}
 use Rattle.rmodel.specs.Claims.{claim_of, claims_by, claims_of, is_nested, is_read_half, waiting}
-use Rattle.rmodel.specs.WellFormed.{EachPair, Rises, IsClaim, Distinct, AreHalves, HasParts}
+use Rattle.rmodel.specs.WellFormed.{EachPair, Rises, IsClaim, Distinct, HasParts}
 
 -- a claim that an issue adds
 pub record IsNew (stamp seat : ℕ) (x : Claimed) : Type 0 where

@@ -1,28 +1,30 @@
 -- What a new claim settles to behind settled ones is told by what is seen of those.
-use Rattle.std.proofs.Common.{◌≡◌, ℕ, Bool, true, false, not, ◌&&◌, ◌||◌, cond, nat_lt, List, [], ◌∷◌, ◌++◌, map, fold, refl, sym, ap, subst, ◌∙◌, arith}
-use Rattle.std.proofs.lemmas.Bool.{true≢false, or_parts, lt-ltb}
+use Rattle.std.proofs.Common.{◌≡◌, ℕ, Bool, true, false, not, ◌&&◌, ◌||◌, cond, nat_lt, List, [], ◌∷◌, ◌++◌, fold, refl, sym, ap, ◌∙◌, arith}
+use Rattle.std.proofs.lemmas.Bool.{lt-ltb}
 use Rattle.std.proofs.lemmas.Bool.Decides.{nat_tests}
 use Rattle.std.proofs.lemmas.List.Folds.{list_any-append, list_all-append}
 use Rattle.std.proofs.lemmas.List.Sums.{fold-append}
 use Rattle.std.specs.List.{list_any, list_all, AllByRecursion}
 use Rattle.std.specs.FinSet.{empty, union}
 use Rattle.rset.specs.Sets.{Set, meets}
-use Rattle.rset.proofs.SetLemmas.{meets_symmetric, meets_empty_left, meets_empty_right}
-use Rattle.rclaim.specs.declared.claim.Claim.{Claim}
-use Rattle.rclaim.specs.declared.claim.Status.{Status}
-use Rattle.rclaim.specs.declared.claim.Status.TheVariants.{Waiting, Entitled, Satisfied}
+use Rattle.rset.proofs.SetLemmas.{union_empty_right, meets_symmetric, meets_empty_left}
+use Rattle.rclaim.specs.declared.claim.Status.TheVariants.{Waiting}
 use Rattle.rmodel.specs.declared.claimed.Claimed.{Claimed}
-use Rattle.rmodel.specs.declared.new_claim.Seen.{Seen}
-use Rattle.rmodel.specs.Claims.{conflicts, conflicts_on, share_place, is_satisfied, is_active, satisfied_by, active_by}
-use Rattle.rmodel.specs.NewClaim.{no_seen, with_seen, seen_of, new_is_held_up, new_has_way, new_write_status}
+use Rattle.rmodel.specs.declared.seen.Seen.{Seen}
+use Rattle.rmodel.specs.Claims.{conflicts, share_place, is_satisfied, is_active, satisfied_by, active_by}
+use Rattle.rmodel.specs.NewClaim.{no_seen, with_seen, seen_of, is_past, new_is_held_up, new_write_status}
 use Rattle.rmodel.specs.Rules.{is_earlier_write, is_held_up}
 use Rattle.rmodel.specs.Settling.{with_bars, bars_of, written_by_active, written_by_satisfied, read_near, is_clear, has_way, entered_status, write_status}
 use Rattle.rmodel.specs.WellFormed.{Rises, IsClaim, AreWellFormed}
-use Rattle.rmodel.proofs.AtRest.{all_weaker}
-use Rattle.rmodel.proofs.Barred.{barred_in, clear_in, rise_to, front}
+use Rattle.rmodel.proofs.Barred.{barred_in, clear_in, past_is, rise_to, front}
 use Rattle.rmodel.proofs.Settlement.{gathered, any_agree}
 
 -- ---- what is seen
+
+-- a set that is added in one case alone
+pub union_where : (all set : Set) (b : Bool) → union all (cond b set empty) ≡ cond b (union all set) all
+union_where all set true = refl
+union_where all set false = union_empty_right all
 
 -- each set that is seen is gathered by itself
 seen_from : (all : Seen) (xs : List Claimed)
@@ -30,8 +32,6 @@ seen_from : (all : Seen) (xs : List Claimed)
       active = fold (λ a x. cond (x.claim.write_half && is_active x) (union a x.claim.writes) a) all.active xs;
       kept = fold (λ a x. cond (x.claim.write_half && is_satisfied x) (union a x.claim.writes) a) all.kept xs;
       bars = fold with_bars all.bars xs;
-      awaited = fold (λ a x. cond (not x.claim.write_half && not (is_satisfied x)) (union a x.claim.reads) a) all.awaited xs;
-      read = fold (λ a x. cond (is_satisfied x) (union a x.claim.reads) a) all.read xs;
     }
 seen_from all [] = refl
 seen_from all (x ∷ xs) = seen_from (with_seen all x) xs
@@ -45,21 +45,13 @@ module _ (xs : List Claimed) where
   unfolding seen_of written_by_satisfied
   kept_seen = ap (λ (s : Seen). s.kept) (seen_from no_seen xs)
 
-  bars_seen : (seen_of xs).bars ≡ bars_of xs
+  pub bars_seen : (seen_of xs).bars ≡ bars_of xs
   unfolding seen_of bars_of
   bars_seen = ap (λ (s : Seen). s.bars) (seen_from no_seen xs)
-
-  awaited_seen : (s : Set) → meets (seen_of xs).awaited s ≡ list_any (λ x. (not x.claim.write_half && not (is_satisfied x)) && meets x.claim.reads s) xs
-  unfolding seen_of
-  awaited_seen s = ap (λ (seen : Seen). meets seen.awaited s) (seen_from no_seen xs) ∙ gathered (λ x. not x.claim.write_half && not (is_satisfied x)) (λ x. x.claim.reads) s xs
 
   kept_meets : (s : Set) → meets (seen_of xs).kept s ≡ list_any (λ x. (x.claim.write_half && is_satisfied x) && meets x.claim.writes s) xs
   unfolding written_by_satisfied
   kept_meets s = ap (λ k. meets k s) kept_seen ∙ gathered (λ x. x.claim.write_half && is_satisfied x) (λ x. x.claim.writes) s xs
-
-  read_meets : (s : Set) → meets (seen_of xs).read s ≡ list_any (λ x. is_satisfied x && meets x.claim.reads s) xs
-  unfolding seen_of
-  read_meets s = ap (λ (seen : Seen). meets seen.read s) (seen_from no_seen xs) ∙ gathered is_satisfied (λ x. x.claim.reads) s xs
 
 -- ---- a new write
 
@@ -76,22 +68,6 @@ any_or p q (x ∷ xs) = swap (p x) (list_any p xs) (q x) (list_any q xs) ∙ ap 
 all_both : (P Q : Claimed → Type 0) (xs : List Claimed) → AllByRecursion P xs → AllByRecursion Q xs → AllByRecursion (λ x. P x × Q x) xs
 all_both P Q [] a b = tt
 all_both P Q (x ∷ xs) a b = ((a.0, b.0), all_both P Q xs a.1 b.1)
-
--- where no unsatisfied read touches these resources, none is near
-none_is_near : (all s : Set) (xs : List Claimed) → list_any (λ x. (not x.claim.write_half && not (is_satisfied x)) && meets x.claim.reads s) xs ≡ false
-    → fold (λ all x. cond (not x.claim.write_half && not (is_satisfied x) && meets x.claim.reads s) (union all x.claim.reads) all) all xs ≡ all
-none_is_near all s [] none = refl
-none_is_near all s (x ∷ xs) none =
-    let parts = or_parts _ (list_any (λ x. (not x.claim.write_half && not (is_satisfied x)) && meets x.claim.reads s) xs) none in
-    ap (λ a. fold (λ all x. cond (not x.claim.write_half && not (is_satisfied x) && meets x.claim.reads s) (union all x.claim.reads) all) a xs)
-    (at x.claim.write_half (is_satisfied x) (meets x.claim.reads s) parts.0)
-    ∙ none_is_near all s xs parts.1
-  where
-    at : (w q m : Bool) → ((not w && not q) && m) ≡ false → cond (not w && not q && m) (union all x.claim.reads) all ≡ all
-    at true q m h = refl
-    at false true m h = refl
-    at false false true h = absurd (true≢false h)
-    at false false false h = refl
 
 module _ (xs : List Claimed) (x : Claimed) (well : AreWellFormed (xs ++ x ∷ [])) (waits : x.status ≡ Waiting) (writes : x.claim.write_half ≡ true) where
   not_below_self : (m : ℕ) → nat_lt m m ≡ false
@@ -128,9 +104,9 @@ module _ (xs : List Claimed) (x : Claimed) (well : AreWellFormed (xs ++ x ∷ []
       or_none true = refl
       or_none false = refl
 
-  held_up_is : new_is_held_up (seen_of xs) x ≡ is_held_up xs x.claim
+  held_up_is : new_is_held_up xs (seen_of xs) x ≡ is_held_up xs x.claim
   held_up_is =
-      (λ i. (kept_meets xs x.claim.reads i || kept_meets xs x.claim.writes i) || read_meets xs x.claim.writes i)
+      (λ i. (kept_meets xs x.claim.reads i || kept_meets xs x.claim.writes i) || list_any (λ v. is_satisfied v && meets v.claim.reads x.claim.writes) xs)
       ∙ ap (λ b. b || list_any (λ v. is_satisfied v && meets v.claim.reads x.claim.writes) xs)
       (any_or (λ v. (v.claim.write_half && is_satisfied v) && meets v.claim.writes x.claim.reads) (λ v. (v.claim.write_half && is_satisfied v) && meets v.claim.writes x.claim.writes) xs)
       ∙ any_or _ (λ v. is_satisfied v && meets v.claim.reads x.claim.writes) xs
@@ -157,35 +133,15 @@ module _ (xs : List Claimed) (x : Claimed) (well : AreWellFormed (xs ++ x ∷ []
       at false false l a b c less none none' = refl
       at false true l a b c less none none' = last false false c ∙ (λ i. (sym (none refl) i || sym (none' refl) i) || (c || sym (none' refl) i))
 
-  passes : (e q m n : Bool) → n ≡ false → (not e || (q && not m)) ≡ true → (not e || (q && not n)) ≡ true
-  passes false q m n none h = refl
-  passes true true m n none h = ap not none
-  passes true false m n none h = absurd (true≢false (sym h))
-
-  clear_of_none : is_clear xs x.claim x.claim.places ≡ true → is_clear xs x.claim empty ≡ true
-  unfolding is_clear
-  clear_of_none clear =
-      all_weaker _ _
-      (λ v h. passes (is_earlier_write x.claim v.claim && share_place v.claim x.claim) (is_satisfied v) (meets v.claim.writes x.claim.places) (meets v.claim.writes empty) (meets_empty_right v.claim.writes) h) xs clear
-
-  no_near : meets (seen_of xs).awaited x.claim.places ≡ false → read_near xs x.claim.places ≡ empty
-  unfolding read_near
-  no_near none = none_is_near empty x.claim.places xs (sym (awaited_seen xs x.claim.places) ∙ none)
-
   -- where no earlier write bars it, only reads can stand between
-  way_is : meets (bars_of xs) x.claim.places ≡ false → new_has_way xs (seen_of xs) x ≡ has_way (xs ++ x ∷ []) x.claim
+  way_is : meets (bars_of xs) x.claim.places ≡ false → is_past xs x.claim (read_near xs x.claim.places) ≡ has_way (xs ++ x ∷ []) x.claim
   unfolding has_way
   way_is free =
       let clear : is_clear (xs ++ x ∷ []) x.claim x.claim.places ≡ true = clear_in xs [] x well free in
-      at (meets (seen_of xs).awaited x.claim.places) refl clear
+      past_is xs x.claim (read_near xs x.claim.places) (sym (clear_same x.claim.places) ∙ clear)
       ∙ sym (clear_same (read_near xs x.claim.places))
       ∙ ap (is_clear (xs ++ x ∷ []) x.claim) (sym (near_same x.claim.places))
       ∙ ap (λ b. b && is_clear (xs ++ x ∷ []) x.claim (read_near (xs ++ x ∷ []) x.claim.places)) (sym clear)
-    where
-      at : (b : Bool) → meets (seen_of xs).awaited x.claim.places ≡ b → is_clear (xs ++ x ∷ []) x.claim x.claim.places ≡ true
-          → (not b || is_clear xs x.claim (read_near xs x.claim.places)) ≡ is_clear xs x.claim (read_near xs x.claim.places)
-      at true is clear = refl
-      at false is clear = sym (ap (is_clear xs x.claim) (no_near is) ∙ clear_of_none (sym (clear_same x.claim.places) ∙ clear))
 
   pub new_write_is : write_status (xs ++ x ∷ []) x ≡ new_write_status xs (seen_of xs) x
   unfolding write_status
@@ -196,6 +152,6 @@ module _ (xs : List Claimed) (x : Claimed) (well : AreWellFormed (xs ++ x ∷ []
       ∙ at (meets (seen_of xs).bars x.claim.places) refl
     where
       at : (b : Bool) → meets (seen_of xs).bars x.claim.places ≡ b
-          → entered_status (has_way (xs ++ x ∷ []) x.claim) (new_is_held_up (seen_of xs) x) ≡ cond b Waiting (entered_status (new_has_way xs (seen_of xs) x) (new_is_held_up (seen_of xs) x))
-      at true is = ap (λ e. entered_status e (new_is_held_up (seen_of xs) x)) (barred_in xs [] x well (ap (λ s. meets s x.claim.places) (sym (bars_seen xs)) ∙ is))
-      at false is = ap (λ e. entered_status e (new_is_held_up (seen_of xs) x)) (sym (way_is (ap (λ s. meets s x.claim.places) (sym (bars_seen xs)) ∙ is)))
+          → entered_status (has_way (xs ++ x ∷ []) x.claim) (new_is_held_up xs (seen_of xs) x) ≡ cond b Waiting (entered_status (is_past xs x.claim (read_near xs x.claim.places)) (new_is_held_up xs (seen_of xs) x))
+      at true is = ap (λ e. entered_status e (new_is_held_up xs (seen_of xs) x)) (barred_in xs [] x well (ap (λ s. meets s x.claim.places) (sym (bars_seen xs)) ∙ is))
+      at false is = ap (λ e. entered_status e (new_is_held_up xs (seen_of xs) x)) (sym (way_is (ap (λ s. meets s x.claim.places) (sym (bars_seen xs)) ∙ is)))

@@ -12,7 +12,7 @@ use Rattle.rmodel.proofs.ListFacts.{zip_join, zip_weaker, zip_equal, zip_each, z
 use Rattle.rmodel.proofs.Alike.{counts, counts_more, Alike, SameSatisfied, may_enter_alike, is_held_up_alike, same_satisfied_alike, is_kept_same}
 
 -- a status is told by whether it is satisfied and whether it is active
-status_told : (a b : Status) → satisfied_by a ≡ satisfied_by b → active_by a ≡ active_by b → a ≡ b
+pub status_told : (a b : Status) → satisfied_by a ≡ satisfied_by b → active_by a ≡ active_by b → a ≡ b
 status_told Waiting Waiting s t = refl
 status_told Waiting Entitled s t = absurd (true≢false (sym t))
 status_told Waiting Satisfied s t = absurd (true≢false (sym t))

@@ -4,7 +4,6 @@ use Rattle.std.proofs.lemmas.Bool.{true≢false, eqb-true, or_cases}
 use Rattle.std.proofs.lemmas.List.{length-map}
 use Rattle.std.proofs.lemmas.Map.Steps.{length-le_from_distinct_below}
 use Rattle.std.specs.List.{AllZip, AllByRecursion, IsDistinct, list_any}
-use Rattle.std.specs.FinSet.{empty, union}
 use Rattle.rset.specs.Sets.{Set}
 use Rattle.rclaim.specs.Requests.{RequestFields}
 use Rattle.rclaim.specs.declared.request.Kind.{Kind}
@@ -26,10 +25,10 @@ use Rattle.rmodel.specs.Plain.{standing_of, state_of, IsKept, IsTaken}
 use Rattle.rmodel.specs.Rules.{Settles}
 use Rattle.rmodel.specs.Settling.{settled}
 use Rattle.rmodel.specs.State.{LockState}
-use Rattle.rmodel.specs.Steps.{Fits, Accepts, Comes, Steps, changed, next, asking, gets_asked, with_asked, given}
+use Rattle.rmodel.specs.Steps.{Fits, Accepts, Comes, Steps, changed, next, asking}
 use Rattle.rmodel.specs.WellFormed.{EachPair, Distinct, IsSound}
 use Rattle.rmodel.proofs.ChangesTold.{changes_told}
-use Rattle.rmodel.proofs.ListFacts.{contrary, false_from, all_at, all_map, zip_map_right}
+use Rattle.rmodel.proofs.ListFacts.{contrary, false_from, all_at, all_map}
 use Rattle.rmodel.proofs.Settlement.{settles_settled}
 use Rattle.rmodel.proofs.Soundness.{SameClaim, same_claims, sound_changed, read_of_half}
 

@@ -1,6 +1,6 @@
 -- What holds of each lock state that a list of accepted events leads to.
-use Rattle.std.proofs.Common.{◌≡◌, ℕ, ◌==◌, Bool, true, false, not, ◌&&◌, ◌||◌, cond, List, [], ◌∷◌, ◌++◌, map, refl, sym, ap, subst, ◌∙◌, inl, inr}
-use Rattle.std.proofs.lemmas.Bool.{true≢false, or_left, or_parts, and_parts}
+use Rattle.std.proofs.Common.{◌≡◌, ℕ, ◌==◌, Bool, true, false, not, ◌&&◌, ◌||◌, cond, List, [], ◌∷◌, map, refl, sym, ap, subst, ◌∙◌}
+use Rattle.std.proofs.lemmas.Bool.{or_parts, and_parts}
 use Rattle.std.specs.List.{AllZip, AllByRecursion}
 use Rattle.std.specs.FinSet.{empty, union}
 use Rattle.rset.specs.Sets.{Set}
@@ -10,15 +10,16 @@ use Rattle.rclaim.specs.declared.event.Event.{Event}
 use Rattle.rclaim.specs.declared.event.Event.TheVariants.{Issue, Finish, Rise, Ask}
 use Rattle.rmodel.specs.declared.claimed.Claimed.{Claimed}
 use Rattle.rmodel.specs.Claims.{claims_of, conflicts_on, is_satisfied, is_active, satisfied_by, active_by, waiting}
-use Rattle.rmodel.specs.Rules.{Settles}
 use Rattle.rmodel.specs.Settling.{settled}
 use Rattle.rmodel.specs.State.{LockState, opening}
 use Rattle.rmodel.specs.Steps.{changed, next, after, asking, is_kept_from, gets_asked, with_asked, given, Comes, AreAccepted}
-pub use Rattle.rmodel.specs.Reached.{IsReached}
-use Rattle.rmodel.specs.WellFormed.{EachPair, Entered, Apart, AreAdmittedBy, AreExclusive, TakeTurns, IsFreeOf, AreFree}
+pub use Rattle.rmodel.specs.Reached.{IsReached, KeptBehind}
+use Rattle.rmodel.specs.Claims.{conflicts}
+use Rattle.rmodel.proofs.Behind.{behind_settled, behind_standing}
+use Rattle.rmodel.proofs.Keeping.{exclusive_settled}
+use Rattle.rmodel.specs.WellFormed.{EachPair, Entered, Apart, AreExclusive, TakeTurns, IsFreeOf, AreFree}
 use Rattle.rmodel.proofs.ListFacts.{Among, contrary, none_among, all_at, all_map, zip_among, zip_weaker, zip_map_right, zip_same, pairs_append_all, pairs_filter, pairs_from_all, pairs_of_zip}
 use Rattle.rmodel.proofs.NewClaims.{IsNew, new_claims}
-use Rattle.rmodel.proofs.OneSettlement.{both_cases}
 use Rattle.rmodel.proofs.Settlement.{settles_settled}
 use Rattle.rmodel.proofs.Stable.{stable_settled}
 use Rattle.rmodel.proofs.Admitted.{admitted_settled, admitted_changed, admitted_given}
@@ -27,7 +28,7 @@ use Rattle.rmodel.proofs.Turns.{turns_settled}
 use Rattle.rmodel.proofs.EarlyGrants.{free_settled, none_on_both, none_on_nothing}
 use Rattle.rmodel.proofs.Giving.{given_again}
 use Rattle.rmodel.proofs.Standing.{SameStanding, settles_standing, entered_standing, apart_standing, turns_standing, asking_standing, given_standing}
-use Rattle.rmodel.proofs.Soundness.{sound_changed, sound_settled, sound_next, sound_opening}
+use Rattle.rmodel.proofs.Soundness.{sound_changed, sound_next, sound_opening}
 
 -- ---- an event keeps them
 
@@ -68,6 +69,22 @@ turns_changed s (Issue seat r) comes pairs =
 turns_changed s (Finish seat) comes pairs = pairs_filter TakeTurns _ s.claims pairs
 turns_changed s (Rise seat) comes pairs = pairs_filter TakeTurns _ s.claims pairs
 turns_changed s (Ask seat part) comes pairs = turns_standing s.claims _ (asking_standing seat part s.claims) pairs
+
+behind_changed : (s : LockState) (e : Event) → Comes s e → EachPair KeptBehind s.claims → EachPair KeptBehind (changed s e).claims
+behind_changed s (Issue seat r) comes pairs =
+    pairs_issued KeptBehind s seat r
+    (record {
+      with_new = λ stamp at x n new read unsat.
+          ap (λ a. n.claim.write_half && a && conflicts n.claim x.claim) (waits_inactive n stamp at new) ∙ never n.claim.write_half (conflicts n.claim x.claim);
+    })
+    comes pairs
+  where
+    never : (w c : Bool) → (w && false && c) ≡ false
+    never true c = refl
+    never false c = refl
+behind_changed s (Finish seat) comes pairs = pairs_filter KeptBehind _ s.claims pairs
+behind_changed s (Rise seat) comes pairs = pairs_filter KeptBehind _ s.claims pairs
+behind_changed s (Ask seat part) comes pairs = behind_standing s.claims _ (asking_standing seat part s.claims) pairs
 
 -- one claim, as far and as much granted
 record SameGrants (x y : Claimed) : Type 0 where
@@ -153,6 +170,19 @@ module _ (xs : List Claimed) where
 
 -- ---- a step
 
+-- once an event is settled, what keeps a read waiting comes before it
+pub behind_next : (s : LockState) (e : Event) → IsReached s → Comes s e → EachPair KeptBehind (settled (changed s e).claims)
+behind_next s e reached comes =
+    let mid = sound_changed s e reached.sound comes in
+    let xs = (changed s e).claims in
+    let t = settled xs in
+    let settles = settles_settled xs mid.well_formed in
+    let groups = (changed s e).groups.groups in
+    let exclusive : AreExclusive xs =
+    record { well_formed = mid.well_formed; entered = entered_changed s e comes reached.entered; apart = apart_changed s e comes reached.apart } in
+    behind_settled groups xs t settles (exclusive_settled xs t exclusive settles)
+    (admitted_settled groups xs t (admitted_changed s e comes.fits reached.admitted) settles) mid.one_each (behind_changed s e comes reached.kept_behind)
+
 pub reached_next : (s : LockState) (e : Event) → IsReached s → Comes s e → IsReached (next s e)
 reached_next s e reached comes =
     let mid = sound_changed s e reached.sound comes in
@@ -174,6 +204,7 @@ reached_next s e reached comes =
       admitted = admitted_given groups t (admitted_settled groups xs t admitted settles);
       turns = turns_standing t (given t) same (turns_settled groups xs t settles exclusive admitted mid.one_each (turns_changed s e comes reached.turns));
       free = free_given t (free_settled xs t settles mid.well_formed entered apart mid.parts (free_changed s e comes reached.free));
+      kept_behind = behind_standing t (given t) same (behind_next s e reached comes);
       answered = answered_given t;
     }
 
@@ -183,4 +214,4 @@ reached_after s (e ∷ es) reached accepted = reached_after (next s e) es (reach
 
 pub reached_opening : (groups : ReadGroups) (seats cap : ℕ) → IsReached (opening groups seats cap)
 unfolding given
-reached_opening groups seats cap = record { sound = sound_opening groups seats cap; entered = tt; apart = tt; stable = tt; at_rest = refl; admitted = tt; turns = tt; free = tt; answered = tt }
+reached_opening groups seats cap = record { sound = sound_opening groups seats cap; entered = tt; apart = tt; stable = tt; at_rest = refl; admitted = tt; turns = tt; free = tt; kept_behind = tt; answered = tt }

@@ -65,7 +65,7 @@ all_and p q r same (x ∷ xs) = swap (p x) (q x) (list_all p xs) (list_all q xs)
     swap false b c d = refl
 
 -- a claim that writes nothing conflicts with what writes what it reads
-conflicts_with_read : (v c : Claim) → c.writes ≡ empty → conflicts v c ≡ meets v.writes c.reads
+pub conflicts_with_read : (v c : Claim) → c.writes ≡ empty → conflicts v c ≡ meets v.writes c.reads
 conflicts_with_read v c none =
     ap (λ w. (meets c.reads v.writes || meets w v.writes) || (meets v.reads w || meets v.writes w)) none
     ∙ (λ i. (meets_symmetric c.reads v.writes i || meets_empty_left v.writes i) || (meets_empty_right v.reads i || meets_empty_right v.writes i))

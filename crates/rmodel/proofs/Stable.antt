@@ -4,6 +4,7 @@ use Rattle.std.proofs.lemmas.Bool.{or_left, and_parts, and_from}
 use Rattle.rclaim.specs.declared.claim.Claim.{Claim}
 use Rattle.rmodel.specs.declared.claimed.Claimed.{Claimed}
 use Rattle.rmodel.specs.Claims.{conflicts, is_active}
+use Rattle.rmodel.specs.Laws.{keeps_out}
 use Rattle.rmodel.specs.Rules.{is_kept_out, may_enter, SettlesAt, Settles}
 use Rattle.rmodel.proofs.ListFacts.{second_itself, some_second}
 
@@ -22,18 +23,19 @@ kept_out_again true is out still h stays = h ∙ ap (λ b. b || not still) (sym 
 kept_out_again false is false still h stays = h ∙ ap (λ b. b || not still) (sym h)
 kept_out_again false is true still h stays = h ∙ ap not (sym (stays refl)) ∙ ap (λ b. b || not still) (sym h)
 
--- what keeps a claim out before the settlement keeps it out after it
+-- a write that keeps a claim out before the settlement keeps it out after it
+pub keeps_on : (s t : List Claimed) (c : Claim) (x y : Claimed) → SettlesAt s t x y → keeps_out c x ≡ true → keeps_out c y ≡ true
+keeps_on s t c x y at h =
+    let parts = and_parts (x.claim.write_half && is_active x) (conflicts x.claim c) h in
+    let first = and_parts x.claim.write_half (is_active x) parts.0 in
+    let write : y.claim.write_half ≡ true = ap (λ k. k.write_half) at.same ∙ first.0 in
+    and_from (y.claim.write_half && is_active y) (conflicts y.claim c)
+    (and_from y.claim.write_half (is_active y) write (at.entitlement write ∙ or_left (is_active x) (may_enter t y.claim) first.1))
+    (ap (λ k. conflicts k c) at.same ∙ parts.1)
+
+-- so what is kept out stays kept out
 pub still_kept_out : (s t : List Claimed) → Settles s t → (c : Claim) → is_kept_out s c ≡ true → is_kept_out t c ≡ true
-still_kept_out s t settles c = some_second (SettlesAt s t) _ _ stays s t settles
-  where
-    stays : (x y : Claimed) → SettlesAt s t x y → (x.claim.write_half && is_active x && conflicts x.claim c) ≡ true → (y.claim.write_half && is_active y && conflicts y.claim c) ≡ true
-    stays x y at h =
-        let parts = and_parts (x.claim.write_half && is_active x) (conflicts x.claim c) h in
-        let first = and_parts x.claim.write_half (is_active x) parts.0 in
-        let write : y.claim.write_half ≡ true = ap (λ k. k.write_half) at.same ∙ first.0 in
-        and_from (y.claim.write_half && is_active y) (conflicts y.claim c)
-        (and_from y.claim.write_half (is_active y) write (at.entitlement write ∙ or_left (is_active x) (may_enter t y.claim) first.1))
-        (ap (λ k. conflicts k c) at.same ∙ parts.1)
+still_kept_out s t settles c = some_second (SettlesAt s t) _ _ (keeps_on s t c) s t settles
 
 pub stable_settled : (s t : List Claimed) → Settles s t → Settles t t
 stable_settled s t settles = second_itself (SettlesAt s t) (SettlesAt t t)

@@ -1,10 +1,9 @@
 -- Claims whose standing is the same, whatever they ask for and were granted: the rules see no difference.
 use Rattle.std.proofs.Common.{◌≡◌, ℕ, ◌==◌, Bool, true, false, not, ◌&&◌, ◌||◌, cond, List, map, refl, sym, ap, subst, ◌∙◌}
-use Rattle.std.specs.List.{AllZip, AllByRecursion}
+use Rattle.std.specs.List.{AllZip}
 use Rattle.std.specs.FinSet.{empty, union}
 use Rattle.rset.specs.Sets.{Set, meets}
 use Rattle.rclaim.specs.declared.claim.Claim.{Claim}
-use Rattle.rclaim.specs.declared.claim.Status.{Status}
 use Rattle.rmodel.specs.declared.claimed.Claimed.{Claimed}
 use Rattle.rmodel.specs.Claims.{conflicts, share_place, is_active, is_satisfied, active_by, satisfied_by}
 use Rattle.rmodel.specs.Rules.{is_kept_out, may_enter, is_held_up, is_kept, SettlesAt, Settles}

@@ -1,7 +1,7 @@
 -- The halves of an upgrade take turns.
-use Rattle.std.proofs.Common.{◌≡◌, Bool, true, false, not, ◌&&◌, ◌||◌, List, refl, sym, ap, ◌∙◌, inl, inr}
-use Rattle.std.proofs.lemmas.Bool.{true≢false, or_cases, or_left, or_right, or_parts, and_parts, and_from}
-use Rattle.std.specs.List.{AllZip, AllByRecursion}
+use Rattle.std.proofs.Common.{◌≡◌, true, false, not, ◌&&◌, List, sym, ap, ◌∙◌, inl, inr}
+use Rattle.std.proofs.lemmas.Bool.{or_left, or_right, and_parts, and_from}
+use Rattle.std.specs.List.{AllZip}
 use Rattle.rset.specs.Sets.{Set, meets}
 use Rattle.rset.proofs.SetLemmas.{meets_itself}
 use Rattle.std.proofs.lemmas.Bool.{true_from_ne_false}

@@ -23,9 +23,9 @@ use Rattle.rmodel.specs.Rules.{is_kept_out, may_enter, is_held_up, is_kept, Sett
 use Rattle.rmodel.specs.Settling.{settled}
 use Rattle.rmodel.specs.State.{LockState, opening}
 use Rattle.rmodel.specs.Changes.{changes_between}
-use Rattle.rmodel.specs.Holds.{holds_of, is_nothing}
+use Rattle.rmodel.specs.Holds.{holds_of}
 use Rattle.rmodel.proofs.ListFacts.{false_from}
-use Rattle.rmodel.specs.Steps.{next, after, refusal, changed, given, some_asks, is_not_holding, Accepts, Comes, FitsIssue}
+use Rattle.rmodel.specs.Steps.{next, after, refusal, changed, given, some_asks, is_not_holding, Accepts, Comes}
 use Rattle.rmodel.specs.WellFormed.{IsClaim, AreExclusive, IsSound}
 use Rattle.rmodel.specs.Laws.{keeps_out, AreKeptOutByOne}
 use Rattle.rmodel.proofs.OneSettlement.{only_one}
@@ -33,7 +33,6 @@ use Rattle.rmodel.proofs.Settlement.{settles_settled}
 use Rattle.rmodel.proofs.Soundness.{sound_opening, sound_changed, sound_settled_to}
 use Rattle.rmodel.proofs.Giving.{given_none}
 use Rattle.rclaim.specs.Requests.{IsNormal}
-use Rattle.rclaim.specs.Events.{IsNormalEvent}
 use Rattle.std.specs.List.{count_by}
 use Rattle.std.proofs.lemmas.List.Sums.{length-filter}
 

@@ -100,6 +100,12 @@ active_by Waiting = false
 active_by Entitled = true
 active_by Satisfied = true
 
+-- a status is that of a claim to which what it asks for comes next
+abbrev pub entitled_by : Status → Bool
+entitled_by Waiting = false
+entitled_by Entitled = true
+entitled_by Satisfied = false
+
 -- a claim is satisfied
 abbrev pub is_satisfied : Claimed → Bool
 is_satisfied x = satisfied_by x.status
@@ -107,6 +113,10 @@ is_satisfied x = satisfied_by x.status
 -- a claim is entitled or satisfied
 abbrev pub is_active : Claimed → Bool
 is_active x = active_by x.status
+
+-- a claim is entitled
+abbrev pub is_entitled : Claimed → Bool
+is_entitled x = entitled_by x.status
 
 -- a claim that waits, asks for this part, and was granted nothing
 abbrev pub waiting : Set → Claim → Claimed

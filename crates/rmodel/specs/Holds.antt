@@ -1,5 +1,5 @@
 -- What requests hold.
-use Rattle.std.specs.Prelude.{ℕ, Bool, ◌&&◌, ◌==◌, nat_lt, List, fold, if◌then◌else◌}
+use Rattle.std.specs.Prelude.{◌≡◌, ℕ, Bool, ◌&&◌, ◌||◌, ◌==◌, nat_lt, List, fold, if◌then◌else◌}
 use Rattle.std.specs.List.{list_any}
 use Rattle.std.specs.FinSet.{empty, union, intersection, len, is_subset}
 use Rattle.rset.specs.Sets.{Set}
@@ -33,6 +33,14 @@ held_by x =
 -- what the request of a seat holds: what its claims hold
 unfoldable pub holds_of : List Claimed → ℕ → Granted
 holds_of xs seat = fold (λ all x. if x.claim.seat == seat then both all (held_by x) else all) nothing xs
+
+-- a claim holds nothing, or asks for something
+abbrev pub lacks : Claimed → Bool
+lacks x = is_nothing (held_by x) || nat_lt 0 (len x.asked)
+
+-- of two claims of one seat, the second holds nothing and asks for nothing
+abbrev pub Alone : Claimed → Claimed → Type 0
+Alone x y = x.claim.seat ≡ y.claim.seat → (held_by y ≡ nothing) × (y.asked ≡ empty)
 
 -- a seat has an incomplete request
 abbrev pub has_request : List Claimed → ℕ → Bool

@@ -8,6 +8,7 @@ pub mod NewClaim
 pub mod Changes
 pub mod WellFormed
 pub mod Reached
+pub mod Sweep
 pub mod Codes
 pub mod Machine
 pub mod Laws

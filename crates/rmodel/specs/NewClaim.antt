@@ -1,12 +1,14 @@
 -- How new claims are settled: they stand behind settled ones, which stay as they are, so that one look at those tells nearly all.
-use Rattle.std.specs.Prelude.{Bool, not, ◌&&◌, ◌||◌, List, [], ◌∷◌, ◌++◌, fold, if◌then◌else◌}
-use Rattle.std.specs.FinSet.{empty, union}
+use Rattle.std.specs.Prelude.{Bool, ◌==◌, ◌&&◌, ◌||◌, List, [], ◌∷◌, ◌++◌, fold, if◌then◌else◌}
+use Rattle.std.specs.List.{list_any}
+use Rattle.std.specs.FinSet.{empty, len, union}
 use Rattle.rset.specs.Sets.{Set, meets}
 use Rattle.rclaim.specs.Changes.{ChangeLists}
+use Rattle.rclaim.specs.declared.claim.Claim.{Claim}
 use Rattle.rclaim.specs.declared.claim.Status.{Status}
 use Rattle.rclaim.specs.declared.claim.Status.TheVariants.{Waiting, Entitled, Satisfied}
 use Rattle.rmodel.specs.declared.claimed.Claimed.{Claimed}
-use Rattle.rmodel.specs.declared.new_claim.Seen.{Seen}
+use Rattle.rmodel.specs.declared.seen.Seen.{Seen}
 use Rattle.rmodel.specs.Changes.{with_change}
 use Rattle.rmodel.specs.Claims.{is_active, is_satisfied}
 use Rattle.rmodel.specs.Settling.{with_status, with_bars, read_near, is_clear, entered_status}
@@ -14,17 +16,15 @@ use Rattle.rmodel.specs.Steps.{with_asked}
 
 -- nothing was seen
 abbrev pub no_seen : Seen
-no_seen = record { active = empty; kept = empty; bars = empty; awaited = empty; read = empty }
+no_seen = record { active = empty; kept = empty; bars = empty }
 
 -- what was seen of claims, and a claim more: what the entitled and satisfied writes write, what the satisfied writes write,
--- with what writes bar later ones, what the unsatisfied reads read, and what the satisfied claims read
+-- and with what writes bar later ones
 abbrev pub with_seen : Seen → Claimed → Seen
 with_seen all x = record {
   active = if x.claim.write_half && is_active x then union all.active x.claim.writes else all.active;
   kept = if x.claim.write_half && is_satisfied x then union all.kept x.claim.writes else all.kept;
   bars = with_bars all.bars x;
-  awaited = if not x.claim.write_half && not (is_satisfied x) then union all.awaited x.claim.reads else all.awaited;
-  read = if is_satisfied x then union all.read x.claim.reads else all.read;
 }
 
 -- what is seen of a list of claims
@@ -35,17 +35,22 @@ seen_of xs = fold with_seen no_seen xs
 abbrev pub new_read_status : Seen → Claimed → Status
 new_read_status seen x = if meets seen.active x.claim.reads then (if meets seen.kept x.claim.reads then Entitled else Waiting) else Satisfied
 
--- whether some satisfied claim conflicts with a new write
-abbrev pub new_is_held_up : Seen → Claimed → Bool
-new_is_held_up seen x = (meets seen.kept x.claim.reads || meets seen.kept x.claim.writes) || meets seen.read x.claim.writes
+-- each earlier write that shares a place with c writes nothing of what the reads near it read: where there are none, nothing is looked at
+abbrev pub is_past : List Claimed → Claim → Set → Bool
+is_past xs c near = (len near == 0) || is_clear xs c near
 
--- whether no read stands between a new write and an earlier one, where none of those bars it
-abbrev pub new_has_way : List Claimed → Seen → Claimed → Bool
-new_has_way xs seen x = not (meets seen.awaited x.claim.places) || is_clear xs x.claim (read_near xs x.claim.places)
+-- some satisfied claim reads one of these resources
+abbrev pub is_read : List Claimed → Set → Bool
+is_read xs s = list_any (λ v. is_satisfied v && meets v.claim.reads s) xs
+
+-- whether some satisfied claim conflicts with a new write
+abbrev pub new_is_held_up : List Claimed → Seen → Claimed → Bool
+new_is_held_up xs seen x =
+    (meets seen.kept x.claim.reads || meets seen.kept x.claim.writes) || is_read xs x.claim.writes
 
 -- a new write waits where an earlier one bars it, or a read stands between; else it has entered
 abbrev pub new_write_status : List Claimed → Seen → Claimed → Status
-new_write_status xs seen x = if meets seen.bars x.claim.places then Waiting else entered_status (new_has_way xs seen x) (new_is_held_up seen x)
+new_write_status xs seen x = if meets seen.bars x.claim.places then Waiting else entered_status (is_past xs x.claim (read_near xs x.claim.places)) (new_is_held_up xs seen x)
 
 abbrev pub new_status : List Claimed → Seen → Claimed → Status
 new_status xs seen x = if x.claim.write_half then new_write_status xs seen x else new_read_status seen x

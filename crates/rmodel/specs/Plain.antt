@@ -10,6 +10,7 @@ use Rattle.rmodel.specs.Steps.{changed, next}
 use Rattle.rmodel.specs.WellFormed.{IsSound}
 use Rattle.rmodel.specs.State.{LockState}
 use Rattle.rmodel.specs.Machine.{Standing}
+use Rattle.rmodel.specs.NewClaim.{seen_of}
 use Rattle.rmodel.specs.Reached.{IsReached}
 
 -- the lock state of a plain machine
@@ -23,6 +24,8 @@ standing_of a = record { state = state_of a; last = a.changes }
 -- its state is one that accepted events lead to, as far as its claims go, and there is room for the claims of all seats
 pub record IsKept (a : Inside) : Type 0 where
   pub reached : IsReached (state_of a)
+  -- what is seen of the claims is kept beside them
+  pub seen : a.seen ≡ seen_of a.claims.items
   pub cap : a.cap ≤ SEATS
   pub seats : a.seats ≤ SEATS
   pub claims_room : STATUS_ROOM + 2 ≤ vec_capacity a.claims

@@ -1,6 +1,6 @@
 -- How a list of claims is settled, pass by pass: the reads, then the writes by rising stamp, then which reads are kept for.
 -- That the outcome is the one that the rules allow is a theorem.
-use Rattle.std.specs.Prelude.{◌≡◌, Bool, true, false, not, ◌&&◌, ◌||◌, List, [], ◌∷◌, ◌++◌, map, fold, if◌then◌else◌}
+use Rattle.std.specs.Prelude.{Bool, true, false, not, ◌&&◌, ◌||◌, List, [], ◌∷◌, ◌++◌, map, fold, if◌then◌else◌}
 use Rattle.std.specs.List.{list_all}
 use Rattle.std.specs.FinSet.{empty, union}
 use Rattle.rset.specs.Sets.{Set, meets}
@@ -8,7 +8,6 @@ use Rattle.rclaim.specs.declared.claim.Claim.{Claim}
 use Rattle.rclaim.specs.declared.claim.Status.{Status}
 use Rattle.rclaim.specs.declared.claim.Status.TheVariants.{Waiting, Entitled, Satisfied}
 use Rattle.rmodel.specs.declared.claimed.Claimed.{Claimed}
-use Rattle.rmodel.specs.declared.settle.Reads.{Reads}
 use Rattle.rmodel.specs.Claims.{share_place, is_active, is_satisfied}
 use Rattle.rmodel.specs.Rules.{is_earlier_write, is_held_up}
 
@@ -32,31 +31,6 @@ with_bars all x = if x.claim.write_half then union all (if is_satisfied x then x
 unfoldable pub bars_of : List Claimed → Set
 bars_of xs = fold with_bars empty xs
 
--- no read was seen
-abbrev pub no_reads : Reads
-no_reads = record { waiting = false; held = empty }
-
--- what was seen of reads, and a claim more
-abbrev pub with_read : Reads → Claimed → Reads
-with_read all x =
-    if x.claim.write_half then all
-    else (if is_satisfied x then record { waiting = all.waiting; held = union all.held x.claim.reads } else record { waiting = true; held = all.held })
-
--- what is seen of the reads of a list: whether one is unsatisfied, and what the satisfied ones read
-unfoldable pub reads_of : List Claimed → Reads
-reads_of xs = fold with_read no_reads xs
-
--- by the status of a write it is seen at once that the second pass leaves it as it is: it waits, and has a place among the bars;
--- or it is entitled, and writes what is held for reading; or it is satisfied
-abbrev pub stays_by : Status → Bool → Bool → Bool
-stays_by Waiting is_barred is_read = is_barred
-stays_by Entitled is_barred is_read = is_read
-stays_by Satisfied is_barred is_read = true
-
--- it is seen at once that the second pass leaves a claim as it is, where these are the bars, and what is held for reading
-abbrev pub stays : Claimed → Set → Set → Bool
-stays x bars held = not x.claim.write_half || stays_by x.status (meets bars x.claim.places) (meets held x.claim.writes)
-
 -- what is read by the unsatisfied reads that touch these resources
 unfoldable pub read_near : List Claimed → Set → Set
 read_near xs s =
@@ -74,11 +48,6 @@ is_clear xs c away =
 -- each earlier write that shares a place with c is satisfied, and writes no place of c and nothing that a read near c waits for
 unfoldable pub has_way : List Claimed → Claim → Bool
 has_way xs c = is_clear xs c c.places && is_clear xs c (read_near xs c.places)
-
--- where a claim waits, no earlier write bars it; and where no read waits, none stands between it and an earlier write
-pub record IsUnbarred (xs : List Claimed) (x : Claimed) (reads_wait : Bool) : Type 0 where
-  pub places : is_active x ≡ false → is_clear xs x.claim x.claim.places ≡ true
-  pub reads : is_active x ≡ false → reads_wait ≡ false → is_clear xs x.claim (read_near xs x.claim.places) ≡ true
 
 -- the status of an unsatisfied write: whether it has entered, and if so, whether it is held up
 abbrev pub entered_status : Bool → Bool → Status

@@ -85,6 +85,10 @@ is_kept_from xs c part = list_any (λ v. is_satisfied v && conflicts_on v.claim 
 abbrev pub gets_asked : List Claimed → Claimed → Bool
 gets_asked xs x = is_satisfied x || (is_active x && not (is_kept_from xs x.claim x.asked))
 
+-- a claim asks for something that comes to it
+abbrev pub gets : List Claimed → Claimed → Bool
+gets xs x = (nat_lt 0 (len x.asked) && is_active x) && gets_asked xs x
+
 -- a claim with what it asks for granted, if that comes to it
 abbrev pub with_asked : List Claimed → Claimed → Claimed
 with_asked xs x = if gets_asked xs x then record x { asked = empty; granted = union x.granted x.asked } else x

@@ -3,11 +3,12 @@ ghost use Rattle.std.specs.Prelude.{◌≡◌, ◌≤◌, ◌+◌, ◌↔◌, Is
 ghost use Rattle.rset.specs.Sets.{all_below};
 ghost use Rattle.rclaim.specs.Requests.{IsNormal};
 ghost use Rattle.rclaim.specs.Changes.{no_changes};
-ghost use Rattle.rmodel.specs.NewClaim.{settled_behind, told_behind};
+ghost use Rattle.rmodel.specs.NewClaim.{seen_of, settled_behind, told_behind};
 ghost use Rattle.rmodel.specs.Claims.{is_admitted, IsUndeclared, needs_declared, claim_of, claims_of, waiting};
 
 use crate::claimed::Claimed;
 use crate::new_claim::push_new;
+use crate::seen::Seen;
 use rclaim::{Changes, Claim, Kind, Request, RequestErr};
 use rexpand::Groups;
 use rset::ResourceSet;
@@ -65,20 +66,23 @@ fn claim_of(
 }
 
 /// Adds the claims of a request behind settled ones, settled, with what they ask for granted if that comes to them, and
-/// tells what changes of them.
+/// tells what changes of them. `seen` is what is seen of the claims.
 pub(crate) fn push_claims(
     claims: &mut Vec<Claimed>,
+    seen: &mut Seen,
     groups: &Groups,
     stamp: u64,
     seat: u8,
     request: &Request,
     changes: &mut Changes,
 )
+    requires seen { seen.old ≡ seen_of claims.old.items }
     requires reads { IsTrue (all_below groups.now.q request.now.reads) }
     requires writes { IsTrue (all_below groups.now.q request.now.writes) }
     requires room { length claims.old.items + length (claims_of groups.now.groups stamp seat request.now) ≤ vec_capacity claims.old }
     requires none { changes.old ≡ no_changes }
     ensures items { claims.new.items ≡ settled_behind claims.old.items (map (waiting request.now.first) (claims_of groups.now.groups stamp seat request.now)) }
+    ensures seen { seen.new ≡ seen_of claims.new.items }
     ensures capacity { vec_capacity claims.new ≡ vec_capacity claims.old }
     ensures changes { changes.new ≡ told_behind no_changes claims.old.items (map (waiting request.now.first) (claims_of groups.now.groups stamp seat request.now)) }
     ensures normal { IsNormal request.now }
@@ -91,17 +95,17 @@ pub(crate) fn push_claims(
     match kind {
         Kind::Read => {
             let claim = claim_of(groups, false, stamp, seat, kind, reads, writes);
-            push_new(claims, &Claimed::waiting(first, claim), changes);
+            push_new(claims, seen, &Claimed::waiting(first, claim), changes);
         }
         Kind::Write | Kind::Mixed | Kind::Nested => {
             let claim = claim_of(groups, true, stamp, seat, kind, reads, writes);
-            push_new(claims, &Claimed::waiting(first, claim), changes);
+            push_new(claims, seen, &Claimed::waiting(first, claim), changes);
         }
         Kind::Upgrade => {
             let read_half = claim_of(groups, false, stamp, seat, kind, reads, none);
             let write_half = claim_of(groups, true, stamp, seat, kind, none, reads);
-            push_new(claims, &Claimed::waiting(first, read_half), changes);
-            push_new(claims, &Claimed::waiting(first, write_half), changes);
+            push_new(claims, seen, &Claimed::waiting(first, read_half), changes);
+            push_new(claims, seen, &Claimed::waiting(first, write_half), changes);
         }
     }
 }

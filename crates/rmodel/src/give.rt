@@ -1,7 +1,10 @@
 // What is asked for is granted, where it comes to a claim.
-ghost use Rattle.std.specs.Prelude.{◌≡◌, ◌<◌, length, slice_index_or, slice_set};
+ghost use Rattle.std.specs.FinSet.{len};
+ghost use Rattle.std.specs.Prelude.{◌≡◌, ◌<◌, ◌&&◌, nat_lt, length, slice_index_or, slice_set};
+ghost use Rattle.std.specs.List.{list_any};
+ghost use Rattle.rmodel.specs.Claims.{is_active};
 ghost use Rattle.rmodel.specs.declared.claimed.Claimed.{Claimed};
-ghost use Rattle.rmodel.specs.Steps.{some_asks, is_kept_from, gets_asked, with_asked, given};
+ghost use Rattle.rmodel.specs.Steps.{some_asks, is_kept_from, gets_asked, gets, with_asked, given};
 
 use crate::claimed::{Claimed, conflicts_on};
 use rclaim::Claim;
@@ -52,6 +55,27 @@ pub(crate) fn granted_to(claims: &[Claimed], x: &Claimed) -> Claimed
     } else {
         *x
     }
+}
+
+/// Whether the claim asks for something, and does not wait. It makes no branch: many that wait ask for something.
+fn may_get(x: &Claimed) -> bool
+    ensures { result ≡ (nat_lt 0 (len x.now.asked) && is_active x.now) }
+{
+    (x.asked.len() > 0) & x.is_active()
+}
+
+/// Whether the claim asks for something that comes to it.
+fn gets(claims: &[Claimed], x: &Claimed) -> bool
+    ensures { result ≡ gets claims.now x.now }
+{
+    may_get(x) && gets_asked(claims, x)
+}
+
+/// Whether what some claim asks for comes to it.
+pub(crate) fn some_gets(claims: &[Claimed]) -> bool
+    ensures { result ≡ list_any (gets claims.now) claims.now }
+{
+    claims.iter().any(|x| gets(claims, x))
 }
 
 /// Grants what the claim at a place asks for, if it comes to it.

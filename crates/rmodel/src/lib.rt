@@ -10,15 +10,19 @@ mod claims;
 mod give;
 mod granted;
 pub mod laws;
+mod left;
 mod list;
 mod machine;
 mod new_claim;
 mod plain;
 mod refused;
+mod seen;
 mod settle;
+mod sweep;
 mod tell;
 #[cfg(test)]
 mod tests;
+mod way;
 
 pub use claims::admit;
 pub use granted::Granted;

@@ -1,10 +1,12 @@
 // What a list of claims tells, and changes of one.
-ghost use Rattle.std.specs.Prelude.{◌≡◌, ◌==◌, ◌≤◌, ◌&&◌, not, length, map, vec_capacity, vec_len, filter};
+ghost use Rattle.std.specs.Prelude.{◌≡◌, ◌==◌, ◌≤◌, ◌&&◌, not, length, find, map, vec_capacity, vec_len, filter};
 ghost use Rattle.std.specs.List.{count_by};
+ghost use Rattle.std.specs.Option.{option_map};
 ghost use Rattle.rmodel.specs.Claims.{is_read_half};
-ghost use Rattle.rmodel.specs.Holds.{holds_of, has_request, has_ask, may_rise, may_ask, is_part_of};
+ghost use Rattle.rmodel.specs.Holds.{Alone, lacks, holds_of, has_request, may_rise, may_ask, is_part_of};
 ghost use Rattle.rmodel.specs.Steps.{asking, is_not_holding};
 ghost use Rattle.rmodel.specs.Changes.{status_in};
+ghost use Rattle.rmodel.specs.WellFormed.{EachPair};
 
 use crate::Granted;
 use crate::claimed::{Claimed, is_nested, is_read_half};
@@ -49,20 +51,37 @@ pub(crate) fn incomplete(claims: &[Claimed]) -> usize
     claims.iter().filter(|x| !is_read_half(&x.claim)).count()
 }
 
-/// Whether the seat holds nothing, or an ask of it is pending.
-pub(crate) fn is_not_holding(claims: &[Claimed], seat: u8) -> bool
-    ensures { result ≡ is_not_holding claims.now seat }
+/// Whether there are as many incomplete requests as this. A request has a claim, so that few claims are seen at once.
+pub(crate) fn is_full(claims: &[Claimed], cap: usize) -> bool
+    ensures { result ≡ (count_by (λ x. not (is_read_half x.claim)) claims.now == cap) }
 {
-    holds_of(claims, seat).is_nothing() || has_ask(claims, seat)
+    claims.len() >= cap && incomplete(claims) == cap
 }
 
-/// Whether an ask of the seat's request is pending.
-pub(crate) fn has_ask(claims: &[Claimed], seat: u8) -> bool
-    ensures { result ≡ has_ask claims.now seat }
+/// Whether a claim holds nothing, or asks for something.
+fn lacks(x: &Claimed) -> bool
+    ensures { result ≡ lacks x.now }
+{
+    x.held().is_nothing() || x.asked.len() > 0
+}
+
+/// Whether the first claim of the seat does; None where there is none.
+fn first_lacks(claims: &[Claimed], seat: u8) -> Option<bool>
+    ensures { result ≡ option_map lacks (find (λ x. x.claim.seat == seat) claims.now) }
 {
     claims
         .iter()
-        .any(|x| x.claim.seat == seat && x.asked.len() > 0)
+        .find(|x| x.claim.seat == seat)
+        .map(|x| lacks(x))
+}
+
+/// Whether the seat holds nothing, or an ask of it is pending. The first claim of a seat tells it: a second one holds
+/// nothing and asks for nothing.
+pub(crate) fn is_not_holding(claims: &[Claimed], seat: u8) -> bool
+    requires { EachPair Alone claims.now }
+    ensures { result ≡ is_not_holding claims.now seat }
+{
+    first_lacks(claims, seat).unwrap_or(true)
 }
 
 /// Whether the seat's request is an upgrade that has not risen.

@@ -7,10 +7,12 @@ ghost use Rattle.rmodel.specs.Steps.{Fits, Accepts, refusal};
 
 use crate::claimed::Claimed;
 use crate::claims::push_claims;
+use crate::left::{take_read_half, take_seat};
 use crate::list::{
-    ask, has_request, holds_of, incomplete, is_not_holding, is_part_of, may_ask, may_rise,
-    remove_read_half, remove_seat, status_in,
+    ask, has_request, holds_of, incomplete, is_full, is_not_holding, is_part_of, may_ask, may_rise,
+    status_in,
 };
+use crate::seen::{Seen, no_seen};
 use crate::settle::{give_once, settle};
 use crate::{Granted, Machine, Refused};
 use rclaim::{Changes, Event, Request, STATUS_ROOM, Status};
@@ -26,6 +28,7 @@ const CLAIMS: usize = STATUS_ROOM + 2;
 #[derive(Drop)]
 pub struct Plain {
     claims: Vec<Claimed>,
+    seen: Seen,
     before: Vec<Claimed>,
     changes: Changes,
     groups: Groups,
@@ -56,6 +59,7 @@ impl Machine for Plain {
     fn new(alloc: Global, groups: Groups, seats: u8, cap: u8) -> Result<Plain, AllocError> {
         Ok(Plain {
             claims: Vec::with_capacity(alloc, CLAIMS)?,
+            seen: no_seen(),
             before: Vec::with_capacity(alloc, CLAIMS)?,
             changes: Changes::new(alloc)?,
             groups,
@@ -124,7 +128,7 @@ impl Plain {
                 if has_request(&self.claims, *seat) {
                     return Some(Refused::SeatBusy);
                 }
-                (incomplete(&self.claims) == self.cap as usize).then_some(Refused::Full)
+                is_full(&self.claims, self.cap as usize).then_some(Refused::Full)
             }
             Event::Finish { seat } => {
                 is_not_holding(&self.claims, *seat).then_some(Refused::NotHolding)
@@ -170,6 +174,7 @@ impl Plain {
         self.changes.clear();
         push_claims(
             &mut self.claims,
+            &mut self.seen,
             &self.groups,
             self.issued,
             seat,
@@ -185,8 +190,9 @@ impl Plain {
         requires accepted { Accepts self.old.state (Finish seat) }
         ensures { IsTaken self.old (Finish seat) self.new }
     {
-        remove_seat(&mut self.claims, seat);
-        settle(&mut self.claims, &mut self.before, &mut self.changes);
+        let left = take_seat(&mut self.claims, seat);
+        let seen = settle(&mut self.claims, &left, &mut self.before, &mut self.changes);
+        self.seen = seen;
     }
 
     // Takes a rise.
@@ -195,8 +201,9 @@ impl Plain {
         requires accepted { Accepts self.old.state (Rise seat) }
         ensures { IsTaken self.old (Rise seat) self.new }
     {
-        remove_read_half(&mut self.claims, seat);
-        settle(&mut self.claims, &mut self.before, &mut self.changes);
+        let left = take_read_half(&mut self.claims, seat);
+        let seen = settle(&mut self.claims, &left, &mut self.before, &mut self.changes);
+        self.seen = seen;
     }
 
     // Takes an ask. No status changes, so that only what is asked for is looked at.

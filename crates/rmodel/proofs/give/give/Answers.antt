@@ -1,8 +1,5 @@
-use Rattle.std.proofs.Common.{◌≡◌, ◌+◌, ◌≤◌, ◌<◌, ◌++◌, map, take, drop, length, get_or, refl, sym, ap, ◌∙◌, arith}
-use Rattle.std.proofs.Math.ListN.{set}
+use Rattle.std.proofs.Common.{◌<◌, length, ap, ◌∙◌, arith}
 use Rattle.std.proofs.lemmas.List.{length-set}
-use Rattle.rmodel.specs.declared.claimed.Claimed.{Claimed}
-use Rattle.rmodel.specs.Steps.{with_asked}
 use Rattle.rmodel.proofs.Giving.{give_step, give_end, some_claim}
 use Rattle.rmodel.proofs.give.give.Goals as goal
 

@@ -1,4 +1,4 @@
-use Rattle.std.proofs.Common.{◌≡◌, List, refl, sym, subst, ◌∙◌}
+use Rattle.std.proofs.Common.{List, refl, sym, subst, ◌∙◌}
 use Rattle.std.specs.List.{AllZip}
 use Rattle.rmodel.specs.declared.claimed.Claimed.{Claimed}
 use Rattle.rmodel.specs.Changes.{SameClaim}

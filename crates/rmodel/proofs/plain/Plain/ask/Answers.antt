@@ -1,17 +1,17 @@
-use Rattle.std.proofs.Common.{◌≡◌, ◌+◌, ◌≤◌, List, length, map, refl, sym, ap, subst, ◌∙◌, arith}
-use Rattle.rset.specs.declared.TheConstants.{SEATS}
+use Rattle.std.proofs.Common.{◌+◌, ◌≤◌, List, length, sym, ap, subst, ◌∙◌, arith}
 use Rattle.rclaim.specs.declared.TheConstants.{STATUS_ROOM}
-use Rattle.rclaim.specs.declared.event.Event.TheVariants.{Issue, Finish, Rise, Ask}
+use Rattle.rclaim.specs.declared.event.Event.TheVariants.{Ask}
 use Rattle.rmodel.specs.declared.claimed.Claimed.{Claimed}
 use Rattle.rmodel.specs.Changes.{status_changes, grant_changes}
 use Rattle.rmodel.specs.State.{LockState}
 use Rattle.rmodel.specs.Plain.{state_of}
 use Rattle.rmodel.specs.Reached.{IsReached}
-use Rattle.rmodel.specs.Settling.{settled}
 use Rattle.rmodel.specs.Steps.{changed, given}
-use Rattle.rmodel.specs.WellFormed.{AreWellFormed}
 use Rattle.rmodel.proofs.PlainSteps.{kept_comes, taken, ask_settled, few_claims}
 use Rattle.rmodel.proofs.Reached.{reached_next}
+use Rattle.rmodel.specs.NewClaim.{seen_of}
+use Rattle.rmodel.proofs.SweepSteps.{seen_standing}
+use Rattle.rmodel.proofs.Standing.{asking_standing, given_standing}
 use Rattle.rmodel.proofs.Soundness.{sound_changed}
 use Rattle.rmodel.proofs.plain.Plain.ask.Goals as goal
 
@@ -45,6 +45,8 @@ invariant_of-self c =
     record {
       reached = subst (λ (xs : List Claimed). IsReached (record (state_of a) { claims = xs })) (sym (c.give_once.ensures.items ∙ ap given (c.ask.ensures.items ∙ sym same)))
           (reached_next (state_of a) e c.self.invariant.reached comes);
+      seen = c.self.invariant.seen ∙ seen_standing a.claims.items _ (asking_standing c.args.seat c.args.set a.claims.items)
+          ∙ ap seen_of (sym c.ask.ensures.items) ∙ seen_standing c.ask.new.claims.items _ (given_standing c.ask.new.claims.items) ∙ ap seen_of (sym c.give_once.ensures.items);
       cap = c.self.invariant.cap;
       seats = c.self.invariant.seats;
       claims_room = subst (λ n. STATUS_ROOM + 2 ≤ n) (sym (c.give_once.ensures.capacity ∙ c.ask.ensures.capacity)) c.self.invariant.claims_room;

@@ -1,7 +1,6 @@
-use Rattle.std.proofs.Common.{◌≡◌, ◌+◌, ◌≤◌, List, ◌++◌, length, map, refl, sym, ap, subst, ◌∙◌, arith}
-use Rattle.rset.specs.declared.TheConstants.{SEATS}
+use Rattle.std.proofs.Common.{◌+◌, ◌≤◌, List, ◌++◌, map, sym, ap, subst, ◌∙◌, arith}
 use Rattle.rclaim.specs.declared.TheConstants.{STATUS_ROOM}
-use Rattle.rclaim.specs.declared.event.Event.TheVariants.{Issue, Finish, Rise, Ask}
+use Rattle.rclaim.specs.declared.event.Event.TheVariants.{Issue}
 use Rattle.rmodel.specs.declared.claimed.Claimed.{Claimed}
 use Rattle.rclaim.specs.Changes.{ChangeLists}
 use Rattle.rmodel.specs.Changes.{status_changes, grant_changes}
@@ -9,13 +8,9 @@ use Rattle.rmodel.specs.Claims.{waiting, claims_of}
 use Rattle.rmodel.specs.State.{LockState}
 use Rattle.rmodel.specs.Plain.{state_of}
 use Rattle.rmodel.specs.Reached.{IsReached}
-use Rattle.rmodel.specs.Settling.{settled}
-use Rattle.rmodel.specs.Steps.{changed, given}
-use Rattle.rmodel.specs.WellFormed.{AreWellFormed}
 use Rattle.rmodel.proofs.PlainSteps.{kept_comes, taken, few_claims, two_claims}
 use Rattle.rmodel.proofs.IssueSteps.{issue_is, told_is}
 use Rattle.rmodel.proofs.Reached.{reached_next}
-use Rattle.rmodel.proofs.Soundness.{sound_changed}
 use Rattle.rmodel.proofs.plain.Plain.issue.Goals as goal
 
 pub push_claims-requires-clause-room : goal.push_claims-requires-clause-room
@@ -36,6 +31,7 @@ invariant_of-self c =
       reached = subst (λ (xs : List Claimed). IsReached (record (state_of a) { issued = a.issued + 1; claims = xs }))
           (sym (c.push_claims.ensures.items ∙ sym (issue_is (state_of a) c.args.seat c.args.request.now c.self.invariant.reached comes)))
           (reached_next (state_of a) e c.self.invariant.reached comes);
+      seen = c.push_claims.ensures.seen;
       cap = c.self.invariant.cap;
       seats = c.self.invariant.seats;
       claims_room = subst (λ n. STATUS_ROOM + 2 ≤ n) (sym c.push_claims.ensures.capacity) c.self.invariant.claims_room;

@@ -1,0 +1,116 @@
+// What claims leave behind that go.
+ghost use Rattle.std.specs.Prelude.{◌≡◌, IfSome, not, filter, position, vec_capacity};
+ghost use Rattle.rmodel.specs.Sweep.{IsLone, none_gone, with_left, left_by, is_of, is_read_of};
+ghost use Rattle.rmodel.specs.WellFormed.{EachPair, Distinct};
+
+use crate::claimed::{Claimed, is_read_half};
+use crate::list::{remove_read_half, remove_seat};
+use rset::ResourceSet;
+
+/// What claims that are gone leave behind.
+#[derive(Clone, Copy)]
+pub(crate) struct Left {
+    /// What those of them wrote that were entitled or satisfied writes.
+    pub(crate) written: ResourceSet,
+    /// What they read or wrote.
+    pub(crate) freed: ResourceSet,
+}
+
+/// Nothing is gone.
+fn none_gone() -> Left
+    ensures { result ≡ none_gone }
+{
+    Left {
+        written: ResourceSet::empty(),
+        freed: ResourceSet::empty(),
+    }
+}
+
+/// What is gone, and a claim more.
+fn with_left(all: Left, x: &Claimed) -> Left
+    ensures { result ≡ with_left all x.now }
+{
+    let reads = x.claim.reads;
+    let writes = x.claim.writes;
+    Left {
+        written: if x.claim.write_half && x.is_active() {
+            all.written.union(writes)
+        } else {
+            all.written
+        },
+        freed: all.freed.union(reads.union(writes)),
+    }
+}
+
+/// What the claims of a seat leave where they go.
+#[tactic(auto, unfolding(crate::specs::Sweep::left_by))]
+fn left_by_seat(claims: &[Claimed], seat: u8) -> Left
+    ensures { result ≡ left_by (is_of seat) claims.now }
+{
+    claims.iter().fold(none_gone(), |all, x| {
+        if x.claim.seat == seat {
+            with_left(all, x)
+        } else {
+            all
+        }
+    })
+}
+
+/// What the read claim of a seat leaves where it goes.
+#[tactic(auto, unfolding(crate::specs::Sweep::left_by))]
+fn left_by_read_half(claims: &[Claimed], seat: u8) -> Left
+    ensures { result ≡ left_by (is_read_of seat) claims.now }
+{
+    claims.iter().fold(none_gone(), |all, x| {
+        if x.claim.seat == seat && !x.claim.write_half {
+            with_left(all, x)
+        } else {
+            all
+        }
+    })
+}
+
+/// The place of the first claim of a seat.
+fn place_of(claims: &[Claimed], seat: u8) -> Option<usize>
+    ensures { result ≡ position (is_of seat) claims.now }
+{
+    claims.iter().position(|x| x.claim.seat == seat)
+}
+
+/// The place of the claim of a seat, if it has one that is no read half: it has no other.
+fn lone_place(claims: &[Claimed], seat: u8) -> Option<usize>
+    ensures { IfSome result (IsLone (is_of seat) claims.now) }
+{
+    let i = place_of(claims, seat)?;
+    if is_read_half(&claims[i].claim) {
+        return None;
+    }
+    Some(i)
+}
+
+/// Takes the claims of a seat out, and answers what they leave. Only an upgrade that has not risen has two.
+pub(crate) fn take_seat(claims: &mut Vec<Claimed>, seat: u8) -> Left
+    requires { EachPair Distinct claims.old.items }
+    ensures items { claims.new.items ≡ filter (λ x. not (is_of seat x)) claims.old.items }
+    ensures left { result ≡ left_by (is_of seat) claims.old.items }
+    ensures capacity { vec_capacity claims.new ≡ vec_capacity claims.old }
+{
+    if let Some(i) = lone_place(claims, seat) {
+        let gone = claims.remove(i);
+        return with_left(none_gone(), &gone);
+    }
+    let left = left_by_seat(claims, seat);
+    remove_seat(claims, seat);
+    left
+}
+
+/// Takes the read half of a seat's upgrade out, and answers what it leaves.
+pub(crate) fn take_read_half(claims: &mut Vec<Claimed>, seat: u8) -> Left
+    ensures items { claims.new.items ≡ filter (λ x. not (is_read_of seat x)) claims.old.items }
+    ensures left { result ≡ left_by (is_read_of seat) claims.old.items }
+    ensures capacity { vec_capacity claims.new ≡ vec_capacity claims.old }
+{
+    let left = left_by_read_half(claims, seat);
+    remove_read_half(claims, seat);
+    left
+}
