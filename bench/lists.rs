@@ -1,0 +1,300 @@
+//! Writes a large event list, or the report that is due for it, by a model of the rules that is written apart from the crates.
+//!
+//! `lists NAME N list` and `lists NAME N report` write the list NAME of N events, and its report. Each seat that may act
+//! is as likely to act next as any other; where it holds something it finishes, or rises or asks if it can.
+use std::env;
+use std::io::{BufWriter, Result, Write, stdout};
+
+#[derive(Clone, Copy, PartialEq)]
+enum Kind {
+    Read,
+    Write,
+    Mixed,
+    Upgrade,
+    Nested,
+}
+
+#[derive(Clone, Copy, PartialEq, PartialOrd)]
+enum Status {
+    Waiting,
+    Entitled,
+    Satisfied,
+}
+
+#[derive(Clone)]
+struct Claim {
+    stamp: usize,
+    seat: usize,
+    kind: Kind,
+    write: bool,
+    reads: u64,
+    writes: u64,
+    places: u64,
+    status: Status,
+    asked: u64,
+    granted: u64,
+}
+
+impl Claim {
+    fn held(&self) -> (u64, u64) {
+        match (self.kind, self.status) {
+            (Kind::Nested, _) => (self.granted & self.reads, self.granted & self.writes),
+            (_, Status::Satisfied) => (self.reads, self.writes),
+            _ => (0, 0),
+        }
+    }
+
+    fn conflicts(&self, other: &Claim) -> bool {
+        self.writes & (other.reads | other.writes) != 0 || other.writes & (self.reads | self.writes) != 0
+    }
+
+    fn before(&self, other: &Claim) -> bool {
+        self.write && self.stamp < other.stamp && self.places & other.places != 0
+    }
+}
+
+#[derive(Clone, Copy)]
+enum Event {
+    Issue(usize, Kind, u64, u64, u64),
+    Finish(usize),
+    Rise(usize),
+    Ask(usize, u64),
+}
+
+/// What a list is about: how many resources there are, whether neighbours share a group, and how many tasks issue.
+struct Shape {
+    resources: usize,
+    groups: bool,
+    tasks: usize,
+    kinds: &'static [Kind],
+    most: usize,
+}
+
+struct Lock {
+    claims: Vec<Claim>,
+    issued: usize,
+    shape: Shape,
+}
+
+impl Lock {
+    fn shared(&self, l: usize) -> u64 {
+        if !self.shape.groups {
+            return 1 << l;
+        }
+        let up = if l + 1 < self.shape.resources { 2 << l } else { 0 };
+        let down = if l > 0 { 1 << (l - 1) } else { 0 };
+        1 << l | up | down
+    }
+
+    fn places(&self, reads: u64, writes: u64) -> u64 {
+        (0..64).filter(|l| writes >> l & 1 == 1).fold(reads, |all, l| all | self.shared(l))
+    }
+
+    fn add(&mut self, seat: usize, kind: Kind, write: bool, reads: u64, writes: u64, asked: u64) {
+        let places = if write { self.places(reads, writes) } else { reads };
+        let (stamp, status, granted) = (self.issued, Status::Waiting, 0);
+        self.claims.push(Claim { stamp, seat, kind, write, reads, writes, places, status, asked, granted });
+    }
+
+    fn change(&mut self, event: Event) {
+        match event {
+            Event::Issue(seat, kind, reads, writes, first) => {
+                match kind {
+                    Kind::Read => self.add(seat, kind, false, reads, 0, 0),
+                    Kind::Upgrade => {
+                        self.add(seat, kind, false, reads, 0, 0);
+                        self.add(seat, kind, true, 0, reads, 0);
+                    }
+                    _ => self.add(seat, kind, true, reads, writes, first),
+                }
+                self.issued += 1;
+            }
+            Event::Finish(seat) => self.claims.retain(|c| c.seat != seat),
+            Event::Rise(seat) => self.claims.retain(|c| c.seat != seat || c.write),
+            Event::Ask(seat, set) => self.claims.iter_mut().filter(|c| c.seat == seat).for_each(|c| c.asked = set),
+        }
+    }
+
+    /// The four rules, each as it is written: reads, then writes by rising stamp, then which reads are kept for.
+    fn settle(&mut self) {
+        let old = self.claims.clone();
+        for i in 0..old.len() {
+            let kept_out = |c: &Claim| old.iter().any(|w| w.write && w.status > Status::Waiting && w.conflicts(c));
+            if !old[i].write && !kept_out(&old[i]) {
+                self.claims[i].status = Status::Satisfied;
+            }
+        }
+        for i in 0..old.len() {
+            let c = self.claims[i].clone();
+            if !c.write || c.status == Status::Satisfied {
+                continue;
+            }
+            let now = &self.claims;
+            let between = |v: &Claim| {
+                now.iter().any(|r| {
+                    !r.write && r.status < Status::Satisfied && r.conflicts(v) && (r.reads | r.writes) & c.places != 0
+                })
+            };
+            let makes_way = |v: &Claim| v.status == Status::Satisfied && v.writes & c.places == 0 && !between(v);
+            if c.status == Status::Waiting && !now.iter().filter(|v| v.before(&c)).all(makes_way) {
+                continue;
+            }
+            let held_up = now.iter().any(|v| {
+                v.status == Status::Satisfied && v.conflicts(&c) && (!v.write || v.stamp < c.stamp)
+            });
+            self.claims[i].status = if held_up { Status::Entitled } else { Status::Satisfied };
+        }
+        for i in 0..old.len() {
+            let now = &self.claims;
+            let kept = now.iter().any(|w| w.write && w.status == Status::Satisfied && w.conflicts(&now[i]));
+            if !now[i].write && now[i].status < Status::Satisfied {
+                self.claims[i].status = if kept { Status::Entitled } else { Status::Waiting };
+            }
+        }
+    }
+
+    fn give(&mut self) {
+        let now = self.claims.clone();
+        for c in self.claims.iter_mut() {
+            let part = c.asked & c.writes;
+            let kept = now.iter().any(|v| {
+                v.status == Status::Satisfied && (v.writes & c.asked != 0 || (v.reads | v.writes) & part != 0)
+            });
+            if c.status == Status::Satisfied || c.status == Status::Entitled && !kept {
+                c.granted |= c.asked;
+                c.asked = 0;
+            }
+        }
+    }
+
+    fn holds(&self, seat: usize) -> (u64, u64) {
+        let own = self.claims.iter().filter(|c| c.seat == seat);
+        own.map(Claim::held).fold((0, 0), |a, b| (a.0 | b.0, a.1 | b.1))
+    }
+
+    /// What the seat does next, if it may act.
+    fn choose(&self, seat: usize, dice: &mut Dice) -> Option<Event> {
+        let shape = &self.shape;
+        let Some(own) = self.claims.iter().find(|c| c.seat == seat) else {
+            if self.claims.len() >= shape.most {
+                return None;
+            }
+            let kind = shape.kinds[dice.below(shape.kinds.len())];
+            let last = if shape.groups { shape.resources - 1 } else { shape.resources };
+            let (l, k) = (dice.below(last), dice.below(last));
+            let pair = if shape.groups { 3 << l } else { 1 << l };
+            return Some(match kind {
+                Kind::Read | Kind::Upgrade => Event::Issue(seat, kind, pair, 0, 0),
+                Kind::Write if shape.kinds.len() == 2 => Event::Issue(seat, kind, 0, 1 << l | 1 << k, 0),
+                Kind::Write => Event::Issue(seat, kind, 0, 1 << l, 0),
+                Kind::Mixed => Event::Issue(seat, kind, pair & !(1 << l), 1 << l, 0),
+                Kind::Nested => Event::Issue(seat, kind, 0, pair, 1 << l),
+            });
+        };
+        let (reads, writes) = self.holds(seat);
+        let asks = self.claims.iter().any(|c| c.seat == seat && c.asked != 0);
+        if reads | writes == 0 || asks {
+            return None;
+        }
+        let rest = (own.reads | own.writes) & !(reads | writes);
+        Some(match own.kind {
+            Kind::Upgrade if !own.write && dice.below(2) == 0 => Event::Rise(seat),
+            Kind::Nested if rest != 0 && dice.below(2) == 0 => Event::Ask(seat, rest),
+            _ => Event::Finish(seat),
+        })
+    }
+}
+
+/// Numbers by xorshift, the same at each run.
+struct Dice(u64);
+
+impl Dice {
+    fn below(&mut self, n: usize) -> usize {
+        self.0 ^= self.0 << 13;
+        self.0 ^= self.0 >> 7;
+        self.0 ^= self.0 << 17;
+        (self.0 >> 11) as usize % n
+    }
+}
+
+fn set(members: u64) -> String {
+    let names: Vec<_> = (0..64).filter(|l| members >> l & 1 == 1).map(|l| format!("r{l}")).collect();
+    if names.is_empty() { "-".to_string() } else { names.join("+") }
+}
+
+fn write_event(out: &mut impl Write, event: Event) -> Result<()> {
+    match event {
+        Event::Issue(s, Kind::Read, r, _, _) => writeln!(out, "issue,t{s},read,{},1", set(r)),
+        Event::Issue(s, Kind::Write, _, w, _) => writeln!(out, "issue,t{s},write,{},1", set(w)),
+        Event::Issue(s, Kind::Mixed, r, w, _) => writeln!(out, "issue,t{s},mixed,{},{},1", set(r), set(w)),
+        Event::Issue(s, Kind::Upgrade, r, _, _) => writeln!(out, "issue,t{s},upgrade,{},1,1", set(r)),
+        Event::Issue(s, Kind::Nested, r, w, f) => writeln!(out, "issue,t{s},nested,{},{},{},1", set(r), set(w), set(f)),
+        Event::Finish(s) => writeln!(out, "finish,t{s}"),
+        Event::Rise(s) => writeln!(out, "rise,t{s}"),
+        Event::Ask(s, part) => writeln!(out, "ask,t{s},{}", set(part)),
+    }
+}
+
+/// What changed from the claims before to those now, as a report tells it.
+fn write_changes(out: &mut impl Write, before: &[Claim], now: &[Claim]) -> Result<()> {
+    let was = |c: &Claim| before.iter().find(|b| b.seat == c.seat && b.write == c.write);
+    for c in now {
+        if was(c).map_or(Status::Waiting, |b| b.status) != c.status {
+            let half = if c.write { "write" } else { "read" };
+            let status = if c.status == Status::Satisfied { "satisfied" } else { "entitled" };
+            writeln!(out, "now,t{},{half},{status}", c.seat)?;
+        }
+    }
+    for c in now {
+        let (had, has) = (was(c).map_or((0, 0), Claim::held), c.held());
+        if has.0 & !had.0 != 0 || has.1 & !had.1 != 0 {
+            writeln!(out, "grant,t{},{}", c.seat, set(has.0 | has.1))?;
+        }
+    }
+    Ok(())
+}
+
+fn shape_of(name: &str) -> Shape {
+    use Kind::*;
+    let (resources, groups, kinds, most): (_, _, &[Kind], _) = match name {
+        "alone" => (32, false, &[Write], 1),
+        "queues" => (32, false, &[Write], 128),
+        "short-queues" => (64, false, &[Write], 128),
+        "readers-and-writers" => (32, false, &[Read, Write], 128),
+        "few-resources" => (16, false, &[Read, Write], 128),
+        "all-kinds" => (32, true, &[Read, Write, Mixed, Upgrade, Nested], 128),
+        _ => panic!("no list is named {}", name),
+    };
+    Shape { resources, groups, tasks: 64, kinds, most }
+}
+
+fn main() -> Result<()> {
+    let words: Vec<_> = env::args().collect();
+    let (count, report): (usize, _) = (words[2].parse().expect("a number"), words[3] == "report");
+    let mut lock = Lock { claims: Vec::new(), issued: 0, shape: shape_of(&words[1]) };
+    let (mut dice, mut out) = (Dice(88172645463325252), BufWriter::new(stdout().lock()));
+    let (resources, tasks) = (lock.shape.resources, lock.shape.tasks);
+    writeln!(out, "rnlp,1")?;
+    (0..resources).try_for_each(|l| writeln!(out, "resource,r{l}"))?;
+    (1..resources).filter(|_| lock.shape.groups).try_for_each(|l| writeln!(out, "group,r{}+r{l}", l - 1))?;
+    (0..tasks).try_for_each(|t| writeln!(out, "task,t{t}"))?;
+    if report {
+        writeln!(out, "cap,{tasks}")?;
+    }
+    for _ in 0..count {
+        let start = dice.below(tasks);
+        let event = (0..tasks).find_map(|d| lock.choose((start + d) % tasks, &mut dice)).expect("somebody holds");
+        let before = lock.claims.clone();
+        lock.change(event);
+        lock.settle();
+        lock.give();
+        write_event(&mut out, event)?;
+        if report {
+            write_changes(&mut out, &before, &lock.claims)?;
+        }
+    }
+    if report {
+        (0..resources).try_for_each(|l| writeln!(out, "ledger,r{l},0,0"))?;
+    }
+    writeln!(out, "end")
+}
