@@ -1,7 +1,7 @@
 // What one look at settled claims tells of those to come.
 ghost use Rattle.std.specs.FinSet.{empty, union};
 ghost use Rattle.std.specs.Prelude.{if◌then◌else◌, ◌≡◌};
-ghost use Rattle.rmodel.specs.NewClaim.{no_seen, with_seen, seen_of};
+ghost use Rattle.rmodel.specs.NewClaim.{no_seen, with_seen};
 ghost use Rattle.rmodel.specs.Settling.{with_bars};
 
 use crate::claimed::Claimed;
@@ -72,13 +72,4 @@ pub(crate) fn with_seen(all: Seen, x: &Claimed) -> Seen
         kept: and_where(all.kept, write & satisfied, writes),
         bars: with_bars(all.bars, x),
     }
-}
-
-/// What is seen of a list of claims.
-#[tactic(auto, unfolding(crate::specs::NewClaim::seen_of))]
-#[inline(never)]
-pub(crate) fn seen_of(claims: &[Claimed]) -> Seen
-    ensures { result ≡ seen_of claims.now }
-{
-    claims.iter().fold(no_seen(), |all, x| with_seen(all, x))
 }
