@@ -1,7 +1,7 @@
 //! The settling rules, and a machine over a plain list of claims whose step is exactly one of them.
 //!
 //! The lock state is one list of claims. An event changes the list, and then it is settled once. This is what a
-//! [`Machine`] does. [`Plain`] does so by the rules as they are written, in time that is at most quadratic in the claims.
+//! [`Machine`] does. [`Plain`] does so over a plain list of claims, in time that is at most quadratic in their number.
 //! The module [`laws`] says what holds after every list of accepted events.
 #![tactic(auto)]
 
