@@ -2,7 +2,7 @@
 use Rattle.std.proofs.Common.{◌≡◌, ℕ, ◌+◌, ◌<◌, ◌||◌, Bool, cond, List, [], ◌∷◌, ◌++◌, length, get_or, zero, suc, Some, refl, sym, ap, ◌∙◌, arith}
 use Rattle.std.specs.List.{list_any, position, position_from}
 use Rattle.std.specs.Cmp.Lexicographic.{pointwise}
-use Rattle.std.specs.Prelude.{nat_eq}
+use Rattle.std.specs.Prelude.{nat_eq, slice_get}
 use Rattle.std.specs.declared.vec.Vec.{Vec}
 use Rattle.std.specs.declared.alloc.Global.{Global}
 use Rattle.std.proofs.lemmas.Iterator.Adapters.{position_from-zero}
@@ -38,3 +38,9 @@ kept_at (x ∷ xs) (suc k) v small is = kept_at xs k v (omega arith) is
 -- what a look-up in the set answered is whether the table knows the name
 pub kept_answer : (keys : List (Vec ℕ Global)) (names : List (List ℕ)) (name : List ℕ) (b : Bool) → names_of keys ≡ names → b ≡ list_any (λ v. pointwise nat_eq name v.items) keys → knows names name ≡ b
 kept_answer keys names name b same answer = ap (λ ns. knows ns name) (sym same) ∙ sym (kept_knows keys name) ∙ sym answer
+
+-- the vector at a place has the name with that number
+pub kept_there : (keys : List (Vec ℕ Global)) (n : ℕ) (v : Vec ℕ Global) (name : List ℕ) → n < length keys → v ≡ get_or keys n v → v.items ≡ name → slice_get (names_of keys) n ≡ Some name
+kept_there [] n v name small is same = absurd (omega arith)
+kept_there (x ∷ xs) zero v name small is same = ap (λ (w : Vec ℕ Global). Some w.items) (sym is) ∙ ap Some same
+kept_there (x ∷ xs) (suc n) v name small is same = kept_there xs n v name (omega arith) is same

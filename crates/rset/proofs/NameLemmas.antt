@@ -5,7 +5,6 @@ use Rattle.std.specs.List.{list_any, list_all, position_from}
 use Rattle.std.specs.Cmp.Lexicographic.{bytes_decides}
 use Rattle.std.proofs.lemmas.Bool.{true≢false, and_parts, and_from, or_left, or_right, or_from, leb-true, le-leb, not-true, false_from_ne_true}
 use Rattle.std.proofs.lemmas.List.Folds.{list_any-append, list_all-append}
-use Rattle.rset.specs.declared.TheConstants.{RESOURCES}
 use Rattle.rset.specs.Names.{is_name, same_name, number_in, knows, all_differ, is_table}
 
 -- ---- the same name
@@ -198,29 +197,29 @@ not_before (x ∷ xs) (suc k) differ small =
 
 -- ---- tables
 
-pub table_of : (names : List (List ℕ)) → list_all is_name names ≡ true → all_differ names ≡ true → length names ≤ RESOURCES → is_table names ≡ true
+pub table_of : (limit : ℕ) (names : List (List ℕ)) → list_all is_name names ≡ true → all_differ names ≡ true → length names ≤ limit → is_table limit names ≡ true
 unfolding is_table
-table_of names each differ few = and_from _ _ (and_from _ _ each differ) (le-leb (length names) RESOURCES few)
+table_of limit names each differ few = and_from _ _ (and_from _ _ each differ) (le-leb (length names) limit few)
 
-pub table_names : (names : List (List ℕ)) → is_table names ≡ true → list_all is_name names ≡ true
+pub table_names : (limit : ℕ) (names : List (List ℕ)) → is_table limit names ≡ true → list_all is_name names ≡ true
 unfolding is_table
-table_names names h = (and_parts (list_all is_name names) (all_differ names) (and_parts _ (nat_le (length names) RESOURCES) h).0).0
+table_names limit names h = (and_parts (list_all is_name names) (all_differ names) (and_parts _ (nat_le (length names) limit) h).0).0
 
-pub table_differs : (names : List (List ℕ)) → is_table names ≡ true → all_differ names ≡ true
+pub table_differs : (limit : ℕ) (names : List (List ℕ)) → is_table limit names ≡ true → all_differ names ≡ true
 unfolding is_table
-table_differs names h = (and_parts (list_all is_name names) (all_differ names) (and_parts _ (nat_le (length names) RESOURCES) h).0).1
+table_differs limit names h = (and_parts (list_all is_name names) (all_differ names) (and_parts _ (nat_le (length names) limit) h).0).1
 
-pub table_length : (names : List (List ℕ)) → is_table names ≡ true → length names ≤ RESOURCES
+pub table_length : (limit : ℕ) (names : List (List ℕ)) → is_table limit names ≡ true → length names ≤ limit
 unfolding is_table
-table_length names h = leb-true (length names) RESOURCES (and_parts (list_all is_name names && all_differ names) _ h).1
+table_length limit names h = leb-true (length names) limit (and_parts (list_all is_name names && all_differ names) _ h).1
 
-pub table_empty : is_table [] ≡ true
+pub table_empty : (limit : ℕ) → is_table limit [] ≡ true
 unfolding is_table all_differ
-table_empty = refl
+table_empty limit = le-leb 0 limit (omega arith)
 
 -- each name in a table is a name
-pub table_name_at : (names : List (List ℕ)) (name : List ℕ) (n : ℕ) → is_table names ≡ true → slice_get names n ≡ Some name → is_name name ≡ true
-table_name_at names name n h there = at names n (table_names names h) there
+pub table_name_at : (limit : ℕ) (names : List (List ℕ)) (name : List ℕ) (n : ℕ) → is_table limit names ≡ true → slice_get names n ≡ Some name → is_name name ≡ true
+table_name_at limit names name n h there = at names n (table_names limit names h) there
   where
     at : (xs : List (List ℕ)) (k : ℕ) → list_all is_name xs ≡ true → slice_get xs k ≡ Some name → is_name name ≡ true
     at [] k each there = absurd (true≢false (sym (ap is_some there)))
@@ -228,8 +227,8 @@ table_name_at names name n h there = at names n (table_names names h) there
     at (x ∷ xs) (suc k) each there = at xs k (and_parts (is_name x) (list_all is_name xs) each).1 there
 
 -- a new name in a table that is not full makes a table
-pub table_push : (names : List (List ℕ)) (x : List ℕ) → is_table names ≡ true → is_name x ≡ true → knows names x ≡ false → length names < RESOURCES → is_table (names ++ x ∷ []) ≡ true
-table_push names x table good new room =
+pub table_push : (limit : ℕ) (names : List (List ℕ)) (x : List ℕ) → is_table limit names ≡ true → is_name x ≡ true → knows names x ≡ false → length names < limit → is_table limit (names ++ x ∷ []) ≡ true
+table_push limit names x table good new room =
     let longer = length-append names (x ∷ []) in
-    let few : length (names ++ x ∷ []) ≤ RESOURCES = omega arith in
-    table_of _ (list_all-append is_name names (x ∷ []) ∙ and_from _ _ (table_names names table) (and_from _ _ good refl)) (all_differ_push names x (table_differs names table) new) few
+    let few : length (names ++ x ∷ []) ≤ limit = omega arith in
+    table_of limit _ (list_all-append is_name names (x ∷ []) ∙ and_from _ _ (table_names limit names table) (and_from _ _ good refl)) (all_differ_push names x (table_differs limit names table) new) few

@@ -2,7 +2,9 @@
 use Rattle.std.specs.Prelude.{ℕ, Bool, true, false, not, ◌&&◌, ◌||◌, ◌==◌, nat_lt, nat_le, List, [], ◌∷◌, length, Option}
 use Rattle.std.specs.List.{list_any, list_all, position_from}
 use Rattle.std.specs.Cmp.Lexicographic.{pointwise}
-use Rattle.rset.specs.declared.TheConstants.{RESOURCES, LONGEST_NAME}
+use Rattle.rset.specs.declared.TheConstants.{LONGEST_NAME}
+use Rattle.rset.specs.declared.names.NameErr.{NameErr}
+use Rattle.rset.specs.declared.names.NameErr.TheVariants.{BadName, Repeated, TooMany, Memory}
 
 -- a lower-case letter
 abbrev pub is_letter : ℕ → Bool
@@ -34,6 +36,13 @@ unfoldable pub all_differ : List (List ℕ) → Bool
 all_differ [] = true
 all_differ (x ∷ xs) = not (knows xs x) && all_differ xs
 
--- a table has different names, and no more than there may be resources
-unfoldable pub is_table : List (List ℕ) → Bool
-is_table names = list_all is_name names && all_differ names && nat_le (length names) RESOURCES
+-- a table has different names, and no more than this many
+unfoldable pub is_table : ℕ → List (List ℕ) → Bool
+is_table limit names = list_all is_name names && all_differ names && nat_le (length names) limit
+
+-- the number of a refusal
+abbrev pub refusal_number : NameErr → ℕ
+refusal_number BadName = 1
+refusal_number Repeated = 2
+refusal_number TooMany = 3
+refusal_number Memory = 4

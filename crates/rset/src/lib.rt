@@ -4,11 +4,10 @@
 //! Every operation on sets is a few machine instructions and takes no memory.
 #![tactic(auto)]
 
+mod hints;
 mod members;
 mod names;
 mod resources;
-#[cfg(test)]
-mod tests;
 
 pub use members::Members;
 pub use names::{NameErr, NameTable};
@@ -22,3 +21,10 @@ pub const SEATS: u8 = 64;
 
 /// The most bytes that a name may have.
 pub const LONGEST_NAME: usize = 16;
+
+// Users know these numbers, so a change of one is to be meant.
+const _: () = prove!(RESOURCES == 64);
+
+const _: () = prove!(SEATS == 64);
+
+const _: () = prove!(LONGEST_NAME == 16);

@@ -2,9 +2,10 @@
 ghost use Rattle.std.specs.Prelude.{◌≡◌, ◌<◌, ◌≤◌, ◌++◌, ◌∷◌, [], ◌↔◌, IfOk, IfSome, OnOk, OnErr, IsTrue, true, false, length, slice_get};
 ghost use Rattle.std.specs.List.{list_all};
 ghost use Rattle.rset.specs.declared.names.NameErr.TheVariants.{Memory};
-ghost use Rattle.rset.specs.Names.{is_letter, is_name_byte, is_name, knows, number_in, is_table};
+ghost use Rattle.rset.specs.Names.{is_letter, is_name_byte, is_name, knows, number_in, is_table, refusal_number};
 ghost use Rattle.rset.specs.Kept.{names_of};
 
+use crate::hints::Hints;
 use crate::{LONGEST_NAME, RESOURCES};
 use indexmap::IndexSet;
 use std::alloc::{AllocError, Global};
@@ -12,20 +13,29 @@ use std::marker::Model;
 use thiserror::Error;
 
 /// Why a name was not added to a table.
-#[derive(Debug, Drop, PartialEq, Eq, Error)]
+#[derive(Clone, Copy, Debug, PartialEq, Eq, Error)]
 pub enum NameErr {
     /// It is no name: 1 to [`LONGEST_NAME`] bytes of `a` to `z`, `0` to `9` and `_` that begin with a letter.
     #[error("no name: 1 to {most} of a to z, 0 to 9 and _ that begin with a letter", most = LONGEST_NAME)]
-    BadName,
+    BadName = 1,
     /// It is in the table.
     #[error("the name is there already")]
-    Repeated,
+    Repeated = 2,
     /// The table has as many names as it may have, which is [`RESOURCES`].
     #[error("too many names")]
-    TooMany,
+    TooMany = 3,
     /// Memory ran out.
     #[error("out of memory")]
-    Memory,
+    Memory = 4,
+}
+
+impl NameErr {
+    /// Its number, which is its place in the order of refusals.
+    pub fn number(self) -> u8
+        ensures { result ≡ refusal_number self }
+    {
+        self as u8
+    }
 }
 
 impl From<AllocError> for NameErr {
@@ -40,10 +50,12 @@ impl From<AllocError> for NameErr {
 #[derive(Drop)]
 pub struct NameTable {
     names: IndexSet<Vec<u8>>,
+    hints: Hints,
 }
 
 impl Model for NameTable {
     ghost use Rattle.std.specs.Prelude.{ℕ, List, IsTrue};
+    ghost use Rattle.rset.specs.declared.TheConstants.{RESOURCES};
     ghost use Rattle.rset.specs.Names.{is_table};
     ghost use Rattle.rset.specs.Kept.{names_of};
 
@@ -51,7 +63,7 @@ impl Model for NameTable {
 
     ghost view = { λ a. names_of a.names.keys };
 
-    ghost invariant = { λ a. IsTrue (is_table (names_of a.names.keys)) };
+    ghost invariant = { λ a. IsTrue (is_table RESOURCES (names_of a.names.keys)) };
 }
 
 impl NameTable {
@@ -61,6 +73,7 @@ impl NameTable {
     {
         NameTable {
             names: IndexSet::new(alloc),
+            hints: Hints::new(),
         }
     }
 
@@ -88,6 +101,7 @@ impl NameTable {
         }
         let alloc = *self.names.allocator();
         keep(alloc, &mut self.names, name)?;
+        self.hints.note(name, number as u8);
         Ok(number as u8)
     }
 
@@ -96,8 +110,12 @@ impl NameTable {
         ensures value { result ≡ number_in self.now name.now }
         ensures below { IfSome result (λ n. n < length self.now) }
         ensures bound { IfSome result (λ n. n < RESOURCES) }
-        ensures table { IsTrue (is_table self.now) }
+        ensures table { IsTrue (is_table RESOURCES self.now) }
     {
+        let hint = self.hints.of(name);
+        if has_at(self.names.as_slice(), hint, name) {
+            return Some(hint);
+        }
         let number = self.names.get_index_of(name)?;
         Some(number as u8)
     }
@@ -114,7 +132,7 @@ impl NameTable {
     pub fn len(&self) -> u8
         ensures value { result ≡ length self.now }
         ensures bound { result ≤ RESOURCES }
-        ensures table { IsTrue (is_table self.now) }
+        ensures table { IsTrue (is_table RESOURCES self.now) }
     {
         self.names.len() as u8
     }
@@ -127,8 +145,20 @@ impl NameTable {
         for name in self.names.as_slice() {
             keep(alloc, &mut names, name.as_slice())?;
         }
-        Ok(NameTable { names })
+        Ok(NameTable {
+            names,
+            hints: self.hints,
+        })
     }
+}
+
+// Whether this is the name with the number `n`.
+#[inline]
+fn has_at(names: &[Vec<u8>], n: u8, name: &[u8]) -> bool
+    ensures { IsTrue result → slice_get (names_of names.now) n ≡ Some name.now }
+{
+    let place = usize::from(n);
+    place < names.len() && names[place].as_slice() == name
 }
 
 // Puts a name that is not there behind the others.

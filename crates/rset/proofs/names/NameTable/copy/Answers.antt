@@ -1,6 +1,7 @@
 use Rattle.std.proofs.Common.{◌≡◌, ◌<◌, true, [], ◌∷◌, ◌++◌, length, get_or, sym, ap, ◌∙◌, arith}
 use Rattle.std.proofs.lemmas.List.{take_more}
 use Rattle.rset.specs.Names.{all_differ, knows}
+use Rattle.rset.specs.declared.TheConstants.{RESOURCES}
 use Rattle.rset.specs.Kept.{names_of}
 use Rattle.rset.proofs.NameLemmas.{not_before, table_differs}
 use Rattle.rset.proofs.KeptLemmas.{kept_at, kept_length}
@@ -11,7 +12,7 @@ keep-requires c =
     let items = c.as_slice-name-items.result.now in
     let i = c.loop-name.name-index in
     let differ : all_differ (names_of items) ≡ true =
-    ap (λ keys. all_differ (names_of keys)) c.as_slice-name-items.ensures.keys ∙ table_differs _ c.self.invariant in
+    ap (λ keys. all_differ (names_of keys)) c.as_slice-name-items.ensures.keys ∙ table_differs RESOURCES _ c.self.invariant in
     let size = kept_length items in
     let small : i < length (names_of items) = omega arith in
     let name : c.as_slice.result.now ≡ get_or (names_of items) i [] =

@@ -1,0 +1,47 @@
+// Guesses at the numbers of names, so that most names are found without their hash.
+ghost use Rattle.std.specs.Prelude.{◌<◌};
+
+/// The number of places, at each of which one number is kept.
+const PLACES: usize = 1024;
+
+/// What number a name may have. A hint promises nothing: whoever takes it looks at the name with that number.
+#[derive(Clone, Copy)]
+pub(crate) struct Hints {
+    numbers: [u8; PLACES],
+}
+
+impl Hints {
+    /// No name was noted yet, so each hint is 0.
+    pub(crate) fn new() -> Hints {
+        Hints {
+            numbers: [0; PLACES],
+        }
+    }
+
+    /// The number that was noted last for a name with the place of this one.
+    #[inline]
+    pub(crate) fn of(&self, name: &[u8]) -> u8 {
+        self.numbers[place_of(name)]
+    }
+
+    /// Notes the number of a name.
+    pub(crate) fn note(&mut self, name: &[u8], number: u8) {
+        self.numbers[place_of(name)] = number;
+    }
+}
+
+// Names mostly differ in length, in how they begin or in how they end.
+#[inline]
+fn place_of(name: &[u8]) -> usize
+    ensures { result < PLACES }
+{
+    match name {
+        [first, .., before, last] => {
+            let ends = usize::from(*last) + 16 * usize::from(*before) + 67 * usize::from(*first);
+            (ends + 131 * (name.len() % 16)) % PLACES
+        }
+        [first, last] => (usize::from(*last) + 67 * usize::from(*first)) % PLACES,
+        [only] => usize::from(*only),
+        [] => 0,
+    }
+}
