@@ -1,5 +1,5 @@
 -- The normal form of a request is in normal form.
-use Rattle.std.proofs.Common.{◌≡◌, ◌≢◌, ℕ, ◌≤◌, Bool, true, false, not, ◌&&◌, ◌||◌, refl, sym, ap, subst, ◌∙◌}
+use Rattle.std.proofs.Common.{◌≡◌, ◌≢◌, ℕ, ◌≤◌, Bool, true, false, not, ◌&&◌, ◌||◌, refl, sym, ap, ◌∙◌}
 use Rattle.std.specs.FinSet.{empty, contains, union, difference}
 use Rattle.rset.specs.Sets.{Set}
 use Rattle.rset.proofs.SetLemmas.{same_members, contains_union, contains_difference, difference_apart}

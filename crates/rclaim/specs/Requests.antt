@@ -6,6 +6,8 @@ use Rattle.rset.specs.Sets.{Set, meets}
 use Rattle.rclaim.specs.Codes.{set_code, kind_code}
 use Rattle.rclaim.specs.declared.request.Kind.{Kind}
 use Rattle.rclaim.specs.declared.request.Kind.TheVariants.{Read, Write, Mixed, Upgrade, Nested}
+use Rattle.rclaim.specs.declared.request.RequestErr.{RequestErr}
+use Rattle.rclaim.specs.declared.request.RequestErr.TheVariants.{EmptyRequest, Undeclared, FirstOutside}
 use Rattle.rclaim.specs.declared.TheConstants.{LENGTH_LIMIT}
 
 -- what a request says
@@ -84,3 +86,9 @@ pub record IsNormal (r : RequestFields) : Type 0 where
   pub first : FitsFirst r.kind (union r.reads r.writes) r.first
   pub len : r.len ≤ LENGTH_LIMIT
   pub later : FitsLater r.kind r.later
+
+-- the number of a refusal, as users are told it
+abbrev pub refusal_number : RequestErr → ℕ
+refusal_number EmptyRequest = 1
+refusal_number Undeclared = 2
+refusal_number FirstOutside = 3

@@ -1,6 +1,6 @@
 // What a task asks for, in normal form.
 ghost use Rattle.std.specs.Prelude.{◌≡◌, ◌≢◌, ◌≤◌, ◌↔◌, ◌&&◌, nat_lt, false, IfOk, IfErr};
-ghost use Rattle.rclaim.specs.Requests.{IsNormal, asked_set, first_fits, is_part, normalised};
+ghost use Rattle.rclaim.specs.Requests.{IsNormal, asked_set, first_fits, is_part, normalised, refusal_number};
 ghost use Rattle.std.specs.FinSet as set;
 
 use crate::LENGTH_LIMIT;
@@ -24,7 +24,7 @@ pub enum Kind {
     Nested,
 }
 
-/// Why a request is refused. As a number it is the one that users are told.
+/// Why a request is refused.
 #[derive(Clone, Copy, Debug, PartialEq, Eq, Error)]
 pub enum RequestErr {
     /// There is no resource to read, or none to write.
@@ -36,6 +36,15 @@ pub enum RequestErr {
     /// The first part is empty, or not within the request.
     #[error("the first part is empty or not within the request")]
     FirstOutside = 3,
+}
+
+impl RequestErr {
+    /// The number that users are told.
+    pub fn number(self) -> u8
+        ensures { result ≡ refusal_number self }
+    {
+        self as u8
+    }
 }
 
 /// What a task asks for: a kind, resources to read and to write, and how long its section lasts at most.
@@ -82,6 +91,12 @@ fn first_fits(kind: Kind, reads: ResourceSet, writes: ResourceSet, first: Resour
 }
 
 impl Clone for Request {
+    ghost use Rattle.std.specs.Prelude.{◌≡◌, ⊤};
+
+    ghost is_clone = { λ x y. y ≡ x };
+
+    ghost is_infallible = { λ _. ⊤ };
+
     fn clone(&self) -> Result<Self, AllocError> {
         Ok(*self)
     }
