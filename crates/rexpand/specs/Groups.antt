@@ -4,6 +4,8 @@ use Rattle.std.specs.List.{list_any, list_all}
 use Rattle.std.specs.FinSet as set
 use Rattle.rset.specs.Sets.{Set, all_below}
 use Rattle.rset.specs.declared.TheConstants.{RESOURCES}
+use Rattle.rexpand.specs.declared.errors.GroupErr.{GroupErr}
+use Rattle.rexpand.specs.declared.errors.GroupErr.TheVariants.{EmptyGroup, TooMany, Memory}
 use Rattle.rexpand.specs.declared.TheConstants.{GROUPS}
 
 -- the number of resources, and the groups in the order in which they were declared
@@ -39,3 +41,9 @@ is_group q s = nat_lt 0 (set.len s) && all_below q s
 -- there is a resource, there are no more resources and groups than there may be, and each group is one
 unfoldable pub are_groups : ReadGroups → Bool
 are_groups g = nat_le 1 g.q && nat_le g.q RESOURCES && nat_le (length g.groups) GROUPS && list_all (is_group g.q) g.groups
+
+-- the number of a refusal
+abbrev pub refusal_number : GroupErr → ℕ
+refusal_number EmptyGroup = 1
+refusal_number TooMany = 2
+refusal_number Memory = 3

@@ -9,8 +9,6 @@ mod errors;
 mod groups;
 mod noting;
 mod sharing;
-#[cfg(test)]
-mod tests;
 
 pub use errors::GroupErr;
 pub use groups::Groups;
@@ -21,3 +19,6 @@ pub const GROUPS: usize = 256;
 
 // A set holds the numbers of as many groups as there may be resources, so the numbers of all groups come in this many blocks.
 const BLOCKS: usize = (GROUPS - 1) / RESOURCES as usize + 1;
+
+// Users know this number, so a change of it is to be meant.
+const _: () = prove!(GROUPS == 256);
