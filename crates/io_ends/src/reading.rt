@@ -8,7 +8,7 @@ use crate::{Failed, Source};
 use std::alloc::{AllocError, Global};
 use thiserror::Error;
 
-/// The length of the first buffer; each later one is twice as long.
+/// The length of the first buffer. Each later one is longer by that, or by an eighth of what is filled if that is more.
 const FIRST_LENGTH: usize = 65_536;
 
 /// Why a source was not read to its end.
@@ -88,10 +88,10 @@ fn make_room(bytes: &mut Vec<u8>, filled: usize, limit: usize) -> Result<(), All
     if filled < bytes.len() {
         return Ok(());
     }
-    let doubled = filled
-        .checked_add(filled.max(FIRST_LENGTH))
+    let longer = filled
+        .checked_add((filled / 8).max(FIRST_LENGTH))
         .ok_or(AllocError)?;
-    bytes.resize(limit.min(doubled - 1) + 1, 0)
+    bytes.resize(limit.min(longer - 1) + 1, 0)
 }
 
 // One read into the buffer, behind what is filled.

@@ -20,8 +20,6 @@ mod seen;
 mod settle;
 mod sweep;
 mod tell;
-#[cfg(test)]
-mod tests;
 mod way;
 
 pub use claims::admit;

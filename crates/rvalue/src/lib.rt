@@ -11,8 +11,6 @@ mod entry;
 mod history;
 pub mod laws;
 mod ledger;
-#[cfg(test)]
-mod tests;
 
 pub use act::Act;
 pub use editable::Editable;

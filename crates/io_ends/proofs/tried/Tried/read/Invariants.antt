@@ -1,0 +1,16 @@
+use Rattle.std.proofs.Common.{◌≡◌, ◌≤◌, ◌<◌, ◌-◌, ◌^◌, length}
+use Rattle.std.specs.Io.KnownBytes.{Keeps}
+use Rattle.io_ends.proofs.tried.Tried.read.Given as goal
+
+abbrev pub invariant-loop-self : goal.invariant-loop-self
+invariant-loop-self g l = record {
+  same_room : length l.buf ≡ length l.initial.buf;
+  kept : Keeps (g.R.Read.remaining l.initial.self.device) (g.R.Read.remaining l.self.device);
+  quiet : l.self.faults ≡ l.initial.self.faults;
+  last : l.self.interruptions < 2 ^ 64;
+  more : l.initial.self.interruptions ≤ l.self.interruptions;
+}
+
+-- each try that is made again is one interruption more
+abbrev pub decreases-loop-self : goal.decreases-loop-self
+decreases-loop-self g l = 2 ^ 64 - 1 - l.self.interruptions

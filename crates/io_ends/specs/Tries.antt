@@ -1,0 +1,22 @@
+-- What a device of the standard library told so far, and the count of faults that comes of it.
+use Rattle.std.specs.Prelude.{◌≡◌, ◌<◌, ◌≤◌, ◌⊎◌, ℕ, ◌-◌, ◌^◌, ◌==◌, Bool, true, false, if◌then◌else◌}
+use Rattle.io_ends.specs.Faults.{one_more}
+
+-- how often it told a fault, and how often it told that a call was interrupted; both stay at 2^64 - 1
+pub record Tries : Type 0 where
+  pub faults : ℕ
+  pub interruptions : ℕ
+
+-- the count of faults: a device that was interrupted so often that its count stands still is given up, and fails from then on
+abbrev pub fault_count : Tries → ℕ
+fault_count tries = if tries.interruptions == 2 ^ 64 - 1 then 2 ^ 64 - 1 else tries.faults
+
+-- it told nothing yet
+abbrev pub untried : Tries
+untried = record { faults = 0; interruptions = 0 }
+
+-- a call that was tried until the device did it or failed: no fault stands behind an answer, one behind a failure, unless the device was given up
+abbrev pub IsTried : Bool → Tries → Tries → Type 0
+IsTried false before after = (after.faults ≡ before.faults) × (before.interruptions ≤ after.interruptions) × (after.interruptions < 2 ^ 64 - 1)
+IsTried true before after =
+    (((after.faults ≡ one_more before.faults) × (after.interruptions < 2 ^ 64 - 1)) ⊎ (after.interruptions ≡ 2 ^ 64 - 1)) × (before.interruptions ≤ after.interruptions)

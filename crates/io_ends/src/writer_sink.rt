@@ -1,0 +1,104 @@
+// A writer of the standard library as a sink.
+ghost use Rattle.std.specs.Prelude.{◌≡◌, ◌≢◌, ◌≤◌, ◌<◌, ◌-◌, ◌^◌, ◌⊎◌, length, take, None, IfOk, IfErr, OnOk, OnErr, is_err};
+ghost use Rattle.std.specs.Io.KnownBytes.{Appends, Keeps, WriteAppends};
+ghost use Rattle.io_ends.specs.Faults.{Rose, one_more};
+ghost use Rattle.io_ends.specs.Ends.{Takes};
+ghost use Rattle.io_ends.specs.Tries.{IsTried, fault_count, untried};
+
+use crate::tried::Tried;
+use crate::{Failed, Sink};
+use std::io::{ErrorKind, Write};
+use std::marker::Model;
+use std::rt::Stdout;
+
+/// A writer as a sink. A call that was interrupted is made again, and to take nothing of a piece that is not empty is a
+/// fault. It tells no bytes. A contract sees what the writer told of faults. Nothing is buffered here: what `write` took
+/// was handed to the writer.
+#[derive(Drop)]
+pub struct WriterSink<W: Write> {
+    writer: Tried<W>,
+}
+
+impl<W: Write> Model for WriterSink<W> {
+    ghost use Rattle.std.specs.Prelude.{◌<◌, ◌^◌};
+    ghost use Rattle.io_ends.specs.Tries.{Tries};
+
+    ghost Value = { Tries };
+
+    ghost view = { λ s. record { faults = s.writer.faults; interruptions = s.writer.interruptions } };
+
+    ghost invariant = { λ s. (s.writer.faults < 2 ^ 64) × (s.writer.interruptions < 2 ^ 64) };
+}
+
+impl<W: Write> WriterSink<W> {
+    /// A writer that told nothing yet.
+    pub fn new(writer: W) -> WriterSink<W>
+        ensures { result ≡ untried }
+    {
+        WriterSink {
+            writer: Tried::new(writer),
+        }
+    }
+}
+
+impl<W: Write> Sink for WriterSink<W> {
+    ghost written = { λ _. None };
+
+    ghost faults = { λ s. fault_count s };
+
+    fn write(&mut self, piece: &[u8]) -> Result<usize, Failed>
+        ensures taken { IfOk result (Takes None None piece.now) }
+        ensures quiet { OnOk result (fault_count self.new ≡ fault_count self.old) }
+        ensures failed { OnErr result (Rose (fault_count self.old) (fault_count self.new)) }
+        ensures counted { fault_count self.old ≤ fault_count self.new }
+        ensures cause { IsTried (is_err result) self.old self.new }
+    {
+        self.writer.write(piece)
+    }
+}
+
+/// Standard output.
+pub type StdoutSink = WriterSink<Stdout>;
+
+impl<W: Write> Tried<W> {
+    // One call of the writer, whose error is counted. To take nothing of a piece that is not empty is an error.
+    fn write_once(&mut self, piece: &[u8]) -> Result<usize, ErrorKind>
+        ensures bound { IfOk result (λ n. n ≤ length piece.now) }
+        ensures some { IfOk result (λ n. 0 < length piece.now → 1 ≤ n) }
+        ensures bytes { WriteAppends (W.contents self.old.device) (W.contents self.new.device) result piece.now }
+        ensures quiet { OnOk result ((self.new.faults ≡ self.old.faults) × (self.new.interruptions ≡ self.old.interruptions)) }
+        ensures interrupted { IfErr result (λ kind. kind ≡ ErrorKind.Interrupted → (self.new.faults ≡ self.old.faults) × (self.new.interruptions ≡ one_more self.old.interruptions)) }
+        ensures fault { IfErr result (λ kind. kind ≢ ErrorKind.Interrupted → (self.new.faults ≡ one_more self.old.faults) × (self.new.interruptions ≡ self.old.interruptions)) }
+    {
+        let kind = match self.device.write(piece) {
+            Ok(0) if !piece.is_empty() => ErrorKind::WriteZero,
+            Ok(n) => return Ok(n),
+            Err(e) => e.kind(),
+        };
+        self.count(kind);
+        Err(kind)
+    }
+
+    // One write that is not interrupted.
+    pub(crate) fn write(&mut self, piece: &[u8]) -> Result<usize, Failed>
+        requires counts { (self.old.faults < 2 ^ 64) × (self.old.interruptions < 2 ^ 64) }
+        ensures bound { IfOk result (λ n. n ≤ length piece.now) }
+        ensures some { IfOk result (λ n. 0 < length piece.now → 1 ≤ n) }
+        ensures taken { IfOk result (λ n. Appends (W.contents self.old.device) (W.contents self.new.device) (take n piece.now)) }
+        ensures kept { OnErr result (Keeps (W.contents self.old.device) (W.contents self.new.device)) }
+        ensures quiet { OnOk result ((self.new.faults ≡ self.old.faults) × (self.new.interruptions < 2 ^ 64 - 1)) }
+        ensures failed { OnErr result (((self.new.faults ≡ one_more self.old.faults) × (self.new.interruptions < 2 ^ 64 - 1))
+            ⊎ (self.new.interruptions ≡ 2 ^ 64 - 1)) }
+        ensures more { self.old.interruptions ≤ self.new.interruptions }
+        ensures counts { (self.new.faults < 2 ^ 64) × (self.new.interruptions < 2 ^ 64) }
+    {
+        while self.interruptions < u64::MAX {
+            match self.write_once(piece) {
+                Ok(n) => return Ok(n),
+                Err(ErrorKind::Interrupted) => {}
+                Err(_) => return Err(Failed),
+            }
+        }
+        Err(Failed)
+    }
+}
