@@ -1,4 +1,5 @@
 pub mod Codes
+pub mod EventCodes
 pub mod Requests
 pub mod Events
 pub mod Changes

@@ -17,3 +17,9 @@ module _ {A : Type 0} (Fits : List A → A → Type 0) where
   -- a list with one more item fits in turn exactly where the list does, and the item after it
   pub AllInTurn-longer : (xs : List A) (x : A) → AllInTurn Fits [] (xs ++ x ∷ []) ↔ (AllInTurn Fits [] xs × Fits xs x)
   AllInTurn-longer xs x = (apart [] xs x, λ both. joined [] xs x both.0 both.1)
+
+module _ {A : Type 0} (Fits Suits : List A → A → Type 0) (weaker : (earlier : List A) (x : A) → Fits earlier x → Suits earlier x) where
+  -- what holds of each item where it fits holds in turn
+  pub AllInTurn-weaker : (earlier xs : List A) → AllInTurn Fits earlier xs → AllInTurn Suits earlier xs
+  AllInTurn-weaker earlier [] fits = tt
+  AllInTurn-weaker earlier (x ∷ xs) fits = (weaker earlier x fits.0, AllInTurn-weaker (earlier ++ x ∷ []) xs fits.1)

@@ -1,12 +1,9 @@
 -- Entries of the history: an event, and the acts that are told with it.
-use Rattle.std.specs.Prelude.{◌≡◌, ◌⊎◌, ℕ, Bool, true, false, List, [], fold, if◌then◌else◌, refl}
-use Rattle.std.specs.Coded.{Coded, code_by, coded_ℕ, coded×, coded⊎, coded_list}
-use Rattle.std.proofs.Common.{inl, inr}
+use Rattle.std.specs.Prelude.{ℕ, Bool, true, false, List, [], fold, if◌then◌else◌, refl}
+use Rattle.std.specs.Coded.{Coded, code_by, coded×, coded_list}
 use Rattle.rclaim.specs.declared.event.Event.{Event}
-use Rattle.rclaim.specs.declared.event.Event.TheVariants.{Issue, Finish, Rise, Ask}
-use Rattle.rset.specs.Sets.{Set}
-use Rattle.rclaim.specs.Codes.{set_code}
-use Rattle.rclaim.specs.Requests.{RequestFields, request_code}
+use Rattle.rclaim.specs.declared.event.Event.TheVariants.{Finish}
+use Rattle.rclaim.specs.EventCodes.{event_code}
 use Rattle.rvalue.specs.declared.act.Act.{Act}
 use Rattle.rvalue.specs.Acts.{edits_in, act_code}
 
@@ -27,33 +24,6 @@ edits_of entry l = if is_finish entry.event then edits_in entry.acts l else []
 -- the value of the resource after the entry
 abbrev pub value_after_entry : {V E : Type 0} → (V → E → V) → V → EntryFields E → ℕ → V
 value_after_entry after value entry l = fold after value (edits_of entry l)
-
--- how proofs tell events apart
-abbrev EventParts : Type 0
-EventParts = (ℕ × RequestFields) ⊎ (ℕ ⊎ (ℕ ⊎ (ℕ × Set)))
-
-abbrev event_parts : Event → EventParts
-event_parts (Issue seat request) = inl (seat, request)
-event_parts (Finish seat) = inr (inl seat)
-event_parts (Rise seat) = inr (inr (inl seat))
-event_parts (Ask seat part) = inr (inr (inr (seat, part)))
-
-abbrev event_from : EventParts → Event
-event_from (inl p) = Issue p.0 p.1
-event_from (inr (inl seat)) = Finish seat
-event_from (inr (inr (inl seat))) = Rise seat
-event_from (inr (inr (inr p))) = Ask p.0 p.1
-
-pub event_from-event_parts : (event : Event) → event_from (event_parts event) ≡ event
-event_from-event_parts (Issue seat request) = refl
-event_from-event_parts (Finish seat) = refl
-event_from-event_parts (Rise seat) = refl
-event_from-event_parts (Ask seat part) = refl
-
--- an event is stored as its parts
-abbrev pub event_code : Coded Event
-event_code =
-    code_by EventParts (coded⊎ (coded× coded_ℕ request_code) (coded⊎ coded_ℕ (coded⊎ coded_ℕ (coded× coded_ℕ set_code)))) event_parts event_from event_from-event_parts
 
 -- an entry is stored as the pair of its fields
 abbrev pub entry_code : {E : Type 0} → Coded E → Coded (EntryFields E)

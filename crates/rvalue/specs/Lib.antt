@@ -3,3 +3,4 @@ pub mod Ledgers
 pub mod Acts
 pub mod Entries
 pub mod Histories
+pub mod Lawful

@@ -3,10 +3,10 @@ ghost use Rattle.std.specs.Prelude.{◌≡◌, ℕ, Bool, false, IfOk};
 
 use std::alloc::{AllocError, Global};
 
-/// A value that sections edit, show and copy.
-pub trait Editable {
+/// A value that sections edit, show and copy. Values and edits may be let go.
+pub trait Editable: Drop {
     /// A change of the value.
-    type Edit;
+    type Edit: Drop;
 
     // the value after an edit
     ghost after: { Self → Self.Edit → Self };

@@ -1,5 +1,5 @@
 // The history: the list of entries that the lock keeps.
-ghost use Rattle.std.specs.Prelude.{◌≡◌, ◌≤◌, ◌<◌, ◌-◌, ◌++◌, ◌∷◌, [], length, slice_get, Some, OnOk, OnErr, IsOk};
+ghost use Rattle.std.specs.Prelude.{◌≡◌, ◌≤◌, ◌<◌, ◌-◌, ◌^◌, ◌++◌, ◌∷◌, [], length, slice_get, Some, OnOk, OnErr, IsOk};
 ghost use Rattle.rvalue.specs.Histories.{no_entries, value_of};
 
 use crate::{Editable, Entry};
@@ -13,7 +13,7 @@ pub struct History<E> {
 }
 
 impl<E> Model for History<E> {
-    ghost use Rattle.std.specs.Prelude.{◌-◌, vec_len, vec_capacity};
+    ghost use Rattle.std.specs.Prelude.{◌-◌, ◌<◌, ◌^◌, length, vec_len, vec_capacity};
     ghost use Rattle.rvalue.specs.Histories.{HistoryContents, history_code};
 
     ghost Value = { HistoryContents E };
@@ -21,6 +21,8 @@ impl<E> Model for History<E> {
     ghost coded = { history_code E.code };
 
     ghost view = { λ a. record { entries = a.entries.items; spare = vec_capacity a.entries - vec_len a.entries } };
+
+    ghost invariant = { λ a. length a.entries.items < 2 ^ 63 };
 }
 
 impl<E> History<E> {
@@ -64,11 +66,19 @@ impl<E> History<E> {
         self.entries.push_reserved(entry);
     }
 
-    /// How many entries there are.
+    /// How many entries there are: always fewer than 2^63.
     pub fn len(&self) -> usize
-        ensures { result ≡ length self.now.entries }
+        ensures len { result ≡ length self.now.entries }
+        ensures few { result < 2 ^ 63 }
     {
         self.entries.len()
+    }
+
+    /// Lends the entries in order. Room is no part of what is lent.
+    pub fn entries(&self) -> &[Entry<E>]
+        ensures { result.now ≡ self.now.entries }
+    {
+        self.entries.as_slice()
     }
 
     /// The entry number `i`, counted from 0 in the order in which they were added.

@@ -4,8 +4,9 @@ ghost use Rattle.rvalue.specs.declared.act.Act.{Act};
 ghost use Rattle.rvalue.specs.Acts.{AnswersAreRight, IsAnsweredAfter};
 ghost use Rattle.rvalue.specs.Entries.{EntryFields, value_after_entry};
 ghost use Rattle.rvalue.specs.Histories.{value_of, HistoryAnswersRightly, EntryAnswersRightly};
+ghost use Rattle.rvalue.specs.Lawful.{IsLawful, IsRightEntry, AreOpenings};
 
-use crate::Editable;
+use crate::{Editable, Rules};
 
 /// After one more entry a resource has the value from before, with the entry's own edits on it.
 pub fn values_go_on<T: Editable>()
@@ -25,4 +26,19 @@ pub fn entries_go_on<T: Editable>()
     ensures { (openings : ℕ → T) (entries : List (EntryFields T.Edit)) (entry : EntryFields T.Edit) →
         HistoryAnswersRightly T.after T.taken T.number openings (entries ++ entry ∷ [])
         ↔ (HistoryAnswersRightly T.after T.taken T.number openings entries × EntryAnswersRightly T.after T.taken T.number openings entries entry) }
+{}
+
+/// A history with one more entry is lawful exactly where the history before is, and the entry may come after it.
+pub fn lawful_goes_on<T: Editable, R: Rules<T>>()
+    ensures { (entries : List (EntryFields T.Edit)) (entry : EntryFields T.Edit) →
+        IsLawful R.comes R.next R.reads R.writes T.after T.taken T.number R.first R.opens_at (entries ++ entry ∷ [])
+        ↔ (IsLawful R.comes R.next R.reads R.writes T.after T.taken T.number R.first R.opens_at entries
+        × IsRightEntry R.comes R.next R.reads R.writes T.after T.taken T.number R.first R.opens_at entries entry) }
+{}
+
+/// All answers of a lawful history are right, with any opening values that it may have.
+pub fn lawful_answers<T: Editable, R: Rules<T>>()
+    ensures { (openings : ℕ → T) (entries : List (EntryFields T.Edit)) → AreOpenings R.opens_at openings
+        → IsLawful R.comes R.next R.reads R.writes T.after T.taken T.number R.first R.opens_at entries
+        → HistoryAnswersRightly T.after T.taken T.number openings entries }
 {}

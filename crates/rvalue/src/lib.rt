@@ -11,15 +11,22 @@ mod entry;
 mod history;
 pub mod laws;
 mod ledger;
+mod rules;
 
 pub use act::Act;
 pub use editable::Editable;
 pub use entry::Entry;
 pub use history::History;
 pub use ledger::{Edit, Ledger};
+pub use rules::Rules;
 
 /// The greatest balance that an edit may leave in a ledger.
 pub const BALANCE_LIMIT: u64 = 1_000_000_000_000_000_000;
 
 /// How many edits a ledger counts; after that it takes none.
 pub const EDITS_LIMIT: u64 = u64::MAX;
+
+// The limits themselves: the definitions of ledgers name them, and another number would fit those as well.
+const _: () = prove!(BALANCE_LIMIT == 1_000_000_000 * 1_000_000_000);
+
+const _: () = prove!(EDITS_LIMIT == 18_446_744_073_709_551_615);
