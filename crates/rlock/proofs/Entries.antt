@@ -59,9 +59,9 @@ module _ {E : Type 0} (number : E → ℕ) where
   pub Appends-prefix : (n : ℕ) (seen list : List E) → Appends number n seen list → IsPrefix seen list
   Appends-prefix n seen list more = (more.0, sym more.1)
 
-  -- a list in which a number does not stand
-  pub apart_from : {A : Type 0} (f : A → ℕ) (n : ℕ) (xs : List A) → times n (map f xs) ≡ 0 → All (λ x. f x ≢ n) xs
-  apart_from {A} f n [] none = All-nil (λ x. f x ≢ n)
-  apart_from {A} f n (x ∷ xs) none = let P : A → Type 0 = λ x. f x ≢ n in
-      All-cons P x xs (λ e. omega (arith, none, ap (λ (k : ℕ). times n (k ∷ map f xs)) e, times_here n (map f xs)))
-      (apart_from f n xs (omega (arith, none, times-cons n (f x) (map f xs))))
+-- a list in which a number does not stand
+pub apart_from : {A : Type 0} (f : A → ℕ) (n : ℕ) (xs : List A) → times n (map f xs) ≡ 0 → All (λ x. f x ≢ n) xs
+apart_from {A} f n [] none = All-nil (λ x. f x ≢ n)
+apart_from {A} f n (x ∷ xs) none = let P : A → Type 0 = λ x. f x ≢ n in
+    All-cons P x xs (λ e. omega (arith, none, ap (λ (k : ℕ). times n (k ∷ map f xs)) e, times_here n (map f xs)))
+    (apart_from f n xs (omega (arith, none, times-cons n (f x) (map f xs))))

@@ -1,5 +1,5 @@
 -- What the plays tell of the seat of a pass.
-use Rattle.std.proofs.Common.{◌≡◌, ℕ, ◌+◌, ◌%◌, ◌^◌, arith, List, [], ◌∷◌, ◌++◌, sym, ap, ◌∙◌, subst, Option, Some}
+use Rattle.std.proofs.Common.{◌≡◌, ℕ, ◌+◌, ◌%◌, ◌^◌, arith, List, [], ◌∷◌, ◌++◌, refl, sym, ap, ◌∙◌, subst, Option, Some}
 use mathlib.Core.Option as maybe
 use Rattle.std.specs.Prelude.{All, map}
 use Rattle.std.proofs.lemmas.List.Elements.{All-nil, All-cons, All-head, All-tail}
@@ -8,67 +8,68 @@ use Rattle.atomic_table.specs.Table.{Me, step, rest}
 use Rattle.rlock.specs.declared.view.View.{View}
 use Rattle.rlock.specs.declared.view.Member.{Member}
 use Rattle.rlock.specs.declared.view.Mode.TheVariants.{Idle, Waiting, Served, Putting}
-use Rattle.rlock.specs.Known.{Known, IsTrueOf, entries_by, left}
+use Rattle.rlock.specs.Known.{GateId, Known, IsTrueOf, entries_by, left}
 use Rattle.rlock.specs.declared.view.Mode.{Mode}
-use Rattle.atomic_table.specs.Seated.{TableId}
-use Rattle.rlock.specs.Views.{IsViewOf, known_from, mine_of, opening_of, times, numbers_of}
+use Rattle.rlock.specs.Views.{IsViewOf, known_from, mine_of, opening_of, last_of, times, numbers_of}
 use Rattle.rlock.specs.Steps.{drawing, serving, putting, resting, joined, Holds, looked}
 use Rattle.rlock.specs.Covering.{Covers}
 use Rattle.rlock.proofs.Counting.{times-append, times_here}
 
-module _ {O E : Type 0} where
+module _ {S O E : Type 0} where
   -- what a view knows, as what its pass knows
-  pub true_of : (number : E → ℕ) (k : Known O E) (v : View O E) (o : O) (list : List E) (mode : Mode) → IsViewOf mode k v → Holds number v o list → IsTrueOf number k o list
-  true_of number k v o list mode (p, has, is) h = let h' = subst (λ (z : View O E). Holds number z o list) is h in record {
-    its_opening = has ∙ ap (λ (x : O). let y : Option O = Some x in y) (All-head (λ (m : Member O E). m.opening ≡ o) _ [] h'.openings);
+  pub true_of : (number : E → ℕ) (stays : ℕ → S → S → Type 0) (k : Known S O E) (v : View S O E) (o : O) (list : List E) (state : S) (mode : Mode S) → IsViewOf mode k v → Holds number stays v o list state → IsTrueOf number stays k o list state
+  true_of number stays k v o list state mode (p, last, has, has_last, is) h = let h' = subst (λ (z : View S O E). Holds number stays z o list state) is h in record {
+    its_opening = has ∙ ap (λ (x : O). let y : Option O = Some x in y) (All-head (λ (m : Member S O E). m.opening ≡ o) _ [] h'.openings);
     begins = h'.seen;
-    own = All-head (λ (m : Member O E). entries_by number m.number list ≡ m.mine) _ [] h'.made;
+    own = All-head (λ (m : Member S O E). entries_by number m.number list ≡ m.mine) _ [] h'.made;
+    its_last = (last, has_last, All-head (λ (m : Member S O E). stays m.number m.last state) _ [] h'.lasts);
   }
 
   -- the view of a pass after each step of its turn
-  pub drawn : (k : Known O E) (t : ℕ) (v w : View O E) → IsViewOf Idle k v → w ≡ drawing t v → IsViewOf (Waiting t) (record k { turns = k.turns + 1 }) w
-  drawn k t v w (o, has, is) now = (o, has, now ∙ ap (drawing t) is)
+  pub drawn : (k : Known S O E) (t : ℕ) (v w : View S O E) → IsViewOf Idle k v → w ≡ drawing t v → IsViewOf (Waiting t) (record k { turns = k.turns + 1 }) w
+  drawn k t v w (o, last, has, has_last, is) now = (o, last, has, has_last, now ∙ ap (drawing t) is)
 
-  pub served : (k : Known O E) (t : ℕ) (list : List E) (v w : View O E) → IsViewOf (Waiting t) k v → w ≡ serving t list v → IsViewOf (Served t) (record k { seen = list }) w
-  served k t list v w (o, has, is) now = (o, has, now ∙ ap (serving t list) is)
+  pub served : (k : Known S O E) (t : ℕ) (found : S) (list : List E) (v w : View S O E) → IsViewOf (Waiting t) k v → w ≡ serving t found list v → IsViewOf (Served t found) (record k { seen = list }) w
+  served k t found list v w (o, last, has, has_last, is) now = (o, last, has, has_last, now ∙ ap (serving t found list) is)
 
-  pub put : (k : Known O E) (t : ℕ) (list : List E) (v w : View O E) → IsViewOf (Served t) k v → w ≡ putting t list v → IsViewOf (Putting t) (left k list) w
-  put k t list v w (o, has, is) now = (o, has, now ∙ ap (putting t list) is)
+  pub put : (k : Known S O E) (t : ℕ) (found state : S) (list : List E) (v w : View S O E) → IsViewOf (Served t found) k v → w ≡ putting t state list v → IsViewOf (Putting t state) (left k list state) w
+  put k t found state list v w (o, last, has, has_last, is) now = (o, state, has, refl, now ∙ ap (putting t state list) is)
 
-  pub rested : (k : Known O E) (t : ℕ) (v w : View O E) → IsViewOf (Putting t) k v → w ≡ resting v → IsViewOf Idle k w
-  rested k t v w (o, has, is) now = (o, has, now ∙ ap resting is)
+  pub rested : (k : Known S O E) (t : ℕ) (state : S) (v w : View S O E) → IsViewOf (Putting t state) k v → w ≡ resting v → IsViewOf Idle k w
+  rested k t state v w (o, last, has, has_last, is) now = (o, last, has, has_last, now ∙ ap resting is)
 
   -- the pass is known again from its view
-  pub known_is : (gate : TableId) (n : ℕ) (v : View O E) (mode : Mode) (k : Known O E) → IsViewOf mode k v → gate ≡ k.gate → n ≡ k.number → known_from gate n v ≡ k
-  known_is gate n v mode k (o, has, is) same_gate same_number = λ i. record {
+  pub known_is : (gate : GateId) (n : ℕ) (v : View S O E) (mode : Mode S) (k : Known S O E) → IsViewOf mode k v → gate ≡ k.gate → n ≡ k.number → known_from gate n v ≡ k
+  known_is gate n v mode k (o, last, has, has_last, is) same_gate same_number = λ i. record {
     gate = same_gate i;
     number = same_number i;
-    opening = (ap (λ (z : View O E). opening_of z.members) is ∙ sym has) i;
-    seen = ap (λ (z : View O E). z.seen) is i;
-    mine = ap (λ (z : View O E). mine_of z.members) is i;
-    turns = ap (λ (z : View O E). z.turns) is i;
+    opening = (ap (λ (z : View S O E). opening_of z.members) is ∙ sym has) i;
+    seen = ap (λ (z : View S O E). z.seen) is i;
+    mine = ap (λ (z : View S O E). mine_of z.members) is i;
+    last = (ap (λ (z : View S O E). last_of z.members) is ∙ sym has_last) i;
+    turns = ap (λ (z : View S O E). z.turns) is i;
   }
 
-  pub known_again : (gate : TableId) (n : ℕ) (v : View O E) (mode : Mode) (k : Known O E) → IsViewOf mode k v → gate ≡ k.gate → n ≡ k.number → IsViewOf mode (known_from gate n v) v
-  known_again gate n v mode k is same_gate same_number = subst (λ (z : Known O E). IsViewOf mode z v) (sym (known_is gate n v mode k is same_gate same_number)) is
+  pub known_again : (gate : GateId) (n : ℕ) (v : View S O E) (mode : Mode S) (k : Known S O E) → IsViewOf mode k v → gate ≡ k.gate → n ≡ k.number → IsViewOf mode (known_from gate n v) v
+  known_again gate n v mode k is same_gate same_number = subst (λ (z : Known S O E). IsViewOf mode z v) (sym (known_is gate n v mode k is same_gate same_number)) is
 
-  pub mode_is : (mode : Mode) (k : Known O E) (v : View O E) → IsViewOf mode k v → v.mode ≡ mode
-  mode_is mode k v (o, has, is) = ap (λ (z : View O E). z.mode) is
+  pub mode_is : (mode : Mode S) (k : Known S O E) (v : View S O E) → IsViewOf mode k v → v.mode ≡ mode
+  mode_is mode k v (o, last, has, has_last, is) = ap (λ (z : View S O E). z.mode) is
 
   -- the one member of such a view
-  pub member_is : (mode : Mode) (k : Known O E) (v : View O E) (is : IsViewOf mode k v) → v.members ≡ record { number = k.number; opening = is.0; mine = k.mine } ∷ []
-  member_is mode k v (o, has, is) = ap (λ (z : View O E). z.members) is
+  pub member_is : (mode : Mode S) (k : Known S O E) (v : View S O E) (is : IsViewOf mode k v) → v.members ≡ record { number = k.number; opening = is.0; mine = k.mine; last = is.1 } ∷ []
+  member_is mode k v (o, last, has, has_last, is) = ap (λ (z : View S O E). z.members) is
 
 module _ {S O E : Type 0} where
   -- where its ticket was found, the pass has the state
-  pub found : (opening : S → O) (entries : S → List E) (number : E → ℕ) (k : Known O E) (t slots r : ℕ) (me me' : Me (Option S) (View O E)) → IsViewOf (Waiting t) k me.0 → me.1 ≡ []
-      → looked opening entries number (step slots 1 0 0 maybe.none) me r me' → r ≡ t % 2 ^ 64
-      → (state : S) × IsViewOf (Served t) (record k { seen = entries state }) me'.0 × (me'.1 ≡ (0, Some state) ∷ []) × IsTrueOf number k (opening state) (entries state)
-  found opening entries number k t slots r me me' waits none told hit = let got = (told t (mode_is (Waiting t) k me.0 waits)).0 hit in (
+  pub found : (opening : S → O) (entries : S → List E) (number : E → ℕ) (stays : ℕ → S → S → Type 0) (k : Known S O E) (t slots r : ℕ) (me me' : Me (Option S) (View S O E)) → IsViewOf (Waiting t) k me.0 → me.1 ≡ []
+      → looked opening entries number stays (step slots 1 0 0 maybe.none) me r me' → r ≡ t % 2 ^ 64
+      → (state : S) × IsViewOf (Served t state) (record k { seen = entries state }) me'.0 × (me'.1 ≡ (0, Some state) ∷ []) × IsTrueOf number stays k (opening state) (entries state) state
+  found opening entries number stays k t slots r me me' waits none told hit = let got = (told t (mode_is (Waiting t) k me.0 waits)).0 hit in (
     got.0,
-    served k t (entries got.0) me.0 me'.0 waits (ap (λ (m : Me (Option S) (View O E)). m.0) got.1),
-    ap (λ (m : Me (Option S) (View O E)). m.1) got.1 ∙ ap (λ (cs : List (ℕ × Option S)). (0, Some got.0) ∷ cs) none,
-    true_of number k me.0 (opening got.0) (entries got.0) (Waiting t) waits got.2,
+    served k t got.0 (entries got.0) me.0 me'.0 waits (ap (λ (m : Me (Option S) (View S O E)). m.0) got.1),
+    ap (λ (m : Me (Option S) (View S O E)). m.1) got.1 ∙ ap (λ (cs : List (ℕ × Option S)). (0, Some got.0) ∷ cs) none,
+    true_of number stays k me.0 (opening got.0) (entries got.0) got.0 (Waiting t) waits got.2,
   )
 
 module _ {S : Type 0} where
@@ -97,36 +98,32 @@ module _ {X : Type 0} (P : X → Type 0) where
   all_right [] ys all = all
   all_right (x ∷ xs) ys all = all_right xs ys (All-tail P x (xs ++ ys) all)
 
-module _ {O E : Type 0} (number : E → ℕ) where
+module _ {S O E : Type 0} (number : E → ℕ) (stays : ℕ → S → S → Type 0) where
   -- what two views know together is what each of them knows
-  joined_knows : (v w : View O E) (o : O) (list : List E) → Holds number (joined v w) o list → Holds number v o list × Holds number w o list
-  joined_knows v w o list h = let Begins : List E → Type 0 = λ old. IsPrefix old list in let Opened : Member O E → Type 0 = λ m. m.opening ≡ o in let Made : Member O E → Type 0 = λ m. entries_by number m.number list ≡ m.mine in
+  joined_knows : (v w : View S O E) (o : O) (list : List E) (state : S) → Holds number stays (joined v w) o list state → Holds number stays v o list state × Holds number stays w o list state
+  joined_knows v w o list state h = let Stayed : Member S O E → Type 0 = λ m. stays m.number m.last state in let Begins : List E → Type 0 = λ old. IsPrefix old list in let Opened : Member S O E → Type 0 = λ m. m.opening ≡ o in let Made : Member S O E → Type 0 = λ m. entries_by number m.number list ≡ m.mine in
       let seens = all_right Begins v.olds (v.seen ∷ w.seen ∷ w.olds) h.olds in let later = All-tail Begins v.seen (w.seen ∷ w.olds) seens in (
-        record { openings = all_left Opened v.members w.members h.openings; seen = All-head Begins v.seen (w.seen ∷ w.olds) seens; olds = all_left Begins v.olds (v.seen ∷ w.seen ∷ w.olds) h.olds; made = all_left Made v.members w.members h.made },
-        record { openings = all_right Opened v.members w.members h.openings; seen = All-head Begins w.seen w.olds later; olds = All-tail Begins w.seen w.olds later; made = all_right Made v.members w.members h.made },
+        record { openings = all_left Opened v.members w.members h.openings; seen = All-head Begins v.seen (w.seen ∷ w.olds) seens; olds = all_left Begins v.olds (v.seen ∷ w.seen ∷ w.olds) h.olds; made = all_left Made v.members w.members h.made; lasts = all_left Stayed v.members w.members h.lasts },
+        record { openings = all_right Opened v.members w.members h.openings; seen = All-head Begins w.seen w.olds later; olds = All-tail Begins w.seen w.olds later; made = all_right Made v.members w.members h.made; lasts = all_right Stayed v.members w.members h.lasts },
       )
 
-  joined_numbers : (n : ℕ) (v w : View O E) → times n (numbers_of (joined v w)) ≡ times n (numbers_of v) + times n (numbers_of w)
-  joined_numbers n v w = let numbers = λ (ms : List (Member O E)). map (λ (m : Member O E). m.number) ms in omega (
+  joined_numbers : (n : ℕ) (v w : View S O E) → times n (numbers_of (joined v w)) ≡ times n (numbers_of v) + times n (numbers_of w)
+  joined_numbers n v w = let numbers = λ (ms : List (Member S O E)). map (λ (m : Member S O E). m.number) ms in omega (
     arith,
-    times-append n (numbers (v.members ++ w.members)) (v.unmade ++ w.unmade),
-    ap (times n) (map-append (λ (m : Member O E). m.number) v.members w.members),
+    ap (times n) (map-append (λ (m : Member S O E). m.number) v.members w.members),
     times-append n (numbers v.members) (numbers w.members),
-    times-append n v.unmade w.unmade,
-    times-append n (numbers v.members) v.unmade,
-    times-append n (numbers w.members) w.unmade,
   )
 
   -- a view that takes in another covers what either of them covers
-  pub covers_before : (v w : View O E) (k : Known O E) → Covers number v k → Covers number (joined v w) k
-  covers_before v w k c = record { has = omega (arith, c.has, joined_numbers k.number v w); knows = λ o list h. c.knows o list (joined_knows v w o list h).0 }
+  pub covers_before : (v w : View S O E) (k : Known S O E) → Covers number stays v k → Covers number stays (joined v w) k
+  covers_before v w k c = record { has = omega (arith, c.has, joined_numbers k.number v w); knows = λ o list state h. c.knows o list state (joined_knows v w o list state h).0 }
 
-  pub covers_taken : (v w : View O E) (k : Known O E) → Covers number w k → Covers number (joined v w) k
-  covers_taken v w k c = record { has = omega (arith, c.has, joined_numbers k.number v w); knows = λ o list h. c.knows o list (joined_knows v w o list h).1 }
+  pub covers_taken : (v w : View S O E) (k : Known S O E) → Covers number stays w k → Covers number stays (joined v w) k
+  covers_taken v w k c = record { has = omega (arith, c.has, joined_numbers k.number v w); knows = λ o list state h. c.knows o list state (joined_knows v w o list state h).1 }
 
   -- the view of a pass covers it
-  pub covers_itself : (v : View O E) (mode : Mode) (k : Known O E) → IsViewOf mode k v → Covers number v k
+  pub covers_itself : (v : View S O E) (mode : Mode S) (k : Known S O E) → IsViewOf mode k v → Covers number stays v k
   covers_itself v mode k is = record {
-    has = omega (arith, ap (λ (z : View O E). times k.number (numbers_of z)) is.2, times_here k.number []);
-    knows = λ o list h. true_of number k v o list mode is h;
+    has = omega (arith, ap (λ (z : View S O E). times k.number (numbers_of z)) is.4, times_here k.number []);
+    knows = λ o list state h. true_of number stays k v o list state mode is h;
   }

@@ -18,7 +18,7 @@ impl<S: Kept> Gate<S> {
     pub fn close(self, mut passes: Vec<Pass<S>>) -> S
         requires gate { All (λ p. p.gate ≡ self.gate) passes.items }
         requires all { (n : ℕ) → n < self.passes → Any (λ p. p.number ≡ n) passes.items }
-        ensures passes { All (λ p. IsTrueOf S.number p (S.opening result) (S.entries result)) passes.items }
+        ensures passes { All (λ p. IsTrueOf S.number S.stays p (S.opening result) (S.entries result) result) passes.items }
         ensures entries { All (λ e. S.number e < self.passes) (S.entries result) }
     {
         // The gate's invariant: it has a pass.
@@ -31,8 +31,8 @@ impl<S: Kept> Gate<S> {
     fn close_and(self, passes: Vec<Pass<S>>, last: Pass<S>) -> S
         requires gate { All (λ p. p.gate ≡ self.gate) passes.items × (last.gate ≡ self.gate) }
         requires all { (n : ℕ) → n < self.passes → Any (λ p. p.number ≡ n) passes.items ⊎ (last.number ≡ n) }
-        ensures passes { All (λ p. IsTrueOf S.number p (S.opening result) (S.entries result)) passes.items }
-        ensures last { IsTrueOf S.number last (S.opening result) (S.entries result) }
+        ensures passes { All (λ p. IsTrueOf S.number S.stays p (S.opening result) (S.entries result) result) passes.items }
+        ensures last { IsTrueOf S.number S.stays last (S.opening result) (S.entries result) result }
         ensures entries { All (λ e. S.number e < self.passes) (S.entries result) }
     {
         let Gate { board } = self;
@@ -47,8 +47,8 @@ fn taken_in<S: Kept>(board: &Board<S>, passes: Vec<Pass<S>>, mut place: Place<S>
     requires table { IsSized board.now.shared.table_id × IsIdleAt board.now.shared.table_id place }
     requires passes { All (λ p. p.gate ≡ board.now.shared.table_id) passes.items }
     ensures idle { IsIdleAt board.now.shared.table_id result }
-    ensures passes { All (Covers S.number result.me.0) passes.items }
-    ensures before { (k : Known S.Opening S.Entry) → Covers S.number place.me.0 k → Covers S.number result.me.0 k }
+    ensures passes { All (Covers S.number S.stays result.me.0) passes.items }
+    ensures before { (k : Known S S.Opening S.Entry) → Covers S.number S.stays place.me.0 k → Covers S.number S.stays result.me.0 k }
 {
     for pass in passes {
         let Pass { place: other, .. } = pass;
@@ -61,7 +61,7 @@ fn taken_in<S: Kept>(board: &Board<S>, passes: Vec<Pass<S>>, mut place: Place<S>
 fn last_state<S: Kept>(board: Board<S>, place: Place<S>) -> S
     requires table { IsSized board.shared.table_id × IsIdleAt board.shared.table_id place }
     requires all { (n : ℕ) → n < board.shared.key.passes → 0 < times n (numbers_of place.me.0) }
-    ensures knows { Holds S.number place.me.0 (S.opening result) (S.entries result) }
+    ensures knows { Holds S.number S.stays place.me.0 (S.opening result) (S.entries result) result }
     ensures entries { All (λ e. S.number e < board.shared.key.passes) (S.entries result) }
 {
     let mut closed = board.close_with(place);

@@ -1,13 +1,13 @@
 //! A gate, and the turns that are taken at it.
 ghost use Rattle.std.specs.Prelude.{◌≡◌, ◌≢◌, ℕ, ◌+◌, ◌%◌, ◌^◌, [], ◌∷◌, Some, None};
 ghost use Rattle.rlock.specs.declared.view.Mode.TheVariants.{Waiting, Served, Putting};
-ghost use Rattle.rlock.specs.Known.{Known, Appends, IsTrueOf, entered, left};
+ghost use Rattle.rlock.specs.Known.{Known, Appends, KeepsOthers, IsTrueOf, entered, left};
 ghost use Rattle.rlock.specs.Steps.{Rests, Waits, Serves, Puts};
 
 use crate::board::{Board, Place};
 use crate::kept::Kept;
 use crate::pass::Pass;
-use crate::plays::{Draw, Listing, Look, Note, Return};
+use crate::plays::{Draw, Look, Note, Return, Telling};
 use crate::turn::{Holder, Turn};
 use std::marker::{Brand, Model};
 use std::sync::Wait;
@@ -36,11 +36,13 @@ impl<S: Kept> Model for Gate<S> {
 impl<S: Kept> Gate<S> {
     /// Waits for the turn of a pass of this gate, and takes the state.
     ///
-    /// What the pass knows is true of the state. The pass has then seen the state's list, and has had one turn more.
+    /// What the pass knows is true of the state: since the pass left it, others have done to it only what turns of others may.
+    /// The pass has then seen the state's list, and has had one turn more.
     pub fn enter<R: Wait>(&self, rt: &R, pass: Pass<S>) -> Turn<S>
         requires { pass.gate ≡ self.now.gate }
         ensures pass { result.pass ≡ entered pass (S.entries result.state) }
-        ensures state { IsTrueOf S.number pass (S.opening result.state) (S.entries result.state) }
+        ensures found { result.found ≡ Some result.state }
+        ensures state { IsTrueOf S.number S.stays pass (S.opening result.state) (S.entries result.state) result.state }
     {
         let Pass { mut place, number } = pass;
         let ticket = self.board.shared.fetch_add::<Draw>(&mut place, 0, 1);
@@ -52,9 +54,9 @@ impl<S: Kept> Gate<S> {
     // Looks which ticket is served until it is this one, and takes the state.
     fn await_ticket<R: Wait>(&self, rt: &R, place: &mut Place<S>, ticket: u64) -> S
         requires gate { place.old.table_id ≡ self.now.gate }
-        requires ready { (k : Known S.Opening S.Entry) × (t : ℕ) × Waits place.old k t × (t % 2 ^ 64 ≡ ticket) }
+        requires ready { (k : Known S S.Opening S.Entry) × (t : ℕ) × Waits place.old k t × (t % 2 ^ 64 ≡ ticket) }
         ensures same { (place.new.table_id ≡ place.old.table_id) × (place.new.id ≡ place.old.id) }
-        ensures served { (k : Known S.Opening S.Entry) (t : ℕ) → Waits place.old k t → Serves place.new (record k { seen = S.entries result }) t × IsTrueOf S.number k (S.opening result) (S.entries result) }
+        ensures served { (k : Known S S.Opening S.Entry) (t : ℕ) → Waits place.old k t → Serves place.new (record k { seen = S.entries result }) t result × IsTrueOf S.number S.stays k (S.opening result) (S.entries result) result }
     {
         for _ in rt.forever() {
             if self.board.shared.load::<Look>(place, 1) == ticket {
@@ -66,14 +68,16 @@ impl<S: Kept> Gate<S> {
         unreachable!()
     }
 
-    /// Gives the state back, and ends the turn. Its opening has to be as it was at the entry, and its list the one at the entry with entries of this pass behind it.
+    /// Gives the state back, and ends the turn. Its opening has to be as it was at the entry, its list the one at the entry with entries of this pass behind it,
+    /// and what the turn did to it something that every other pass lets the turns of others do.
     ///
-    /// The pass has then seen the list that it left, and made its new entries.
+    /// The pass has then seen the list that it left, made its new entries, and left this state last.
     pub fn leave(&self, turn: Turn<S>) -> Pass<S>
         requires gate { turn.pass.gate ≡ self.now.gate }
         requires opening { turn.pass.opening ≡ Some (S.opening turn.state) }
         requires entries { Appends S.number turn.pass.number turn.pass.seen (S.entries turn.state) }
-        ensures { result ≡ left turn.pass (S.entries turn.state) }
+        requires others { (found : S) → turn.found ≡ Some found → KeepsOthers S.stays turn.pass.number found turn.state }
+        ensures { result ≡ left turn.pass (S.entries turn.state) turn.state }
     {
         let Turn { holder, state } = turn;
         let Holder { mut place, number } = holder;
@@ -82,13 +86,13 @@ impl<S: Kept> Gate<S> {
         Pass { place, number }
     }
 
-    // The list of the state, which is out with the pass, is the kept one from now on.
-    fn note<L: Listing<S::Entry>>(&self, place: &mut Place<S>, state: &S)
+    // The state, which is out with the pass, is from now on what others will find, and its list the kept one.
+    fn note<L: Telling<S>>(&self, place: &mut Place<S>, state: &S)
         requires gate { place.old.table_id ≡ self.now.gate }
-        requires listing { L.list ≡ S.entries state.now }
-        requires ready { (k : Known S.Opening S.Entry) × (t : ℕ) × Serves place.old k t × Appends S.number k.number k.seen (S.entries state.now) }
+        requires telling { L.told ≡ Some state.now }
+        requires ready { (k : Known S S.Opening S.Entry) × (t : ℕ) × (found : S) × Serves place.old k t found × Appends S.number k.number k.seen (S.entries state.now) × KeepsOthers S.stays k.number found state.now }
         ensures same { (place.new.table_id ≡ place.old.table_id) × (place.new.id ≡ place.old.id) }
-        ensures noted { (k : Known S.Opening S.Entry) (t : ℕ) → Serves place.old k t → Puts place.new (left k (S.entries state.now)) t }
+        ensures noted { (k : Known S S.Opening S.Entry) (t : ℕ) (found : S) → Serves place.old k t found → Puts place.new (left k (S.entries state.now) state.now) t state.now }
     {
         self.board.shared.fetch_add::<Note<L>>(place, 1, 0);
     }
@@ -96,9 +100,9 @@ impl<S: Kept> Gate<S> {
     // Puts the state in its place, and lets the next pass go on.
     fn put_back(&self, place: &mut Place<S>, state: S)
         requires gate { place.old.table_id ≡ self.now.gate }
-        requires ready { (k : Known S.Opening S.Entry) × (t : ℕ) × Puts place.old k t × (k.opening ≡ Some (S.opening state)) × (S.entries state ≡ k.seen) }
+        requires ready { (k : Known S S.Opening S.Entry) × (t : ℕ) × Puts place.old k t state × (k.opening ≡ Some (S.opening state)) × (S.entries state ≡ k.seen) }
         ensures same { (place.new.table_id ≡ place.old.table_id) × (place.new.id ≡ place.old.id) }
-        ensures idle { (k : Known S.Opening S.Entry) (t : ℕ) → Puts place.old k t → Rests place.new k }
+        ensures idle { (k : Known S S.Opening S.Entry) (t : ℕ) → Puts place.old k t state → Rests place.new k }
     {
         let shared = &self.board.shared;
         let vacant = shared.exchange(place, 0, Some(state));

@@ -2,6 +2,8 @@
 ghost use Rattle.std.specs.Prelude.{ℕ, List};
 
 /// A state with an opening, which no turn changes, and a list of entries, each made by a pass.
+///
+/// Beside these it says what the turns of other passes leave as a pass left it: that is what the pass finds at its next turn.
 pub trait Kept {
     /// What the state was when the gate was made.
     type Opening;
@@ -16,4 +18,13 @@ pub trait Kept {
 
     // The number of the pass that made an entry.
     ghost number: { Self.Entry → ℕ };
+
+    // What the turns of others may do to the state, as the pass with this number sees it: `stays n before after`.
+    ghost stays: { ℕ → Self → Self → Type 0 };
+
+    // They may do nothing.
+    ghost stays_refl: { (n : ℕ) (state : Self) → stays n state state };
+
+    // What two turns may do one after the other is something that turns may do.
+    ghost stays_trans: { (n : ℕ) (before between after : Self) → stays n before between → stays n between after → stays n before after };
 }

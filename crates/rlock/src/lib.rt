@@ -2,7 +2,8 @@
 //!
 //! A gate keeps one state, which has an opening that no turn changes and a list of entries. A pass takes turns at it:
 //! `enter` waits for the pass's turn, and `leave` ends it. What a pass has seen and made stands in the contracts as lists,
-//! and `close` says that all of it stands in the one list that the state has in the end.
+//! and `close` says that all of it stands in the one list that the state has in the end. What a turn does to the rest of the
+//! state every other pass has to allow, so that at its next turn a pass finds its own part as it left it.
 #![tactic(auto)]
 
 mod board;
@@ -12,9 +13,8 @@ mod kept;
 mod opening;
 mod pass;
 mod plays;
-pub mod roll;
-#[cfg(test)]
-mod tests;
+mod roll;
+mod shelf;
 mod turn;
 mod view;
 

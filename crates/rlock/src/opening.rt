@@ -13,7 +13,7 @@ use std::alloc::{AllocError, Global};
 use std::snapshot::Snapshot;
 
 impl<S: Kept + Drop> Gate<S> {
-    /// A gate before this state, and its passes, numbered from 0 in order. None of them has seen or made anything.
+    /// A gate before this state, and its passes, numbered from 0 in order. None of them has seen or made anything, and each knows the state as it is now.
     ///
     /// At `Err` there was no memory, and the state is dropped.
     pub fn new(alloc: Global, state: S, passes: u8) -> Result<(Gate<S>, Vec<Pass<S>>), AllocError>
@@ -21,7 +21,7 @@ impl<S: Kept + Drop> Gate<S> {
         requires no_entries { S.entries state ≡ [] }
         ensures count { IfOk result (λ r. (r.0.passes ≡ passes) × (length r.1.items ≡ passes)) }
         ensures gate { IfOk result (λ r. All (λ p. p.gate ≡ r.0.gate) r.1.items) }
-        ensures each { IfOk result (λ r. (k : ℕ) → k < passes → slice_get r.1.items k ≡ Some (newcomer r.0.gate k (S.opening state))) }
+        ensures each { IfOk result (λ r. (k : ℕ) → k < passes → slice_get r.1.items k ≡ Some (newcomer r.0.gate k (S.opening state) state)) }
     {
         let setup = Setup {
             passes: u64::from(passes),
@@ -42,7 +42,7 @@ fn laid<S: Kept + Drop>(
     requires count { (0 < setup.now.passes) × (setup.now.passes < 256) }
     requires state { (setup.now.first.value ≡ state) × (S.entries state ≡ []) }
     ensures gate { IfOk result (λ r. (r.0.passes ≡ setup.now.passes) × (r.1.table_id ≡ r.0.gate)) }
-    ensures seat { IfOk result (λ r. r.1.me ≡ (first_view setup.now.passes (S.opening state), [])) }
+    ensures seat { IfOk result (λ r. r.1.me ≡ (first_view setup.now.passes (S.opening state) state, [])) }
 {
     let mut slots = Vec::new(alloc);
     slots.push(Some(state))?;
@@ -63,8 +63,8 @@ impl<S: Kept> Gate<S> {
     ) -> Result<Vec<Pass<S>>, AllocError>
         requires gate { place.table_id ≡ self.now.gate }
         requires count { (0 < count) × (setup.now.passes ≡ count) }
-        requires seat { place.me ≡ (first_view count (S.opening setup.now.first.value), []) }
-        ensures { IfOk result (λ v. v.items ≡ newcomers place.table_id (S.opening setup.now.first.value) 0 count) }
+        requires seat { place.me ≡ (first_view count (S.opening setup.now.first.value) setup.now.first.value, []) }
+        ensures { IfOk result (λ v. v.items ≡ newcomers place.table_id (S.opening setup.now.first.value) setup.now.first.value 0 count) }
     {
         let mut all = Vec::new(alloc);
         for number in 1..count {

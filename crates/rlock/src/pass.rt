@@ -10,7 +10,8 @@ use std::marker::Model;
 /// A right to take turns at one gate. It cannot be copied.
 ///
 /// Contracts see which gate it is of, its `number`, the `opening` of the state behind that gate, the list of entries as
-/// the pass has `seen` it last, those of them that are `mine`, and the number of `turns` that the pass has had.
+/// the pass has `seen` it last, those of them that are `mine`, the state as the pass left it `last`, and the number of
+/// `turns` that the pass has had.
 #[derive(Drop)]
 pub struct Pass<S: Kept> {
     pub(crate) place: Place<S>,
@@ -23,7 +24,7 @@ impl<S: Kept> Model for Pass<S> {
     ghost use Rattle.rlock.specs.Views.{known_from, IsViewOf};
     ghost use Rattle.rlock.specs.declared.view.Mode.TheVariants.{Idle};
 
-    ghost Value = { Known S.Opening S.Entry };
+    ghost Value = { Known S S.Opening S.Entry };
 
     ghost view = { λ p. known_from p.place.table_id p.number p.place.me.0 };
 
@@ -33,8 +34,8 @@ impl<S: Kept> Model for Pass<S> {
 impl<S: Kept> Pass<S> {
     // The pass of a seat that rests.
     pub(crate) fn of(place: Place<S>, number: u8) -> Pass<S>
-        requires { (k : Known S.Opening S.Entry) × RestsAs place number k }
-        ensures { (k : Known S.Opening S.Entry) → RestsAs place number k → result ≡ k }
+        requires { (k : Known S S.Opening S.Entry) × RestsAs place number k }
+        ensures { (k : Known S S.Opening S.Entry) → RestsAs place number k → result ≡ k }
     {
         Pass { place, number }
     }

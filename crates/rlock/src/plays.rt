@@ -1,5 +1,5 @@
 //! What each step on the table tells, and how passes are split and joined.
-ghost use Rattle.std.specs.Prelude.{List, []};
+ghost use Rattle.std.specs.Prelude.{Option, None};
 ghost use Rattle.rlock.specs.Steps.{drew, looked, noted, returned, giving, given, joined, spent};
 
 use crate::kept::Kept;
@@ -10,46 +10,46 @@ use std::marker::{Brand, PhantomData};
 /// A pass draws a ticket.
 pub(crate) struct Draw;
 
-impl<S: Kept> Play<Option<S>, View<S::Opening, S::Entry>> for Draw {
+impl<S: Kept> Play<Option<S>, View<S, S::Opening, S::Entry>> for Draw {
     ghost then = { drew };
 }
 
 /// A pass looks which ticket is served.
 pub(crate) struct Look;
 
-impl<S: Kept> Play<Option<S>, View<S::Opening, S::Entry>> for Look {
-    ghost then = { looked S.opening S.entries S.number };
+impl<S: Kept> Play<Option<S>, View<S, S::Opening, S::Entry>> for Look {
+    ghost then = { looked S.opening S.entries S.number S.stays };
 }
 
-/// A list that a call picks.
-pub(crate) trait Listing<E> {
-    ghost list: { List E };
+/// A state that a call picks.
+pub(crate) trait Telling<S> {
+    ghost told: { Option S };
 }
 
-impl<E> Listing<E> for Brand {
-    ghost list = { [] };
+impl<S> Telling<S> for Brand {
+    ghost told = { None };
 }
 
-/// A pass tells its new list, while the state is out of its place.
+/// A pass tells the state that it leaves, while that is out of its place.
 pub(crate) struct Note<L> {
-    listing: PhantomData<L>,
+    telling: PhantomData<L>,
 }
 
-impl<S: Kept, L: Listing<S::Entry>> Play<Option<S>, View<S::Opening, S::Entry>> for Note<L> {
-    ghost then = { noted L.list };
+impl<S: Kept, L: Telling<S>> Play<Option<S>, View<S, S::Opening, S::Entry>> for Note<L> {
+    ghost then = { noted S.entries L.told };
 }
 
 /// The state is back in its place, and the next ticket is served.
 pub(crate) struct Return;
 
-impl<S: Kept> Play<Option<S>, View<S::Opening, S::Entry>> for Return {
+impl<S: Kept> Play<Option<S>, View<S, S::Opening, S::Entry>> for Return {
     ghost then = { returned };
 }
 
-/// A pass gives out its least number.
+/// A pass gives out the least number that it has beside its own.
 pub(crate) struct GiveOut;
 
-impl<O, E> Split<View<O, E>> for GiveOut {
+impl<S, O, E> Split<View<S, O, E>> for GiveOut {
     ghost left = { giving };
 
     ghost right = { given };
@@ -58,7 +58,7 @@ impl<O, E> Split<View<O, E>> for GiveOut {
 /// A pass takes in what another knows.
 pub(crate) struct TakeIn;
 
-impl<O, E> Join<View<O, E>> for TakeIn {
+impl<S, O, E> Join<View<S, O, E>> for TakeIn {
     ghost both = { joined };
 
     ghost spent = { spent };

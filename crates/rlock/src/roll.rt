@@ -36,6 +36,13 @@ impl Kept for Roll {
     ghost entries = { λ r. r.signed.items };
 
     ghost number = { λ s. s.pass };
+
+    // What a pass needs to know of a roll stands in the list.
+    ghost stays = { λ n before after. Unit {0} };
+
+    ghost stays_refl = { λ n state. tt };
+
+    ghost stays_trans = { λ n before between after p q. tt };
 }
 
 impl Roll {

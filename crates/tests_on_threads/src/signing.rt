@@ -1,15 +1,41 @@
+//! Passes sign a roll behind a gate, on several threads.
 ghost use Rattle.std.specs.Prelude.{◌≡◌, ℕ, ◌<◌, length, All, IsTrue, IfOk, slice_index_or};
 ghost use denote.Param.Send.{IsSync};
 ghost use Rattle.rlock.specs.Known.{Known};
-ghost use Rattle.rlock.specs.declared.roll.Signature.{Signature};
+ghost use Rattle.tests_on_threads.specs.declared.roll.Roll.{Roll};
+ghost use Rattle.tests_on_threads.specs.declared.roll.Signature.{Signature};
 
-use crate::roll::{Roll, sign_in};
-use crate::{Gate, Pass};
+use crate::roll::Roll;
+use rlock::{Gate, Pass};
+use rset::SEATS;
 use std::alloc::{AllocError, Global};
 use std::process::Abort;
 use std::sync::Wait;
 use std::test::Fail;
 use std::thread::{Threads, join};
+
+// What may go to another thread.
+fn may_go<T: Send>(value: T) -> T
+    ensures { result ≡ value }
+{
+    value
+}
+
+// Signs the roll in one turn of the pass, which comes back. At `Err` there was no memory.
+fn sign_in<R: Wait>(
+    rt: &R,
+    gate: &Gate<Roll>,
+    pass: Pass<Roll>,
+    time: u32,
+) -> (Pass<Roll>, Result<(), AllocError>)
+    requires { pass.gate ≡ gate.now.gate }
+    ensures { result.0.gate ≡ gate.now.gate }
+{
+    let number = pass.number();
+    let mut turn = may_go(gate.enter(rt, pass));
+    let signed = turn.state().sign(number, time);
+    (gate.leave(turn), signed)
+}
 
 fn sign_often<R: Wait>(
     rt: &R,
@@ -98,7 +124,7 @@ fn sign_in_four<R: Threads + Wait + AllocGlobal + Sync>(
 
 // Whether the passes are numbered from 0 in their order.
 fn are_in_order(passes: &[Pass<Roll>]) -> bool
-    ensures { IsTrue result → (k : ℕ) (d : Known ℕ Signature) → k < length passes.now → (slice_index_or passes.now k d).number ≡ k }
+    ensures { IsTrue result → (k : ℕ) (d : Known Roll ℕ Signature) → k < length passes.now → (slice_index_or passes.now k d).number ≡ k }
 {
     for (k, pass) in passes.iter().enumerate() {
         if usize::from(pass.number()) != k {
@@ -151,11 +177,11 @@ fn two_passes_on_two_threads(rt: HostRuntime) -> Result<(), Fail> {
 
 #[test]
 fn many_passes_on_four_threads(rt: HostRuntime) -> Result<(), Fail> {
-    let (gate, passes) = Gate::new(rt.alloc(), Roll::new(rt.alloc(), 9), 64)?;
+    let (gate, passes) = Gate::new(rt.alloc(), Roll::new(rt.alloc(), 9), SEATS)?;
     let passes = sign_in_four(&rt, &gate, passes, 100)?;
-    let roll = closed(&rt, gate, passes, 64);
-    assert!(rt; roll.day == 9 && roll.signed.len() == 6400);
-    for pass in 0..64 {
+    let roll = closed(&rt, gate, passes, SEATS);
+    assert!(rt; roll.day == 9 && roll.signed.len() == 100 * usize::from(SEATS));
+    for pass in 0..SEATS {
         assert!(rt; signed_in_order(&rt, &roll, pass) == 100);
     }
     Ok(())

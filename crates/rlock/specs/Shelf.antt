@@ -1,0 +1,13 @@
+-- What is out with a pass, and what it put home.
+use Rattle.std.specs.Prelude.{◌≡◌, ℕ, Some, slice_get}
+use Rattle.rlock.specs.declared.shelf.Shelf.{Shelf}
+use Rattle.rlock.specs.declared.shelf.Spot.TheVariants.{Home, Out}
+use Rattle.rlock.specs.Known.{Known}
+
+-- the value of this spot was out with the pass as it left the shelf last
+abbrev pub HasOut : {O E : Type 0} → Known Shelf O E → ℕ → Type 0
+HasOut pass spot = (last : Shelf) → pass.last ≡ Some last → slice_get last.spots.items spot ≡ Some (Out pass.number)
+
+-- this value was in the spot as the pass left the shelf last
+abbrev pub HasHome : {O E : Type 0} → Known Shelf O E → ℕ → ℕ → Type 0
+HasHome pass spot value = (last : Shelf) → pass.last ≡ Some last → slice_get last.spots.items spot ≡ Some (Home value)

@@ -1,0 +1,135 @@
+//! A sample state whose parts go out with a pass: what a pass took in one turn is out with it still at its next.
+ghost use Rattle.std.specs.Prelude.{◌≡◌, ◌≢◌, ℕ, Some, None, IfSome, slice_get, slice_set};
+ghost use Rattle.rlock.specs.declared.shelf.Spot.TheVariants.{Home, Out};
+ghost use Rattle.rlock.specs.Known.{IsSamePass};
+
+use crate::gate::Gate;
+use crate::kept::Kept;
+use crate::pass::Pass;
+use std::sync::Wait;
+
+/// Where a value is.
+#[derive(Drop)]
+pub enum Spot {
+    /// It is on the shelf.
+    Home(u64),
+    /// The pass with this number has it.
+    Out(u8),
+}
+
+/// Spots for values, which passes take out and give home. It keeps no entries.
+#[derive(Drop)]
+pub struct Shelf {
+    pub spots: Vec<Spot>,
+}
+
+impl Kept for Shelf {
+    ghost use Rattle.std.specs.Prelude.{[]};
+
+    type Opening = ();
+
+    type Entry = ();
+
+    ghost opening = { λ shelf. tt };
+
+    ghost entries = { λ shelf. [] };
+
+    ghost number = { λ entry. 0 };
+
+    // What is out with a pass stays out with it.
+    ghost stays = { λ n before after. (spot : ℕ) → slice_get before.spots.items spot ≡ Some (Out n) → slice_get after.spots.items spot ≡ Some (Out n) };
+
+    ghost stays_refl = { λ n shelf spot out. out };
+
+    ghost stays_trans = { λ n before between after p q spot out. q spot (p spot out) };
+}
+
+impl Shelf {
+    /// Takes out the value of a spot for the pass, where it is at home. Else nothing changes.
+    pub fn take(&mut self, spot: usize, pass: u8) -> Option<u64>
+        ensures taken { IfSome result (λ value. (slice_get self.old.spots.items spot ≡ Some (Home value)) × (self.new.spots.items ≡ slice_set self.old.spots.items spot (Out pass))) }
+        ensures none { result ≡ None → self.new.spots.items ≡ self.old.spots.items }
+    {
+        let at = self.spots.get_mut(spot)?;
+        let Spot::Home(value) = *at else {
+            return None;
+        };
+        *at = Spot::Out(pass);
+        Some(value)
+    }
+
+    /// Puts the value of a spot home, which is out with the pass.
+    pub fn put(&mut self, spot: usize, pass: u8, value: u64)
+        requires { slice_get self.old.spots.items spot ≡ Some (Out pass) }
+        ensures { self.new.spots.items ≡ slice_set self.old.spots.items spot (Home value) }
+    {
+        self.spots[spot] = Spot::Home(value);
+    }
+}
+
+impl Gate<Shelf> {
+    ghost use Rattle.rlock.specs.Shelf.{HasOut, HasHome};
+
+    /// Takes out the value of a spot in one turn of the pass, where it is at home.
+    /// What was out with the pass is out with it still.
+    pub fn take_out<R: Wait>(
+        &self,
+        rt: &R,
+        pass: Pass<Shelf>,
+        spot: usize,
+    ) -> (Pass<Shelf>, Option<u64>)
+        requires { pass.gate ≡ self.now.gate }
+        ensures same { IsSamePass pass result.0 }
+        ensures out { IfSome result.1 (λ value. HasOut result.0 spot) }
+        ensures kept { (other : ℕ) → HasOut pass other → HasOut result.0 other }
+    {
+        let number = pass.number();
+        let mut turn = self.enter(rt, pass);
+        let value = turn.state().take(spot, number);
+        (self.leave(turn), value)
+    }
+
+    /// Gives home the value of a spot that is out with the pass, in one turn of it.
+    /// What else was out with the pass is out with it still.
+    pub fn give_home<R: Wait>(
+        &self,
+        rt: &R,
+        pass: Pass<Shelf>,
+        spot: usize,
+        value: u64,
+    ) -> Pass<Shelf>
+        requires gate { pass.gate ≡ self.now.gate }
+        requires out { HasOut pass spot }
+        ensures same { IsSamePass pass result }
+        ensures home { HasHome result spot value }
+        ensures kept { (other : ℕ) → other ≢ spot → HasOut pass other → HasOut result other }
+    {
+        let number = pass.number();
+        let mut turn = self.enter(rt, pass);
+        turn.state().put(spot, number, value);
+        self.leave(turn)
+    }
+
+    /// Adds to the value of a spot, where it is at home: takes it out, and gives it home in a later turn. Answers whether it did.
+    /// What else was out with the pass is out with it still.
+    pub fn add<R: Wait>(
+        &self,
+        rt: &R,
+        pass: Pass<Shelf>,
+        spot: usize,
+        amount: u64,
+    ) -> (Pass<Shelf>, bool)
+        requires { pass.gate ≡ self.now.gate }
+        ensures same { IsSamePass pass result.0 }
+        ensures kept { (other : ℕ) → other ≢ spot → HasOut pass other → HasOut result.0 other }
+    {
+        let (pass, value) = self.take_out(rt, pass, spot);
+        match value {
+            Some(value) => {
+                let sum = value.saturating_add(amount);
+                (self.give_home(rt, pass, spot, sum), true)
+            }
+            None => (pass, false),
+        }
+    }
+}
