@@ -48,6 +48,7 @@ impl Shelf {
     /// Takes out the value of a spot for the pass, where it is at home. Else nothing changes.
     pub fn take(&mut self, spot: usize, pass: u8) -> Option<u64>
         ensures taken { IfSome result (λ value. (slice_get self.old.spots.items spot ≡ Some (Home value)) × (self.new.spots.items ≡ slice_set self.old.spots.items spot (Out pass))) }
+        ensures home { (value : ℕ) → slice_get self.old.spots.items spot ≡ Some (Home value) → result ≡ Some value }
         ensures none { result ≡ None → self.new.spots.items ≡ self.old.spots.items }
     {
         let at = self.spots.get_mut(spot)?;
