@@ -27,22 +27,22 @@ module _ {E : Type 0} where
   is_held reads writes (Shown place number) = contains reads place || contains writes place
 
 -- These may be the values of the resources as the history begins: each resource of which it is told has the value that is told.
--- A state tells it by its list of values, which speaks of no resource beyond; a report of ledgers tells one value of all.
+-- A state tells it by its list of values, which speaks of no resource beyond; a report of ledgers tells one value of all. No resource has two values told
 abbrev pub AreOpenings : {V : Type 0} → (ℕ → V → Type 0) → (ℕ → V) → Type 0
 AreOpenings {V} OpensAt openings = (l : ℕ) (value : V) → OpensAt l value → openings l ≡ value
+
+-- the state of the lock after the entries, from the first one
+abbrev pub state_after : {L E : Type 0} → (L → Event → L) → L → List (EntryFields E) → L
+state_after {L} {E} next first entries = fold next first (map (λ (entry : EntryFields E). entry.event) entries)
 
 -- In a state of the lock `Comes` says which events are accepted, and `next` what state each leads to; `reads` and `writes` are what a seat holds then for reading and for writing.
 -- `first` is the state as the history begins, and `OpensAt` what is told of the values
 module _ {L V E : Type 0} (Comes : L → Event → Type 0) (next : L → Event → L) (reads writes : L → ℕ → Set) (after : V → E → V) (taken : V → E → Bool) (number : V → ℕ) (first : L) (OpensAt : ℕ → V → Type 0) where
-  -- the state after the entries
-  abbrev pub state_after : List (EntryFields E) → L
-  state_after entries = fold next first (map (λ (entry : EntryFields E). entry.event) entries)
-
   -- The entry may come after the earlier ones: its event is accepted, its acts may be told with it, its seat holds what they are about before it, and their answers are right
   pub record IsRightEntry (earlier : List (EntryFields E)) (entry : EntryFields E) : Type 0 where
-    pub comes : Comes (state_after earlier) entry.event
+    pub comes : Comes (state_after next first earlier) entry.event
     pub stand : AllByRecursion (λ act. IsTrue (stands_with entry.event act)) entry.acts
-    pub held : AllByRecursion (λ act. IsTrue (is_held (reads (state_after earlier) (seat_of entry.event)) (writes (state_after earlier) (seat_of entry.event)) act)) entry.acts
+    pub held : AllByRecursion (λ act. IsTrue (is_held (reads (state_after next first earlier) (seat_of entry.event)) (writes (state_after next first earlier) (seat_of entry.event)) act)) entry.acts
     pub answers : (openings : ℕ → V) → AreOpenings OpensAt openings → EntryAnswersRightly after taken number openings earlier entry
 
   -- each entry of the history may come after those before it
