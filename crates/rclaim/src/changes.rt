@@ -29,7 +29,7 @@ pub struct GrantChange {
     pub writes: ResourceSet,
 }
 
-/// What a step changes. There is room for the changes of all seats, so that a step takes no memory.
+/// What a step changes. The room for the changes of all seats is made by [`Changes::new`], so that a step takes no memory.
 #[derive(Drop)]
 pub struct Changes {
     /// The claims whose status differs from before.
@@ -45,12 +45,13 @@ impl Model for Changes {
 
     ghost coded = { changes_code };
 
-    ghost use Rattle.std.specs.Prelude.{◌≤◌, vec_capacity};
+    ghost use Rattle.std.specs.Prelude.{◌≡◌, vec_capacity};
     ghost use Rattle.rclaim.specs.declared.TheConstants.{STATUS_ROOM, GRANT_ROOM};
 
     ghost view = { λ a. record { statuses = a.statuses.items; grants = a.grants.items } };
 
-    ghost invariant = { λ a. (STATUS_ROOM ≤ vec_capacity a.statuses) × (GRANT_ROOM ≤ vec_capacity a.grants) };
+    // The room is what was made at first: no change takes memory.
+    ghost invariant = { λ a. (vec_capacity a.statuses ≡ STATUS_ROOM) × (vec_capacity a.grants ≡ GRANT_ROOM) };
 }
 
 impl Changes {

@@ -1,4 +1,5 @@
 pub mod Claims
+pub mod Refused
 pub mod Rules
 pub mod State
 pub mod Holds

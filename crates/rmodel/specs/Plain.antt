@@ -21,15 +21,18 @@ state_of a = record { groups = a.groups; seats = a.seats; cap = a.cap; issued = 
 abbrev pub standing_of : Inside → Standing
 standing_of a = record { state = state_of a; last = a.changes }
 
--- its state is one that accepted events lead to, as far as its claims go, and there is room for the claims of all seats
+-- its state is one that accepted events lead to, as far as its claims go, with the room for the claims of all seats that was made at first
 pub record IsKept (a : Inside) : Type 0 where
   pub reached : IsReached (state_of a)
   -- what is seen of the claims is kept beside them
   pub seen : a.seen ≡ seen_of a.claims.items
+  pub some_cap : 1 ≤ a.cap
   pub cap : a.cap ≤ SEATS
+  pub some_seats : 1 ≤ a.seats
   pub seats : a.seats ≤ SEATS
-  pub claims_room : STATUS_ROOM + 2 ≤ vec_capacity a.claims
-  pub before_room : STATUS_ROOM ≤ vec_capacity a.before
+  -- all room is what was made at first: a step takes no memory
+  pub claims_room : vec_capacity a.claims ≡ STATUS_ROOM + 2
+  pub before_room : vec_capacity a.before ≡ STATUS_ROOM + 2
 
 -- the machine took an accepted event: the changes are those from the claims that the event leaves to what they settle to
 pub record IsTaken (old : Standing) (e : Event) (new : Standing) : Type 0 where

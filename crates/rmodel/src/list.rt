@@ -155,12 +155,14 @@ pub(crate) fn remove_seat(claims: &mut Vec<Claimed>, seat: u8)
     claims.retain(|x| x.claim.seat != seat);
 }
 
-/// Makes `to` a copy of the claims, in the room that it has.
+/// Makes `to` a copy of the claims, in the room that it has. The room stays.
 pub(crate) fn copy_into(to: &mut Vec<Claimed>, claims: &[Claimed])
     requires { length claims.now ≤ vec_capacity to.old }
     ensures items { to.new.items ≡ claims.now }
-    ensures capacity { vec_capacity to.old ≤ vec_capacity to.new }
+    ensures capacity { vec_capacity to.new ≡ vec_capacity to.old }
 {
     to.clear();
-    to.extend_from_slice(claims).unwrap();
+    for x in claims {
+        to.push_reserved(*x);
+    }
 }

@@ -14,7 +14,7 @@ use rexpand::Groups;
 use std::alloc::{AllocError, Global};
 
 /// A lock state that events change, one at a time, by the rules. All room is made by [`Machine::new`].
-pub trait Machine {
+pub trait Machine: Drop + Send {
     /// The lock state.
     ghost state: { Self → LockState };
 
@@ -83,9 +83,13 @@ pub trait Machine {
 
     /// The number of seats.
     fn seats(&self) -> u8
-        ensures { result ≡ (state self.now).seats };
+        ensures value { result ≡ (state self.now).seats }
+        ensures some { 1 ≤ (state self.now).seats }
+        ensures bound { (state self.now).seats ≤ SEATS };
 
     /// The greatest number of incomplete requests.
     fn cap(&self) -> u8
-        ensures { result ≡ (state self.now).cap };
+        ensures value { result ≡ (state self.now).cap }
+        ensures some { 1 ≤ (state self.now).cap }
+        ensures bound { (state self.now).cap ≤ SEATS };
 }

@@ -1,7 +1,10 @@
 // Why an event is refused.
+ghost use Rattle.std.specs.Prelude.{◌≡◌};
+ghost use Rattle.rmodel.specs.Refused.{refused_number};
+
 use thiserror::Error;
 
-/// Why an event is refused. As a number it is the one that users are told.
+/// Why an event is refused.
 #[derive(Clone, Copy, Debug, PartialEq, Eq, Error)]
 pub enum Refused {
     /// The seat has an incomplete request.
@@ -22,4 +25,13 @@ pub enum Refused {
     /// What is asked for is empty, or not within what the request reads and writes.
     #[error("what is asked for is empty, or not within what the request reads and writes")]
     AskOutside = 6,
+}
+
+impl Refused {
+    /// Its number, 1 to 6, as users are told it.
+    pub fn number(self) -> u8
+        ensures { result ≡ refused_number self }
+    {
+        self as u8
+    }
 }

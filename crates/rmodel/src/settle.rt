@@ -29,7 +29,7 @@ fn settle_once(
     requires before_room { length claims.old ≤ vec_capacity before.old }
     ensures settled { claims.new ≡ given (settled claims.old) }
     ensures seen { result ≡ seen_of claims.new }
-    ensures capacity { vec_capacity before.old ≤ vec_capacity before.new }
+    ensures capacity { vec_capacity before.new ≡ vec_capacity before.old }
     ensures statuses { changes.new.statuses ≡ status_changes claims.old claims.new }
     ensures grants { changes.new.grants ≡ grant_changes claims.old claims.new }
 {
@@ -62,7 +62,7 @@ pub(crate) fn settle(
     ensures seen { result ≡ seen_of claims.new.items }
     ensures len { length claims.new.items ≡ length claims.old.items }
     ensures capacity { vec_capacity claims.new ≡ vec_capacity claims.old }
-    ensures before_capacity { vec_capacity before.old ≤ vec_capacity before.new }
+    ensures before_capacity { vec_capacity before.new ≡ vec_capacity before.old }
     ensures statuses { changes.new.statuses ≡ status_changes claims.old.items claims.new.items }
     ensures grants { changes.new.grants ≡ grant_changes claims.old.items claims.new.items }
 {
@@ -74,7 +74,7 @@ fn give_told(claims: &mut [Claimed], before: &mut Vec<Claimed>, changes: &mut Ch
     requires room { length claims.old ≤ GRANT_ROOM }
     requires before_room { length claims.old ≤ vec_capacity before.old }
     ensures given { claims.new ≡ given claims.old }
-    ensures capacity { vec_capacity before.old ≤ vec_capacity before.new }
+    ensures capacity { vec_capacity before.new ≡ vec_capacity before.old }
     ensures statuses { changes.new.statuses ≡ status_changes claims.old claims.new }
     ensures grants { changes.new.grants ≡ grant_changes claims.old claims.new }
 {
@@ -89,7 +89,7 @@ pub(crate) fn give_once(claims: &mut Vec<Claimed>, before: &mut Vec<Claimed>, ch
     requires before_room { length claims.old.items ≤ vec_capacity before.old }
     ensures items { claims.new.items ≡ given claims.old.items }
     ensures capacity { vec_capacity claims.new ≡ vec_capacity claims.old }
-    ensures before_capacity { vec_capacity before.old ≤ vec_capacity before.new }
+    ensures before_capacity { vec_capacity before.new ≡ vec_capacity before.old }
     ensures statuses { changes.new.statuses ≡ status_changes claims.old.items claims.new.items }
     ensures grants { changes.new.grants ≡ grant_changes claims.old.items claims.new.items }
 {

@@ -47,10 +47,12 @@ invariant_of-self c =
           (reached_next (state_of a) e c.self.invariant.reached comes);
       seen = c.self.invariant.seen ∙ seen_standing a.claims.items _ (asking_standing c.args.seat c.args.set a.claims.items)
           ∙ ap seen_of (sym c.ask.ensures.items) ∙ seen_standing c.ask.new.claims.items _ (given_standing c.ask.new.claims.items) ∙ ap seen_of (sym c.give_once.ensures.items);
+      some_cap = c.self.invariant.some_cap;
       cap = c.self.invariant.cap;
+      some_seats = c.self.invariant.some_seats;
       seats = c.self.invariant.seats;
-      claims_room = subst (λ n. STATUS_ROOM + 2 ≤ n) (sym (c.give_once.ensures.capacity ∙ c.ask.ensures.capacity)) c.self.invariant.claims_room;
-      before_room = (let had = c.self.invariant.before_room in let kept = c.give_once.ensures.before_capacity in omega arith);
+      claims_room = c.give_once.ensures.capacity ∙ c.ask.ensures.capacity ∙ c.self.invariant.claims_room;
+      before_room = c.give_once.ensures.before_capacity ∙ c.self.invariant.before_room;
     }
 
 pub returns : goal.returns

@@ -32,9 +32,11 @@ invariant_of-self c =
           (sym (c.push_claims.ensures.items ∙ sym (issue_is (state_of a) c.args.seat c.args.request.now c.self.invariant.reached comes)))
           (reached_next (state_of a) e c.self.invariant.reached comes);
       seen = c.push_claims.ensures.seen;
+      some_cap = c.self.invariant.some_cap;
       cap = c.self.invariant.cap;
+      some_seats = c.self.invariant.some_seats;
       seats = c.self.invariant.seats;
-      claims_room = subst (λ n. STATUS_ROOM + 2 ≤ n) (sym c.push_claims.ensures.capacity) c.self.invariant.claims_room;
+      claims_room = c.push_claims.ensures.capacity ∙ c.self.invariant.claims_room;
       before_room = c.self.invariant.before_room;
     }
 

@@ -52,8 +52,10 @@ invariant_of-self c =
       reached = subst (λ (xs : List Claimed). IsReached (record (state_of a) { claims = xs })) (sym (c.settle-seen.ensures.items ∙ ap (λ xs. given (settled xs)) c.take_read_half-left.ensures.items))
           (reached_next (state_of a) e c.self.invariant.reached comes);
       seen = c.settle-seen.ensures.seen;
+      some_cap = c.self.invariant.some_cap;
       cap = c.self.invariant.cap;
+      some_seats = c.self.invariant.some_seats;
       seats = c.self.invariant.seats;
-      claims_room = subst (λ n. STATUS_ROOM + 2 ≤ n) (sym (c.settle-seen.ensures.capacity ∙ c.take_read_half-left.ensures.capacity)) c.self.invariant.claims_room;
-      before_room = (let had = c.self.invariant.before_room in let kept = c.settle-seen.ensures.before_capacity in omega arith);
+      claims_room = c.settle-seen.ensures.capacity ∙ c.take_read_half-left.ensures.capacity ∙ c.self.invariant.claims_room;
+      before_room = c.settle-seen.ensures.before_capacity ∙ c.self.invariant.before_room;
     }

@@ -12,8 +12,10 @@ invariant_of-result c = record {
   reached = subst (λ (xs : List Claimed). IsReached (record (opening c.args.groups c.args.seats c.args.cap) { claims = xs })) (sym (c.in_ok-with_capacity.ensures.items))
       (reached_opening c.args.groups c.args.seats c.args.cap);
   seen = c.no_seen.ensures ∙ seen_none ∙ ap seen_of (sym c.in_ok-with_capacity.ensures.items);
+  some_cap = c.requires.cap.0;
   cap = c.requires.cap.1;
+  some_seats = c.requires.seats.0;
   seats = c.requires.seats.1;
-  claims_room = (let room = c.in_ok-with_capacity.ensures.capacity in omega arith);
-  before_room = (let room = c.in_ok-with_capacity-2.ensures.capacity in omega arith);
+  claims_room = c.in_ok-with_capacity.ensures.exact;
+  before_room = c.in_ok-with_capacity-2.ensures.exact;
 }
