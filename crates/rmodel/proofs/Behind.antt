@@ -16,7 +16,7 @@ use Rattle.rmodel.proofs.Stable.{keeps_on}
 use Rattle.rmodel.proofs.Standing.{SameStanding}
 
 -- of two claims of a list, the first is not the second
-not_same : {P : Type 0} → (x y : Claimed) → Distinct x y → x.claim ≡ y.claim → P
+pub not_same : {P : Type 0} → (x y : Claimed) → Distinct x y → x.claim ≡ y.claim → P
 not_same x y distinct same =
     let halves = distinct (ap (λ c. c.seat) same) in
     contrary y.claim.write_half halves.writes (ap (λ c. c.write_half) (sym same) ∙ read_of_half x.claim halves.reads)

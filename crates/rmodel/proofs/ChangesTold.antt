@@ -44,7 +44,7 @@ found (y ∷ ys) x distinct (inr later) =
     ∙ found ys x distinct.1 later
 
 -- a seat with no request has no claim
-absent : (xs : List Claimed) (seat : ℕ) (half : Bool) → has_request xs seat ≡ false → claim_at xs seat half ≡ None
+pub absent : (xs : List Claimed) (seat : ℕ) (half : Bool) → has_request xs seat ≡ false → claim_at xs seat half ≡ None
 absent [] seat half idle = refl
 absent (y ∷ ys) seat half idle = at (y.claim.seat == seat) refl idle (absent ys seat half)
   where
@@ -62,7 +62,7 @@ pub record Since (was x : Claimed) : Type 0 where
 since_itself : (w x : Claimed) → w ≡ x → Since w x
 since_itself w x e = record { claim = ap (λ z. z.claim) e; status = ap (λ z. z.status) e; granted = ap (λ z. z.granted) e }
 
-was_there : (s : LockState) (x : Claimed) → IsSound s → Among x s.claims → was_in s.claims x.claim ≡ x
+pub was_there : (s : LockState) (x : Claimed) → IsSound s → Among x s.claims → was_in s.claims x.claim ≡ x
 was_there s x sound there = ap (λ o. unwrap_or o (waiting empty x.claim)) (found s.claims x sound.one_each there)
 
 -- each claim that an event leaves is as it was, or was waiting

@@ -30,6 +30,14 @@ pub mod Exclusive
 pub mod Earliest
 pub mod Somebody
 pub mod Something
+pub mod Came
+pub mod Going
+pub mod HeldBySeat
+pub mod GrantsTold
+pub mod EachClaim
+pub mod IdleSeats
 pub mod LawProofs
 pub mod Histories
+pub mod Growing
+pub mod HistoryLaws
 mod WorkedCase

@@ -3,11 +3,7 @@ use Rattle.std.proofs.Common.{◌≡◌, Bool, true, false, ◌&&◌, ◌||◌, 
 use Rattle.std.proofs.lemmas.Bool.{true≢false, or_cases, or_left, or_right, or_parts, and_parts, and_from}
 use Rattle.std.specs.List.{list_any, list_all, AllZip, AllByRecursion}
 use Rattle.rmodel.specs.WellFormed.{EachPair}
-
--- an element of the list
-abbrev pub Among : {X : Type 0} → X → List X → Type 0
-Among x [] = ⊥
-Among x (y ∷ ys) = (x ≡ y) ⊎ Among x ys
+pub use Rattle.rmodel.specs.WellFormed.{Among}
 
 pub contrary : {P : Type 0} → (b : Bool) → b ≡ true → b ≡ false → P
 contrary b is not_so = absurd (true≢false (sym is ∙ not_so))

@@ -30,7 +30,7 @@ use Rattle.rmodel.proofs.Sweeping.{pairs_at}
 
 -- ---- a second claim of a seat holds nothing
 
-not_nested : (k : Kind) → is_upgrade k ≡ true → is_nested k ≡ false
+pub not_nested : (k : Kind) → is_upgrade k ≡ true → is_nested k ≡ false
 not_nested Read h = refl
 not_nested Write h = refl
 not_nested Mixed h = refl
@@ -64,13 +64,13 @@ each_alone s reached =
 -- ---- so the first tells what the seat holds
 
 module _ (seat : ℕ) where
-  both_nothing : (a : Granted) → both a nothing ≡ a
+  pub both_nothing : (a : Granted) → both a nothing ≡ a
   both_nothing a = (λ i. record { reads = union_empty_right a.reads i; writes = union_empty_right a.writes i })
 
-  nothing_both : (a : Granted) → both nothing a ≡ a
+  pub nothing_both : (a : Granted) → both nothing a ≡ a
   nothing_both a = (λ i. record { reads = union_empty_left a.reads i; writes = union_empty_left a.writes i })
 
-  rest_holds : (all : Granted) (xs : List Claimed) → AllByRecursion (λ y. (y.claim.seat == seat) ≡ true → held_by y ≡ nothing) xs
+  pub rest_holds : (all : Granted) (xs : List Claimed) → AllByRecursion (λ y. (y.claim.seat == seat) ≡ true → held_by y ≡ nothing) xs
       → fold (λ all x. cond (x.claim.seat == seat) (both all (held_by x)) all) all xs ≡ all
   rest_holds all [] none = refl
   rest_holds all (y ∷ ys) none =

@@ -15,11 +15,12 @@ use Rattle.rclaim.specs.declared.event.Event.{Event}
 use Rattle.rclaim.specs.declared.event.Event.TheVariants.{Ask}
 use Rattle.rmodel.specs.Reached.{IsReached}
 use Rattle.rmodel.proofs.Giving.{same_given}
+use Rattle.rmodel.proofs.Going.{told_active}
 use Rattle.rmodel.proofs.OneSettlement.{only_one}
 use Rattle.rmodel.proofs.Standing.{settles_standing, asking_standing}
 use Rattle.rmodel.specs.declared.claimed.Claimed.{Claimed}
 use Rattle.rmodel.specs.declared.plain.Plain.TheInside.{Inside}
-use Rattle.rmodel.specs.Changes.{changes_between, status_changes, grant_changes}
+use Rattle.rmodel.specs.Changes.{changes_between, status_changes, grant_changes, AreActive}
 use Rattle.rmodel.specs.Machine.{Standing}
 use Rattle.rmodel.specs.Plain.{standing_of, state_of, IsKept, IsTaken}
 use Rattle.rmodel.specs.Rules.{Settles}
@@ -44,7 +45,10 @@ kept_comes a m e view fits accepted normal = record {
 pub taken : (a : Inside) (m : Standing) (e : Event) (n : Standing) → standing_of a ≡ m → IsKept a → Comes (state_of a) e → n.state ≡ next (state_of a) e
     → n.last.statuses ≡ status_changes (changed (state_of a) e).claims n.state.claims → n.last.grants ≡ grant_changes (changed (state_of a) e).claims n.state.claims → IsTaken m e n
 taken a m e n view kept comes state statuses grants =
-    subst (λ (m : Standing). IsTaken m e n) view (record { sound = kept.reached.sound; normal = comes.normal; state = state; statuses = statuses; grants = grants })
+    let s = state_of a in
+    let active : AreActive n.last.statuses =
+    subst AreActive (sym (statuses ∙ ap (λ (u : LockState). status_changes (changed s e).claims u.claims) state)) (told_active s e kept.reached comes) in
+    subst (λ (m : Standing). IsTaken m e n) view (record { sound = kept.reached.sound; normal = comes.normal; state = state; statuses = statuses; grants = grants; active = active })
 
 -- an ask changes no status
 pub ask_settled : (s : LockState) (seat : ℕ) (part : Set) → IsReached s → Comes s (Ask seat part) → settled (map (asking seat part) s.claims) ≡ map (asking seat part) s.claims

@@ -1,6 +1,6 @@
 -- The changes of a step: the claims whose status is another, and the requests that hold more.
-use Rattle.std.specs.Prelude.{◌≡◌, ℕ, Bool, not, ◌&&◌, ◌==◌, Option, Some, None, unwrap_or, List, [], ◌∷◌, ◌++◌, find, if◌then◌else◌}
-use Rattle.std.specs.List.{filter_map}
+use Rattle.std.specs.Prelude.{◌≡◌, ℕ, true, Bool, not, ◌&&◌, ◌==◌, Option, Some, None, unwrap_or, List, [], ◌∷◌, ◌++◌, find, if◌then◌else◌}
+use Rattle.std.specs.List.{filter_map, AllByRecursion}
 use Rattle.std.specs.Option.{option_map, option_to_list}
 use Rattle.std.specs.FinSet.{empty}
 use Rattle.rclaim.specs.Changes.{ChangeLists}
@@ -10,7 +10,7 @@ use Rattle.rclaim.specs.declared.changes.GrantChange.{GrantChange}
 use Rattle.rclaim.specs.declared.claim.Claim.{Claim}
 use Rattle.rclaim.specs.declared.claim.Status.{Status}
 use Rattle.rmodel.specs.declared.claimed.Claimed.{Claimed}
-use Rattle.rmodel.specs.Claims.{waiting}
+use Rattle.rmodel.specs.Claims.{waiting, active_by}
 use Rattle.rmodel.specs.Holds.{held_by, is_within}
 use Rattle.rmodel.specs.State.{LockState}
 
@@ -75,3 +75,7 @@ with_change all was now = record {
   statuses = all.statuses ++ option_to_list (status_change was now);
   grants = all.grants ++ option_to_list (grant_change was now);
 }
+
+-- each status that is told is entitled or satisfied: no claim is told to wait
+abbrev pub AreActive : List StatusChange → Type 0
+AreActive changes = AllByRecursion (λ c. active_by c.status ≡ true) changes

@@ -13,4 +13,6 @@ pub mod Sweep
 pub mod Codes
 pub mod Machine
 pub mod Laws
+pub mod Telling
+pub mod StateLaws
 pub mod Plain

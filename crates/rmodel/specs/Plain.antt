@@ -5,7 +5,7 @@ use Rattle.rclaim.specs.declared.TheConstants.{STATUS_ROOM}
 use Rattle.rmodel.specs.declared.plain.Plain.TheInside.{Inside}
 use Rattle.rclaim.specs.Events.{IsNormalEvent}
 use Rattle.rclaim.specs.declared.event.Event.{Event}
-use Rattle.rmodel.specs.Changes.{status_changes, grant_changes}
+use Rattle.rmodel.specs.Changes.{status_changes, grant_changes, AreActive}
 use Rattle.rmodel.specs.Steps.{changed, next}
 use Rattle.rmodel.specs.WellFormed.{IsSound}
 use Rattle.rmodel.specs.State.{LockState}
@@ -41,3 +41,5 @@ pub record IsTaken (old : Standing) (e : Event) (new : Standing) : Type 0 where
   pub state : new.state ≡ next old.state e
   pub statuses : new.last.statuses ≡ status_changes (changed old.state e).claims new.state.claims
   pub grants : new.last.grants ≡ grant_changes (changed old.state e).claims new.state.claims
+  -- no claim falls back
+  pub active : AreActive new.last.statuses

@@ -1,5 +1,5 @@
 -- Well-formed lists of claims: stamps rise, and each claim is one of a request.
-use Rattle.std.specs.Prelude.{◌≡◌, ◌≢◌, ◌<◌, ◌≤◌, true, false, List, [], ◌∷◌}
+use Rattle.std.specs.Prelude.{◌≡◌, ◌≢◌, ◌<◌, ◌≤◌, true, false, List, [], ◌∷◌, ◌⊎◌}
 use Rattle.std.specs.List.{AllByRecursion}
 use Rattle.std.specs.FinSet.{empty, union, is_subset}
 use Rattle.rclaim.specs.declared.claim.Claim.{Claim}
@@ -9,6 +9,11 @@ use Rattle.rexpand.specs.Groups.{is_declared, places_of}
 use Rattle.rmodel.specs.Claims.{share_place, conflicts, conflicts_on, is_active, is_satisfied, is_nested, is_read_half, is_upgrade}
 use Rattle.rmodel.specs.State.{LockState}
 use Rattle.rmodel.specs.Steps.{incomplete_of}
+
+-- an element of the list
+abbrev pub Among : {X : Type 0} → X → List X → Type 0
+Among x [] = ⊥
+Among x (y ∷ ys) = (x ≡ y) ⊎ Among x ys
 
 -- each element stands in this relation to each that comes after it
 abbrev pub EachPair : {X : Type 0} → (X → X → Type 0) → List X → Type 0

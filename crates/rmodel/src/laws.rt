@@ -1,6 +1,8 @@
 //! What holds after every list of accepted events. Each function is a theorem: it does nothing, and its contract is the law.
 ghost use Rattle.rmodel.specs.Laws.{OneSettlement, OneSettlementAStep, SettlingIsExclusive, WritesAreExclusive};
 ghost use Rattle.rmodel.specs.Laws.{SettledIsStable, SettledIsStableAStep, SomebodyHolds, SomebodyHoldsAStep, OneWriteAtMost, OneWriteAtMostAStep, TakingTurns, TakingTurnsAStep, EarliestIsEntitled, EarliestIsEntitledAStep};
+ghost use Rattle.rmodel.specs.Telling.{GrantsAreOfRequests, NoneIsToldToWait, NoneFallsBack};
+ghost use Rattle.rmodel.specs.StateLaws.{ClaimsAreBelow, HeldOneWay, IdleSeatsHaveRoom, HeldUntilGivenBack};
 
 /// *One settlement*: a well-formed list of claims settles in one way, and so does what any accepted event leaves.
 pub fn l1()
@@ -48,4 +50,40 @@ pub fn l6()
 pub fn l7()
     ensures any { EarliestIsEntitled }
     ensures step { EarliestIsEntitledAStep }
+{}
+
+/// *Grants are of requests*: of each accepted event, after any list of accepted events, the grants that are told are those of
+/// the seats whose request holds more than before, one for each, with all that it holds.
+pub fn grants_are_of_requests()
+    ensures { GrantsAreOfRequests }
+{}
+
+/// *No claim falls back*: of each accepted event, after any list of accepted events, each status that is told is entitled or
+/// satisfied, and what was entitled or satisfied stays so.
+pub fn no_claim_falls_back()
+    ensures told { NoneIsToldToWait }
+    ensures claims { NoneFallsBack }
+{}
+
+/// *Claims lie within the resources*: after any list of accepted events, what a claim reads and writes, its places, what it
+/// asks for and what was granted to it are resources that there are.
+pub fn claims_lie_within_the_resources()
+    ensures { ClaimsAreBelow }
+{}
+
+/// *Held in one way*: after any list of accepted events, what a request holds for reading it does not hold for writing.
+pub fn held_in_one_way()
+    ensures { HeldOneWay }
+{}
+
+/// *Idle seats have room*: after any list of accepted events, where a seat is idle fewer requests are incomplete than there
+/// are seats. So with a cap that is no less than the number of seats, each issue of an idle seat is accepted.
+pub fn idle_seats_have_room()
+    ensures { IdleSeatsHaveRoom }
+{}
+
+/// *Held until given back*: what a request holds after any list of accepted events it holds after more of them, until the
+/// finish or the rise of its own seat.
+pub fn held_until_given_back()
+    ensures { HeldUntilGivenBack }
 {}

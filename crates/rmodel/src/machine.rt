@@ -3,7 +3,7 @@ ghost use Rattle.std.specs.Prelude.{◌≡◌, ◌≤◌, ◌↔◌, IfOk, OnOk,
 ghost use Rattle.rset.specs.declared.TheConstants.{SEATS};
 ghost use Rattle.rclaim.specs.Changes.{ChangeLists, no_changes};
 ghost use Rattle.rclaim.specs.Events.{IsNormalEvent};
-ghost use Rattle.rmodel.specs.Changes.{changes_between, status_in};
+ghost use Rattle.rmodel.specs.Changes.{changes_between, status_in, AreActive};
 ghost use Rattle.rmodel.specs.Holds.{holds_of, has_request};
 ghost use Rattle.rmodel.specs.State.{LockState, opening};
 ghost use Rattle.rmodel.specs.Steps.{Fits, Accepts, Steps, refusal, next, incomplete_of, is_not_holding};
@@ -32,7 +32,7 @@ pub trait Machine: Drop + Send {
         ensures opening { IfOk result (λ m. state m ≡ opening groups seats cap) }
         ensures untold { IfOk result (λ m. last m ≡ no_changes) };
 
-    /// One event: it changes the claims, and then they are settled once.
+    /// One event: it changes the claims, and then they are settled once. Each status that is told is entitled or satisfied.
     ///
     /// # Errors
     ///
@@ -46,6 +46,7 @@ pub trait Machine: Drop + Send {
         ensures step { OnOk result (Steps (state self.old) event (state self.new)) }
         ensures after { OnOk result (state self.new ≡ next (state self.old) event) }
         ensures changes { OnOk result (last self.new ≡ changes_between (state self.old) (state self.new)) }
+        ensures active { OnOk result (AreActive (last self.new).statuses) }
         ensures normal { OnOk result (IsNormalEvent event) };
 
     /// The changes of the last accepted step.

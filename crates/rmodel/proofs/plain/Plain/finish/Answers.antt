@@ -1,15 +1,16 @@
-use Rattle.std.proofs.Common.{◌+◌, ◌≤◌, List, length, refl, sym, ap, subst, ◌∙◌, arith}
-use Rattle.rclaim.specs.declared.TheConstants.{STATUS_ROOM}
+use Rattle.std.proofs.Common.{List, length, refl, sym, ap, subst, ◌∙◌, arith}
 use Rattle.rclaim.specs.declared.event.Event.TheVariants.{Finish}
 use Rattle.rmodel.specs.declared.claimed.Claimed.{Claimed}
+use Rattle.rmodel.specs.Changes.{status_changes, grant_changes}
 use Rattle.rmodel.specs.Plain.{state_of}
 use Rattle.rmodel.specs.Reached.{IsReached}
 use Rattle.rmodel.specs.Settling.{settled}
+use Rattle.rmodel.specs.State.{LockState}
 use Rattle.rmodel.specs.Steps.{changed, given}
 use Rattle.rmodel.specs.declared.left.Left.{Left}
 use Rattle.rmodel.specs.Sweep.{is_of, IsLeft}
 use Rattle.rmodel.proofs.RemovedSteps.{is_left_by}
-use Rattle.rmodel.proofs.PlainSteps.{kept_comes, few_claims}
+use Rattle.rmodel.proofs.PlainSteps.{kept_comes, taken, few_claims}
 use Rattle.rmodel.proofs.Reached.{reached_next}
 use Rattle.rmodel.proofs.Soundness.{sound_changed}
 use Rattle.rmodel.proofs.plain.Plain.finish.Goals as goal
@@ -62,3 +63,14 @@ invariant_of-self c =
       claims_room = c.settle-seen.ensures.capacity ∙ c.take_seat-left.ensures.capacity ∙ c.self.invariant.claims_room;
       before_room = c.settle-seen.ensures.before_capacity ∙ c.self.invariant.before_room;
     }
+
+pub returns : goal.returns
+returns c =
+    let a = c.self.inside in
+    let e = Finish c.args.seat in
+    let comes = kept_comes a c.args.self.now e c.self.view_is c.requires.fits c.requires.accepted tt in
+    let items = c.take_seat-left.ensures.items in
+    taken a c.args.self.now e _ c.self.view_is c.self.invariant comes
+    (ap (λ (ys : List Claimed). let s : LockState = record (state_of a) { claims = ys } in s) (c.settle-seen.ensures.items ∙ ap (λ xs. given (settled xs)) items))
+    (c.settle-seen.ensures.statuses ∙ ap (λ ys. status_changes ys c.settle-seen.new.claims.items) items)
+    (c.settle-seen.ensures.grants ∙ ap (λ ys. grant_changes ys c.settle-seen.new.claims.items) items)

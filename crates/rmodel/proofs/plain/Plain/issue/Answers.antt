@@ -1,5 +1,4 @@
-use Rattle.std.proofs.Common.{◌+◌, ◌≤◌, List, ◌++◌, map, sym, ap, subst, ◌∙◌, arith}
-use Rattle.rclaim.specs.declared.TheConstants.{STATUS_ROOM}
+use Rattle.std.proofs.Common.{◌+◌, List, ◌++◌, map, sym, ap, subst, ◌∙◌, arith}
 use Rattle.rclaim.specs.declared.event.Event.TheVariants.{Issue}
 use Rattle.rmodel.specs.declared.claimed.Claimed.{Claimed}
 use Rattle.rclaim.specs.Changes.{ChangeLists}
