@@ -5,6 +5,7 @@ use Rattle.std.specs.List.{AllZip}
 use Rattle.std.specs.Option.{option_to_list}
 use Rattle.rclaim.specs.Codes.{number_of}
 use Rattle.rclaim.specs.declared.changes.StatusChange.{StatusChange}
+use Rattle.rclaim.specs.declared.claim.Claim.{Claim}
 use Rattle.rclaim.specs.declared.claim.Status.{Status}
 use Rattle.rclaim.specs.declared.claim.Status.TheVariants.{Waiting, Entitled, Satisfied}
 use Rattle.rclaim.specs.declared.event.Event.{Event}
@@ -20,7 +21,7 @@ use Rattle.rmodel.specs.Steps.{changed, next, given, Comes}
 use Rattle.rmodel.specs.Telling.{AreAsFar}
 use Rattle.rmodel.specs.WellFormed.{AreExclusive, Distinct}
 use Rattle.rmodel.proofs.Behind.{not_same, so_from}
-use Rattle.rmodel.proofs.Came.{WasThere, origin, IsGiven, given_more, came}
+use Rattle.rmodel.proofs.Came.{IsStill, WasThere, origin, IsGiven, given_more, came}
 use Rattle.rmodel.proofs.ChangesTold.{changes_told}
 use Rattle.rmodel.proofs.Giving.{same_given}
 use Rattle.rmodel.proofs.ListFacts.{Among, contrary, any_among, passing, all_at, all_append, all_of_itself, pair_among, zip_among, zip_weaker, zip_partner}
@@ -28,6 +29,10 @@ use Rattle.rmodel.proofs.OneSettlement.{both_cases}
 use Rattle.rmodel.proofs.OneWrite.{one_keeps}
 use Rattle.rmodel.proofs.Settlement.{settles_settled}
 use Rattle.rmodel.proofs.Soundness.{active_of_satisfied, same_claims, sound_changed}
+
+-- a write that keeps a claim out as it is kept it out as it was
+kept_before : (c d : Claim) (was x : Claimed) → c ≡ d → IsStill was x → keeps_out d x ≡ true → keeps_out c was ≡ true
+kept_before c d was x same still keeps = (λ i. (sym still.claim i).write_half && active_by (sym still.status i) && conflicts (sym still.claim i) (same i)) ∙ keeps
 
 -- ---- a claim that an event leaves, and the same claim once all are settled
 
@@ -90,8 +95,7 @@ module _ (s : LockState) (e : Event) (reached : IsReached s) (comes : Comes s e)
       let r = was_active x there active in
       let w = was_active v.0 v.1 (and_parts v.0.claim.write_half (is_active v.0) parts.0).1 in
       let same : r.was.claim ≡ y.claim = sym r.still.claim ∙ sym at.same in
-      let keeps : keeps_out r.was.claim w.was ≡ true =
-      (λ i. (sym w.still.claim i).write_half && active_by (sym w.still.status i) && conflicts (sym w.still.claim i) (same i)) ∙ v.2 in
+      let keeps = kept_before r.was.claim y.claim w.was v.0 same w.still v.2 in
       let sat : is_satisfied w.was ≡ true =
       kept_by r.was w.was r.there w.there (ap (λ c. c.write_half) same ∙ read) (ap active_by (sym r.still.status) ∙ active) (ap satisfied_by (sym r.still.status) ∙ none.0) keeps in
       at.kept_reads read ∙ or_right (is_satisfied y) (is_kept t y.claim) (keeps_settled v.0 y v.1 (ap satisfied_by w.still.status ∙ sat) v.2))

@@ -19,7 +19,7 @@ use Rattle.rmodel.specs.Telling.{holds_more, IsGrant, AreGrants}
 use Rattle.rmodel.specs.WellFormed.{Among, EachPair, IsClaim, Distinct}
 use Rattle.rmodel.proofs.Came.{IsBrought, origin, came}
 use Rattle.rmodel.proofs.ChangesTold.{absent, was_there}
-use Rattle.rmodel.proofs.HeldBySeat.{nothing_of, is_nothing_of, within_itself, nothing_within, within_nothing, within_all, all_of, held_within, new_holds_nothing, holds_here, idle_holds_nothing, HeldBy, holding}
+use Rattle.rmodel.proofs.HeldBySeat.{nothing_of, is_nothing_of, within_itself, nothing_within, within_nothing, within_all, all_of, held_of_plain, held_of_unsatisfied, held_within, new_holds_nothing, holds_here, idle_holds_nothing, HeldBy, holding}
 use Rattle.rmodel.proofs.ListFacts.{contrary, false_from, all_at, pair_among, pairs_both}
 use Rattle.rmodel.proofs.OneSettlement.{both_cases}
 use Rattle.rmodel.proofs.Own.{not_nested, each_alone}
@@ -98,13 +98,9 @@ half_holds x z y is distinct seats same some within =
     let parts = and_parts (is_subset (held_by y).reads (all_of x.claim).reads) (is_subset (held_by y).writes (all_of x.claim).writes) (within_all (held_by y) (held_by x) (all_of x.claim) within (held_within x)) in
     both_cases (is_satisfied y)
     (λ sat.
-    let held : (held_by y).writes ≡ y.claim.writes
-    = (λ i. (cond (plain i) (record { reads = intersection y.granted y.claim.reads; writes = intersection y.granted y.claim.writes }) (cond (sat i) (all_of y.claim) nothing)).writes) in
+    let held : (held_by y).writes ≡ y.claim.writes = ap (λ (g : Granted). g.writes) (held_of_plain y plain sat) in
     is.reads_some read (sym writes ∙ sym held ∙ empty_within (held_by y).writes (ap (is_subset (held_by y).writes) (sym (is.read_only read)) ∙ parts.1)))
-    (λ unsat.
-    let none : held_by y ≡ nothing
-    = (λ i. cond (plain i) (record { reads = intersection y.granted y.claim.reads; writes = intersection y.granted y.claim.writes }) (cond (unsat i) (all_of y.claim) nothing)) in
-    contrary (is_nothing (held_by y)) (is_nothing_of (held_by y) none) some)
+    (λ unsat. contrary (is_nothing (held_by y)) (is_nothing_of (held_by y) (held_of_unsatisfied y plain unsat)) some)
 
 module _ (s : LockState) (e : Event) (reached : IsReached s) (comes : Comes s e) where
   abbrev t : LockState

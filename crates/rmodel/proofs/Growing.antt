@@ -17,7 +17,7 @@ use Rattle.rmodel.specs.StateLaws.{gives_back}
 use Rattle.rmodel.specs.Steps.{changed, next, after, Comes, AreAccepted}
 use Rattle.rmodel.proofs.Came.{IsStill, left, Moves, goes}
 use Rattle.rmodel.proofs.Going.{satisfied_stays}
-use Rattle.rmodel.proofs.HeldBySeat.{all_of, nothing_of, is_nothing_of, within_nothing, within_itself, within_all, nothing_within, holds_here, HeldBy, holding}
+use Rattle.rmodel.proofs.HeldBySeat.{all_of, held_of_plain, held_of_unsatisfied, held_of_nested, nothing_of, is_nothing_of, within_nothing, within_itself, within_all, nothing_within, holds_here, HeldBy, holding}
 use Rattle.rmodel.proofs.ListFacts.{contrary, false_from}
 use Rattle.rmodel.proofs.OneSettlement.{both_cases}
 use Rattle.rmodel.proofs.Own.{each_alone}
@@ -38,26 +38,17 @@ pub grown_holds : (x y : Claimed) → IsGrown x y → is_within (held_by x) (hel
 grown_holds x y grown =
     both_cases (is_nested x.claim.kind)
     (λ nested.
-    (λ i. is_within (cond (nested i) (record { reads = intersection x.granted x.claim.reads; writes = intersection x.granted x.claim.writes }) (cond (is_satisfied x) (all_of x.claim) nothing))
-    (cond (ap (λ c. is_nested c.kind) grown.claim i) (record { reads = intersection y.granted (grown.claim i).reads; writes = intersection y.granted (grown.claim i).writes })
-    (cond (is_satisfied y) (all_of (grown.claim i)) nothing)))
+    let now = held_of_nested y (ap (λ c. is_nested c.kind) grown.claim ∙ nested) in
+    (λ i. is_within (held_of_nested x nested i) (now i))
     ∙ (λ i. is_within (record { reads = intersection x.granted x.claim.reads; writes = intersection x.granted x.claim.writes })
-    (cond (nested i) (record { reads = intersection y.granted x.claim.reads; writes = intersection y.granted x.claim.writes }) (cond (is_satisfied y) (all_of x.claim) nothing)))
+    (record { reads = intersection y.granted (grown.claim i).reads; writes = intersection y.granted (grown.claim i).writes }))
     ∙ and_from (is_subset (intersection x.granted x.claim.reads) (intersection y.granted x.claim.reads)) (is_subset (intersection x.granted x.claim.writes) (intersection y.granted x.claim.writes))
     (shared_grows x.granted y.granted x.claim.reads grown.granted) (shared_grows x.granted y.granted x.claim.writes grown.granted))
-    (λ plain. both_cases (is_satisfied x)
-    (λ sat.
-    subst (λ (g : Granted). is_within g (held_by y) ≡ true) (sym (held_plain x plain sat))
-    (subst (λ (g : Granted). is_within (all_of x.claim) g ≡ true) (sym (held_plain y (ap (λ c. is_nested c.kind) grown.claim ∙ plain) (grown.satisfied sat) ∙ ap all_of grown.claim)) (within_itself (all_of x.claim))))
-    (λ unsat. subst (λ (g : Granted). is_within g (held_by y) ≡ true) (sym (held_none x plain unsat)) (nothing_within (held_by y))))
-  where
-    held_plain : (z : Claimed) → is_nested z.claim.kind ≡ false → is_satisfied z ≡ true → held_by z ≡ all_of z.claim
-    held_plain z plain sat =
-        (λ i. cond (plain i) (record { reads = intersection z.granted z.claim.reads; writes = intersection z.granted z.claim.writes }) (cond (sat i) (all_of z.claim) nothing))
-
-    held_none : (z : Claimed) → is_nested z.claim.kind ≡ false → is_satisfied z ≡ false → held_by z ≡ nothing
-    held_none z plain unsat =
-        (λ i. cond (plain i) (record { reads = intersection z.granted z.claim.reads; writes = intersection z.granted z.claim.writes }) (cond (unsat i) (all_of z.claim) nothing))
+    (λ plain.
+    let plain_y = ap (λ c. is_nested c.kind) grown.claim ∙ plain in
+    both_cases (is_satisfied x)
+    (λ sat. (λ i. is_within (held_of_plain x plain sat i) ((held_of_plain y plain_y (grown.satisfied sat) ∙ ap all_of grown.claim) i)) ∙ within_itself (all_of x.claim))
+    (λ unsat. ap (λ (g : Granted). is_within g (held_by y)) (held_of_unsatisfied x plain unsat) ∙ nothing_within (held_by y)))
 
 -- a claim from one state to the next
 pub grown : (s : LockState) (e : Event) (z x y : Claimed) → IsStill z x → Moves s e x y → IsGrown z y

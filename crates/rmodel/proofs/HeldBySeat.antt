@@ -54,6 +54,20 @@ within_all f g h a b =
 abbrev pub all_of : Claim → Granted
 all_of c = record { reads = c.reads; writes = c.writes }
 
+-- a satisfied claim holds all of it, and an unsatisfied one nothing, but for that of a nested request
+pub held_of_plain : (x : Claimed) → is_nested x.claim.kind ≡ false → is_satisfied x ≡ true → held_by x ≡ all_of x.claim
+held_of_plain x plain sat =
+    (λ i. cond (plain i) (record { reads = intersection x.granted x.claim.reads; writes = intersection x.granted x.claim.writes }) (cond (sat i) (all_of x.claim) nothing))
+
+pub held_of_unsatisfied : (x : Claimed) → is_nested x.claim.kind ≡ false → is_satisfied x ≡ false → held_by x ≡ nothing
+held_of_unsatisfied x plain unsat =
+    (λ i. cond (plain i) (record { reads = intersection x.granted x.claim.reads; writes = intersection x.granted x.claim.writes }) (cond (unsat i) (all_of x.claim) nothing))
+
+-- that holds what was granted to it
+pub held_of_nested : (x : Claimed) → is_nested x.claim.kind ≡ true → held_by x ≡ record { reads = intersection x.granted x.claim.reads; writes = intersection x.granted x.claim.writes }
+held_of_nested x nested =
+    (λ i. cond (nested i) (record { reads = intersection x.granted x.claim.reads; writes = intersection x.granted x.claim.writes }) (cond (is_satisfied x) (all_of x.claim) nothing))
+
 -- a claim holds no more than it reads and writes
 pub held_within : (x : Claimed) → is_within (held_by x) (all_of x.claim) ≡ true
 held_within x = at (is_nested x.claim.kind) (is_satisfied x)

@@ -32,6 +32,7 @@ pub mod Somebody
 pub mod Something
 pub mod Came
 pub mod Going
+pub mod Stamps
 pub mod HeldBySeat
 pub mod GrantsTold
 pub mod EachClaim

@@ -18,6 +18,7 @@ use Rattle.rmodel.proofs.OneSettlement.{both_cases}
 use Rattle.rmodel.proofs.Soundness.{same_seat}
 use Rattle.rmodel.proofs.Reached.{IsReached}
 use Rattle.rmodel.proofs.Exclusive.{held_by_seat}
+use Rattle.rmodel.proofs.HeldBySeat.{held_of_plain, held_of_nested}
 use Rattle.rmodel.proofs.Somebody.{some_satisfied}
 
 -- a set that meets another has members
@@ -36,13 +37,6 @@ module _ (part : Granted → Set) (of_both : (a b : Granted) → part (both a b)
       (any_among (λ y. (y.claim.seat == x.claim.seat) && meets (part (held_by y)) (part (held_by x))) xs x there
       (and_from (x.claim.seat == x.claim.seat) (meets (part (held_by x)) (part (held_by x))) (eq-eqb x.claim.seat x.claim.seat refl) (meets_own (part (held_by x)) some))))
 
--- what a satisfied claim holds
-held_of_plain : (x : Claimed) → is_nested x.claim.kind ≡ false → is_satisfied x ≡ true → held_by x ≡ record { reads = x.claim.reads; writes = x.claim.writes }
-held_of_plain x plain sat = (λ i. cond (plain i) (record { reads = intersection x.granted x.claim.reads; writes = intersection x.granted x.claim.writes }) (cond (sat i) (record { reads = x.claim.reads; writes = x.claim.writes }) nothing))
-
-held_of_nested : (x : Claimed) → is_nested x.claim.kind ≡ true → held_by x ≡ record { reads = intersection x.granted x.claim.reads; writes = intersection x.granted x.claim.writes }
-held_of_nested x nested = (λ i. cond (nested i) (record { reads = intersection x.granted x.claim.reads; writes = intersection x.granted x.claim.writes }) (cond (is_satisfied x) (record { reads = x.claim.reads; writes = x.claim.writes }) nothing))
-
 -- a seat of which a claim holds something for reading or for writing
 holds_some : (xs : List Claimed) (x : Claimed) → Among x xs → ((held_by x).reads ≡ empty → (held_by x).writes ≡ empty → ⊥) → is_nothing (holds_of xs x.claim.seat) ≡ false
 holds_some xs x there some =
@@ -58,7 +52,7 @@ holds_some xs x there some =
     no_more false b none = refl
 
 -- what was granted has members that the request reads or writes
-granted_some : (x : Claimed) → HasParts x → is_nested x.claim.kind ≡ true → x.asked ≡ empty → intersection x.granted x.claim.reads ≡ empty → intersection x.granted x.claim.writes ≡ empty → ⊥
+pub granted_some : (x : Claimed) → HasParts x → is_nested x.claim.kind ≡ true → x.asked ≡ empty → intersection x.granted x.claim.reads ≡ empty → intersection x.granted x.claim.writes ≡ empty → ⊥
 granted_some x had nested answered no_read no_write =
     let some : x.granted ≢ empty = λ none. had.some nested ((λ i. union (none i) (answered i)) ∙ union_empty_left empty) in
     let m = some_member x.granted some in
