@@ -1,4 +1,5 @@
-use Rattle.std.proofs.Common.{List, sym, subst}
+use Rattle.std.proofs.Common.{rules, arith, List, sym, subst}
+use Rattle.std.proofs.lemmas.Grind.{common_steps}
 use Rattle.rmodel.specs.declared.claimed.Claimed.{Claimed}
 use Rattle.rmodel.specs.Holds.{Alone}
 use Rattle.rmodel.specs.Plain.{state_of}
@@ -17,3 +18,6 @@ is_not_holding-requires-in-Rise c =
 pub is_not_holding-requires-in-Ask : goal.is_not_holding-requires-in-Ask
 is_not_holding-requires-in-Ask c =
     subst (λ (xs : List Claimed). EachPair Alone xs) (sym c.deref-in-Ask.ensures.value) (each_alone (state_of c.self.inside) c.self.invariant.reached)
+
+pub returns-then-has_request : goal.returns-then-has_request
+returns-then-has_request c = grind (arith, common_steps)
