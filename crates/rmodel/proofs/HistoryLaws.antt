@@ -34,19 +34,19 @@ pub none_falls_back_a_step : NoneFallsBack
 none_falls_back_a_step groups seats cap events event accepted comes = none_falls_back (after (opening groups seats cap) events) event (reached groups seats cap events accepted) comes
 
 pub claims_are_below : ClaimsAreBelow
-claims_are_below groups seats cap events are accepted =
+claims_are_below groups seats cap events accepted =
     let s = after (opening groups seats cap) events in
     let same = (sizes_after (opening groups seats cap) events).groups in
     let sets = sets_below groups seats cap events accepted in
     let parts = (reached groups seats cap events accepted).sound.parts in
-    all_from (IsBelow groups.q) s.claims (λ x there.
+    all_from (IsBelow groups) s.claims (λ x there.
     let low : AreSetsBelow groups x.claim = subst (λ (g : ReadGroups). AreSetsBelow g x.claim) same (all_at (λ x. AreSetsBelow s.groups x.claim) s.claims x sets there) in
     let has = all_at HasParts s.claims x parts there in
     let all = all_below_union groups.q x.claim.reads x.claim.writes low.reads low.writes in
     record {
       reads = low.reads;
       writes = low.writes;
-      places = low.places (groups_parts groups are).each;
+      places = λ are. low.places (groups_parts groups are).each;
       asked = all_below_within groups.q x.asked (union x.claim.reads x.claim.writes) has.asked all;
       granted = all_below_within groups.q x.granted (union x.claim.reads x.claim.writes) has.granted all;
     })

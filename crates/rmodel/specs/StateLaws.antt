@@ -11,19 +11,18 @@ use Rattle.rmodel.specs.Holds.{holds_of, has_request, is_within}
 use Rattle.rmodel.specs.State.{LockState, opening}
 use Rattle.rmodel.specs.Steps.{Accepts, after, incomplete_of, AreAccepted}
 
--- the sets of a claim lie within the q resources that there are
-pub record IsBelow (q : ℕ) (x : Claimed) : Type 0 where
-  pub reads : all_below q x.claim.reads ≡ true
-  pub writes : all_below q x.claim.writes ≡ true
-  pub places : all_below q x.claim.places ≡ true
-  pub asked : all_below q x.asked ≡ true
-  pub granted : all_below q x.granted ≡ true
+-- the sets of a claim lie within the resources that there are; its places do so where the groups do
+pub record IsBelow (groups : ReadGroups) (x : Claimed) : Type 0 where
+  pub reads : all_below groups.q x.claim.reads ≡ true
+  pub writes : all_below groups.q x.claim.writes ≡ true
+  pub places : are_groups groups ≡ true → all_below groups.q x.claim.places ≡ true
+  pub asked : all_below groups.q x.asked ≡ true
+  pub granted : all_below groups.q x.granted ≡ true
 
--- claims lie within the resources: so it is after any list of accepted events, over any groups
+-- claims lie within the resources: so it is after any list of accepted events
 abbrev pub ClaimsAreBelow : Type 0
 ClaimsAreBelow =
-    (groups : ReadGroups) (seats cap : ℕ) (events : List Event) → are_groups groups ≡ true → AreAccepted (opening groups seats cap) events
-    → AllByRecursion (IsBelow groups.q) (after (opening groups seats cap) events).claims
+    (groups : ReadGroups) (seats cap : ℕ) (events : List Event) → AreAccepted (opening groups seats cap) events → AllByRecursion (IsBelow groups) (after (opening groups seats cap) events).claims
 
 -- what a request holds for reading, it does not hold for writing
 abbrev pub HoldsOneWay : LockState → ℕ → Type 0

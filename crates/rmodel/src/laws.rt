@@ -65,8 +65,8 @@ pub fn no_claim_falls_back()
     ensures claims { NoneFallsBack }
 {}
 
-/// *Claims lie within the resources*: after any list of accepted events, what a claim reads and writes, its places, what it
-/// asks for and what was granted to it are resources that there are.
+/// *Claims lie within the resources*: after any list of accepted events, what a claim reads and writes, what it asks for and
+/// what was granted to it are resources that there are, and so are its places where the groups are of such.
 pub fn claims_lie_within_the_resources()
     ensures { ClaimsAreBelow }
 {}
