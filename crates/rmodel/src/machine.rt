@@ -13,7 +13,8 @@ use rclaim::{Changes, Event, Status};
 use rexpand::Groups;
 use std::alloc::{AllocError, Global};
 
-/// A lock state that events change, one at a time, by the rules. All room is made by [`Machine::new`].
+/// A lock state that events change, one at a time, by the rules. All room is made by [`Machine::new`]. It may be dropped at
+/// any time, and moved to another thread.
 pub trait Machine: Drop + Send {
     /// The lock state.
     ghost state: { Self → LockState };
