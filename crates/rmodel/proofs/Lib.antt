@@ -21,6 +21,7 @@ pub mod Reached
 pub mod Removed
 pub mod RemovedSteps
 pub mod Sweeping
+pub mod SoFar
 pub mod SweepSteps
 pub mod Own
 pub mod Issued

@@ -49,13 +49,13 @@ module _ (xs : List Claimed) where
   unfolding seen_of bars_of
   bars_seen = ap (λ (s : Seen). s.bars) (seen_from no_seen xs)
 
-  kept_meets : (s : Set) → meets (seen_of xs).kept s ≡ list_any (λ x. (x.claim.write_half && is_satisfied x) && meets x.claim.writes s) xs
+  pub kept_meets : (s : Set) → meets (seen_of xs).kept s ≡ list_any (λ x. (x.claim.write_half && is_satisfied x) && meets x.claim.writes s) xs
   unfolding written_by_satisfied
   kept_meets s = ap (λ k. meets k s) kept_seen ∙ gathered (λ x. x.claim.write_half && is_satisfied x) (λ x. x.claim.writes) s xs
 
 -- ---- a new write
 
-any_or : (p q : Claimed → Bool) (xs : List Claimed) → (list_any p xs || list_any q xs) ≡ list_any (λ x. p x || q x) xs
+pub any_or : (p q : Claimed → Bool) (xs : List Claimed) → (list_any p xs || list_any q xs) ≡ list_any (λ x. p x || q x) xs
 any_or p q [] = refl
 any_or p q (x ∷ xs) = swap (p x) (list_any p xs) (q x) (list_any q xs) ∙ ap (λ b. (p x || q x) || b) (any_or p q xs)
   where
@@ -65,7 +65,7 @@ any_or p q (x ∷ xs) = swap (p x) (list_any p xs) (q x) (list_any q xs) ∙ ap 
     swap false true false d = refl
     swap false false c d = refl
 
-all_both : (P Q : Claimed → Type 0) (xs : List Claimed) → AllByRecursion P xs → AllByRecursion Q xs → AllByRecursion (λ x. P x × Q x) xs
+pub all_both : (P Q : Claimed → Type 0) (xs : List Claimed) → AllByRecursion P xs → AllByRecursion Q xs → AllByRecursion (λ x. P x × Q x) xs
 all_both P Q [] a b = tt
 all_both P Q (x ∷ xs) a b = ((a.0, b.0), all_both P Q xs a.1 b.1)
 

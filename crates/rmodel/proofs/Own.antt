@@ -8,7 +8,7 @@ use Rattle.std.specs.Option.{option_map}
 use Rattle.std.specs.Prelude.{unwrap_or}
 use Rattle.std.specs.FinSet.{empty, len, len-empty, intersection}
 use Rattle.std.specs.Ordering.{nat_cmp}
-use Rattle.rset.specs.Sets.{meets}
+use Rattle.rset.specs.Sets.{Set, meets}
 use Rattle.rset.proofs.SetLemmas.{meets_itself, union_empty_left, union_empty_right}
 use Rattle.rclaim.specs.declared.request.Kind.{Kind}
 use Rattle.rclaim.specs.declared.request.Kind.TheVariants.{Read, Write, Mixed, Upgrade, Nested}
@@ -198,14 +198,15 @@ module _ (p : Claimed → Bool) where
         ∙ (λ i. all_left (take n xs) first.before i ++ all_left (drop (n + 1) xs) behind i)
         ∙ ap (λ m. take n xs ++ drop m xs) (add-one n)
 
-    pub one_leaves : left_by p xs ≡ with_left none_gone x
+    pub one_leaves : (read : Set) → left_by p read xs ≡ with_left (none_gone read) x
     unfolding left_by
-    one_leaves =
-        ap (fold (λ all x. cond (p x) (with_left all x) all) none_gone) (sym (between xs n d h))
-        ∙ fold-append (λ all x. cond (p x) (with_left all x) all) none_gone (take n xs) (x ∷ drop (n + 1) xs)
-        ∙ ap (λ a. fold (λ all x. cond (p x) (with_left all x) all) a (x ∷ drop (n + 1) xs)) (none_gone_of none_gone (take n xs) first.before)
-        ∙ ap (λ b. fold (λ all x. cond (p x) (with_left all x) all) (cond b (with_left none_gone x) none_gone) (drop (n + 1) xs)) first.here
-        ∙ none_gone_of (with_left none_gone x) (drop (n + 1) xs) behind
+    one_leaves read =
+        let none = none_gone read in
+        ap (fold (λ all x. cond (p x) (with_left all x) all) none) (sym (between xs n d h))
+        ∙ fold-append (λ all x. cond (p x) (with_left all x) all) none (take n xs) (x ∷ drop (n + 1) xs)
+        ∙ ap (λ a. fold (λ all x. cond (p x) (with_left all x) all) a (x ∷ drop (n + 1) xs)) (none_gone_of none (take n xs) first.before)
+        ∙ ap (λ b. fold (λ all x. cond (p x) (with_left all x) all) (cond b (with_left none x) none) (drop (n + 1) xs)) first.here
+        ∙ none_gone_of (with_left none x) (drop (n + 1) xs) behind
 
 -- of a seat, the claims behind one that is no read half are none
 pub behind_whole : (seat n : ℕ) (xs : List Claimed) (d : Claimed) → n < length xs → EachPair Distinct xs → (get_or xs n d).claim.seat ≡ seat → is_read_half (get_or xs n d).claim ≡ false
@@ -226,5 +227,5 @@ module _ (seat : ℕ) (xs : List Claimed) (i : ℕ) (d : Claimed) (distinct : Ea
   pub lone_goes : filter (λ x. not (is_of seat x)) xs ≡ remove xs i
   lone_goes = one_goes (is_of seat) xs i d lone.within first_lone behind_lone
 
-  pub lone_leaves : left_by (is_of seat) xs ≡ with_left none_gone (get_or xs i d)
+  pub lone_leaves : (read : Set) → left_by (is_of seat) read xs ≡ with_left (none_gone read) (get_or xs i d)
   lone_leaves = one_leaves (is_of seat) xs i d lone.within first_lone behind_lone

@@ -1,5 +1,5 @@
 -- What a removal leaves: settled claims of which some are gone.
-use Rattle.std.proofs.Common.{◌≡◌, Bool, true, false, not, ◌&&◌, ◌||◌, cond, List, [], ◌∷◌, filter, fold, refl, sym, ap, ◌∙◌, inl, inr}
+use Rattle.std.proofs.Common.{◌≡◌, Bool, true, false, not, ◌&&◌, ◌||◌, cond, List, [], ◌∷◌, filter, fold, refl, sym, ap, subst, ◌∙◌, inl, inr}
 use Rattle.std.proofs.lemmas.Bool.{or_left, or_right, or_cases, or_parts, and_parts, and_from}
 use Rattle.std.specs.List.{list_any}
 use Rattle.std.specs.FinSet.{union}
@@ -13,7 +13,7 @@ use Rattle.rmodel.specs.Laws.{keeps_out}
 use Rattle.rmodel.specs.Reached.{KeptBehind}
 use Rattle.rmodel.specs.Rules.{is_earlier_write, is_kept_out, is_held_up, SettlesAt, Settles}
 use Rattle.rmodel.specs.Settling.{settled}
-use Rattle.rmodel.specs.Sweep.{none_gone, with_left, left_by, IsLeft}
+use Rattle.rmodel.specs.Sweep.{none_gone, with_left, left_by, AreReadWithin, IsLeft}
 use Rattle.rmodel.specs.WellFormed.{EachPair, IsClaim, AreWellFormed, AreExclusive, AreAdmittedBy}
 use Rattle.rmodel.proofs.Behind.{so_from}
 use Rattle.rmodel.proofs.Keeping.{touches_places, not_false}
@@ -29,6 +29,7 @@ left_from : (goes : Claimed → Bool) (all : Left) (xs : List Claimed)
     ≡ record {
       written = fold (λ a x. cond (goes x && (x.claim.write_half && is_active x)) (union a x.claim.writes) a) all.written xs;
       freed = fold (λ a x. cond (goes x) (union a (union x.claim.reads x.claim.writes)) a) all.freed xs;
+      read = all.read;
     }
 left_from goes all [] = refl
 left_from goes all (x ∷ xs) =
@@ -37,6 +38,7 @@ left_from goes all (x ∷ xs) =
     (record {
       written = cond (goes x && (x.claim.write_half && is_active x)) (union all.written x.claim.writes) all.written;
       freed = cond (goes x) (union all.freed (union x.claim.reads x.claim.writes)) all.freed;
+      read = all.read;
     })
     xs
   where
@@ -45,19 +47,24 @@ left_from goes all (x ∷ xs) =
         ≡ record {
           written = cond (b && (x.claim.write_half && is_active x)) (union all.written x.claim.writes) all.written;
           freed = cond b (union all.freed (union x.claim.reads x.claim.writes)) all.freed;
+          read = all.read;
         }
     at true = refl
     at false = refl
 
-module _ (goes : Claimed → Bool) (p : List Claimed) where
-  written_meets : (s : Set) → meets (left_by goes p).written s ≡ list_any (λ x. (goes x && (x.claim.write_half && is_active x)) && meets x.claim.writes s) p
+module _ (goes : Claimed → Bool) (ever : Set) (p : List Claimed) where
+  written_meets : (s : Set) → meets (left_by goes ever p).written s ≡ list_any (λ x. (goes x && (x.claim.write_half && is_active x)) && meets x.claim.writes s) p
   unfolding left_by
   written_meets s =
-      ap (λ (l : Left). meets l.written s) (left_from goes none_gone p) ∙ gathered (λ x. goes x && (x.claim.write_half && is_active x)) (λ x. x.claim.writes) s p
+      ap (λ (l : Left). meets l.written s) (left_from goes (none_gone ever) p) ∙ gathered (λ x. goes x && (x.claim.write_half && is_active x)) (λ x. x.claim.writes) s p
 
-  freed_meets : (s : Set) → meets (left_by goes p).freed s ≡ list_any (λ x. goes x && meets (union x.claim.reads x.claim.writes) s) p
+  read_is : (left_by goes ever p).read ≡ ever
   unfolding left_by
-  freed_meets s = ap (λ (l : Left). meets l.freed s) (left_from goes none_gone p) ∙ gathered goes (λ x. union x.claim.reads x.claim.writes) s p
+  read_is = ap (λ (l : Left). l.read) (left_from goes (none_gone ever) p)
+
+  freed_meets : (s : Set) → meets (left_by goes ever p).freed s ≡ list_any (λ x. goes x && meets (union x.claim.reads x.claim.writes) s) p
+  unfolding left_by
+  freed_meets s = ap (λ (l : Left). meets l.freed s) (left_from goes (none_gone ever) p) ∙ gathered goes (λ x. union x.claim.reads x.claim.writes) s p
 
 -- what conflicts with a write reads or writes one of its places
 conflict_touches : (v c : Claim) → IsClaim c → c.write_half ≡ true → conflicts v c ≡ true → meets (union v.reads v.writes) c.places ≡ true
@@ -71,9 +78,9 @@ conflict_touches v c is w h =
       ]
     ]
 
-module _ (groups : List Set) (goes : Claimed → Bool) (p : List Claimed) (stable : Settles p p) (exclusive : AreExclusive p) (admitted : AreAdmittedBy groups p) where
+module _ (groups : List Set) (goes : Claimed → Bool) (ever : Set) (p : List Claimed) (stable : Settles p p) (exclusive : AreExclusive p) (admitted : AreAdmittedBy groups p) where
   abbrev left : Left
-  left = left_by goes p
+  left = left_by goes ever p
 
   abbrev stay : Claimed → Bool
   stay x = not (goes x)
@@ -99,7 +106,7 @@ module _ (groups : List Set) (goes : Claimed → Bool) (p : List Claimed) (stabl
   -- an unsatisfied read that what is gone kept waiting is kept out no more
   freed_read : (r : Claimed) → Among r p → IsClaim r.claim → r.claim.write_half ≡ false → meets left.written r.claim.reads ≡ true → is_kept_out xs r.claim ≡ false
   freed_read r there is read met =
-      let found = passing (λ x. (goes x && (x.claim.write_half && is_active x)) && meets x.claim.writes r.claim.reads) p (sym (written_meets goes p r.claim.reads) ∙ met) in
+      let found = passing (λ x. (goes x && (x.claim.write_half && is_active x)) && meets x.claim.writes r.claim.reads) p (sym (written_meets goes ever p r.claim.reads) ∙ met) in
       let v = found.0 in
       let parts = and_parts (goes v && (v.claim.write_half && is_active v)) (meets v.claim.writes r.claim.reads) found.2 in
       let first = and_parts (goes v) (v.claim.write_half && is_active v) parts.0 in
@@ -119,7 +126,7 @@ module _ (groups : List Set) (goes : Claimed → Bool) (p : List Claimed) (stabl
       and_from (goes v && (v.claim.write_half && is_active v)) (meets v.claim.writes r.claim.reads) (and_from (goes v) (v.claim.write_half && is_active v) gone parts.0)
       (sym (conflicts_with_read v.claim r.claim (is.read_only read)) ∙ parts.1) in
       contrary (meets left.written r.claim.reads)
-      (written_meets goes p r.claim.reads ∙ any_among (λ x. (goes x && (x.claim.write_half && is_active x)) && meets x.claim.writes r.claim.reads) p v found.1 writes) apart)
+      (written_meets goes ever p r.claim.reads ∙ any_among (λ x. (goes x && (x.claim.write_half && is_active x)) && meets x.claim.writes r.claim.reads) p v found.1 writes) apart)
       (λ stays. any_among (keeps_out r.claim) xs v (in_filter stay p v found.1 (ap not stays)) found.2)
 
   released : (r : Claimed) → Among r xs → IsClaim r.claim → r.claim.write_half ≡ false → is_satisfied r ≡ false → is_kept_out xs r.claim ≡ not (meets left.written r.claim.reads)
@@ -141,18 +148,19 @@ module _ (groups : List Set) (goes : Claimed → Bool) (p : List Claimed) (stabl
       (λ gone.
       let conflict = (and_parts (is_satisfied v && (not v.claim.write_half || is_earlier_write c.claim v.claim)) (conflicts v.claim c.claim) found.2).1 in
       contrary (meets left.freed c.claim.places)
-      (freed_meets goes p c.claim.places
+      (freed_meets goes ever p c.claim.places
       ∙ any_among (λ x. goes x && meets (union x.claim.reads x.claim.writes) c.claim.places) p v found.1
       (and_from (goes v) _ gone (conflict_touches v.claim c.claim is write conflict))) apart)
       (λ stays.
       any_among (λ v. is_satisfied v && (not v.claim.write_half || is_earlier_write c.claim v.claim) && conflicts v.claim c.claim) xs v
       (in_filter stay p v found.1 (ap not stays)) found.2)
 
-  pub is_left : AreWellFormed xs → EachPair KeptBehind (settled xs) → IsLeft xs left
-  is_left well behind =
+  pub is_left : AreWellFormed xs → AreReadWithin ever xs → EachPair KeptBehind (settled xs) → IsLeft xs left
+  is_left well within behind =
       let is : (x : Claimed) → Among x xs → IsClaim x.claim = λ x there. all_at (λ x. IsClaim x.claim) xs x well.claims there in
       record {
         well_formed = well;
+        within = subst (λ (s : Set). AreReadWithin s xs) (sym (read_is goes ever p)) within;
         released = all_from _ xs (λ x there. released x there (is x there));
         held = all_from _ xs (λ x there. held x there (is x there));
         kept_behind = behind;

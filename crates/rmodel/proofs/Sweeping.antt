@@ -1,11 +1,14 @@
 -- The pass over the claims that a removal leaves gives what they settle to.
-use Rattle.std.proofs.Common.{◌≡◌, ℕ, zero, suc, ◌+◌, ◌<◌, ◌≤◌, Bool, true, false, not, ◌&&◌, ◌||◌, nat_lt, cond, List, [], ◌∷◌, ◌++◌, fold, length, get_or, take, drop, refl, sym, ap, subst, ◌∙◌, arith}
-use Rattle.std.proofs.lemmas.Bool.{or_parts, and_parts, and_from, or_left, ltb-true}
+use Rattle.std.proofs.Common.{◌≡◌, ℕ, zero, suc, ◌+◌, ◌<◌, ◌≤◌, ◌==◌, Bool, true, false, not, ◌&&◌, ◌||◌, nat_lt, cond, List, [], ◌∷◌, ◌++◌, fold, length, get_or, take, drop, refl, sym, ap, subst, ◌∙◌, arith}
+use Rattle.std.proofs.lemmas.Bool.{or_parts, and_parts, and_from, or_left, ltb-true, lt-ltb}
+use Rattle.std.proofs.lemmas.Bool.Decides.{nat_tests}
 use Rattle.std.proofs.lemmas.List.Folds.{list_any-append}
 use Rattle.std.proofs.lemmas.List.Elements.{AllZip-get_or, length_all_zip}
 use Rattle.std.specs.List.{list_any, AllZip, AllByRecursion}
-use Rattle.std.specs.FinSet.{empty, union}
+use Rattle.std.specs.FinSet.{empty, union, is_subset, len-empty}
+use Rattle.std.specs.Ordering.{nat_cmp}
 use Rattle.rset.specs.Sets.{Set, meets}
+use Rattle.rset.proofs.SetLemmas.{apart_within_left, meets_symmetric, meets_empty_left}
 use Rattle.rclaim.specs.declared.claim.Claim.{Claim}
 use Rattle.rclaim.specs.declared.claim.Status.{Status}
 use Rattle.rclaim.specs.declared.claim.Status.TheVariants.{Waiting, Entitled, Satisfied}
@@ -19,14 +22,14 @@ use Rattle.rmodel.specs.NewClaim.{seen_of, is_past}
 use Rattle.rmodel.specs.Reached.{KeptBehind}
 use Rattle.rmodel.specs.Rules.{is_earlier_write, is_kept_out, may_enter, is_held_up, is_kept, SettlesAt, Settles}
 use Rattle.rmodel.specs.Settling.{with_status, written_by_satisfied, read_near, is_clear, has_way, bars_of, entered_status, settled}
-use Rattle.rmodel.specs.Sweep.{stands, still_near, still_holds_up, remains, swept_status, swept, IsLeft}
+use Rattle.rmodel.specs.Sweep.{stands, with_near, still_near, is_past_still, is_read_still, is_held_still, remains, swept_status, swept, AreReadWithin, IsLeft}
 use Rattle.rmodel.specs.WellFormed.{EachPair, Rises, IsClaim, AreWellFormed}
-use Rattle.rmodel.proofs.Barred.{between, barred_in, clear_in, past_is, rise_from}
+use Rattle.rmodel.proofs.Barred.{between, barred_in, clear_in, past_is, rise_to, rise_from, front}
 use Rattle.rmodel.proofs.ChangeSteps.{first_of_rest}
-use Rattle.rmodel.proofs.ListFacts.{contrary, false_from, any_zip, all_zip, none_from, all_at, all_from, zip_all, zip_append, some_second, second_itself}
-use Rattle.rmodel.proofs.NewSettled.{bars_seen, kept_seen}
+use Rattle.rmodel.proofs.ListFacts.{contrary, false_from, any_zip, all_zip, none_from, all_at, all_from, zip_all, zip_append, some_second, second_itself, all_append, behind}
+use Rattle.rmodel.proofs.NewSettled.{bars_seen, kept_seen, kept_meets, any_or, all_both}
 use Rattle.rmodel.proofs.OneSettlement.{both_cases, status_told}
-use Rattle.rmodel.proofs.Settlement.{ReadsOnly, has_way_is, kept_is, settles_settled}
+use Rattle.rmodel.proofs.Settlement.{ReadsOnly, any_agree, has_way_is, kept_is, settles_settled}
 use Rattle.rmodel.proofs.Soundness.{active_of_satisfied, same_claims, same_claims_well_formed}
 
 -- ---- statuses, case by case
@@ -99,6 +102,13 @@ zip_drop R (suc i) [] (y ∷ ys) zip = absurd zip
 zip_drop R (suc i) (x ∷ xs) [] zip = absurd zip
 zip_drop R (suc i) (x ∷ xs) (y ∷ ys) zip = zip_drop R i xs ys zip.1
 
+-- what holds of each second one, by what holds of each pair
+pub all_second : {X Y : Type 0} (R : X → Y → Type 0) (Q : Y → Type 0) → ((x : X) (y : Y) → R x y → Q y) → (xs : List X) (ys : List Y) → AllZip R xs ys → AllByRecursion Q ys
+all_second R Q by [] [] zip = tt
+all_second R Q by [] (y ∷ ys) zip = absurd zip
+all_second R Q by (x ∷ xs) [] zip = absurd zip
+all_second R Q by (x ∷ xs) (y ∷ ys) zip = (by x y zip.0, all_second R Q by xs ys zip.1)
+
 -- what holds of an element and each that comes after it
 pub pairs_at : (R : Claimed → Claimed → Type 0) (done : List Claimed) (y : Claimed) (tail : List Claimed) → EachPair R (done ++ (y ∷ tail)) → AllByRecursion (R y) tail
 pairs_at R [] y tail pairs = pairs.0
@@ -132,6 +142,130 @@ near_same : (w a b m : Bool) (all more : Set) → (w ≡ false → a ≡ b) → 
 near_same true a b m all more same = refl
 near_same false a b m all more same = ap (λ c. cond (not c && m) more all) (same refl)
 
+-- ---- what the claims read lies within a set
+
+none_near : (a b : Bool) → (not a && not b && false) ≡ false
+none_near true b = refl
+none_near false true = refl
+none_near false false = refl
+
+none_read : (a b : Bool) → (a && b && false) ≡ false
+none_read false b = refl
+none_read true false = refl
+none_read true true = refl
+
+-- where that has none of these resources, no read is near them
+near_none : (left : Left) (s : Set) → meets left.read s ≡ false → (zs : List Claimed) → AreReadWithin left.read zs → still_near left zs s ≡ empty
+unfolding still_near
+near_none left s apart [] within = refl
+near_none left s apart (z ∷ zs) within =
+    ap (λ b. fold (with_near left s) (cond b (union empty z.claim.reads) empty) zs)
+    (ap (λ m. not z.claim.write_half && not (stands left z) && m) (apart_within_left z.claim.reads left.read s within.0 apart) ∙ none_near z.claim.write_half (stands left z))
+    ∙ near_none left s apart zs within.1
+
+-- and nobody reads them
+read_none : (left : Left) (c : Claim) → meets left.read c.writes ≡ false → (zs : List Claimed) → AreReadWithin left.read zs → is_read_still left zs c ≡ false
+read_none left c apart [] within = refl
+read_none left c apart (z ∷ zs) within =
+    (λ i.
+    (ap (λ m. stands left z && (not z.claim.write_half || is_earlier_write c z.claim) && m) (apart_within_left z.claim.reads left.read c.writes within.0 apart)
+    ∙ none_read (stands left z) (not z.claim.write_half || is_earlier_write c z.claim)) i
+    || read_none left c apart zs within.1 i)
+
+-- so that looking there first tells the same
+read_guarded : (left : Left) (c : Claim) (zs : List Claimed) → AreReadWithin left.read zs → (meets left.read c.writes && is_read_still left zs c) ≡ is_read_still left zs c
+read_guarded left c zs within = at (meets left.read c.writes) refl
+  where
+    at : (b : Bool) → meets left.read c.writes ≡ b → (b && is_read_still left zs c) ≡ is_read_still left zs c
+    at true is = refl
+    at false is = sym (read_none left c is zs within)
+
+past_guarded : (left : Left) (c : Claim) (zs : List Claimed) → AreReadWithin left.read zs → is_past_still left zs c ≡ is_past zs c (still_near left zs c.places)
+past_guarded left c zs within = at (meets left.read c.places) refl
+  where
+    at : (b : Bool) → meets left.read c.places ≡ b → (not b || is_past zs c (still_near left zs c.places)) ≡ is_past zs c (still_near left zs c.places)
+    at true is = refl
+    at false is = sym (ap (is_past zs c) (near_none left c.places is zs within) ∙ ap (λ n. (n == 0) || is_clear zs c empty) (len-empty nat_cmp))
+
+-- ---- what holds a write up: what the satisfied writes before it write, or who reads what it writes
+
+last : (a b c : Bool) → ((a || b) || c) ≡ ((a || b) || (c || b))
+last true b c = refl
+last false true c = refl
+last false false true = refl
+last false false false = refl
+
+-- a claim before it
+held_before : (w s l a b c : Bool) → (w ≡ true → l ≡ true) → (w ≡ false → a ≡ false) → (w ≡ false → b ≡ false)
+    → (s && (not w || (w && l)) && ((a || b) || (c || b))) ≡ ((((w && s) && a) || ((w && s) && b)) || (s && (not w || (w && l)) && c))
+held_before true false l a b c less none none' = refl
+held_before true true l a b c less none none' = (λ i. less refl i && ((a || b) || (c || b))) ∙ sym (last a b c) ∙ (λ i. (a || b) || (sym (less refl) i && c))
+held_before false false l a b c less none none' = refl
+held_before false true l a b c less none none' = (λ i. (none refl i || none' refl i) || (c || none' refl i)) ∙ sym (last false false c)
+
+-- a claim that is not before it
+held_behind : (w s l a b c : Bool) → l ≡ false → (w ≡ false → a ≡ false) → (w ≡ false → b ≡ false)
+    → (s && (not w || (w && l)) && ((a || b) || (c || b))) ≡ (s && (not w || (w && l)) && c)
+held_behind true s l a b c late none none' = (λ i. s && late i && ((a || b) || (c || b))) ∙ at s ∙ (λ i. s && sym late i && c)
+  where
+    at : (s : Bool) → (s && false && ((a || b) || (c || b))) ≡ (s && false && c)
+    at true = refl
+    at false = refl
+held_behind false false l a b c late none none' = refl
+held_behind false true l a b c late none none' = (λ i. (none refl i || none' refl i) || (c || none' refl i)) ∙ sym (last false false c)
+
+or_assoc : (a b c : Bool) → ((a || b) || c) ≡ (a || (b || c))
+or_assoc true b c = refl
+or_assoc false b c = refl
+
+not_below : (m n : ℕ) → n ≤ m → nat_lt m n ≡ false
+not_below m n h = grind (arith, nat_tests)
+
+module _ (c : Claim) where
+  -- a satisfied read, or a satisfied write of smaller stamp, conflicts with it
+  abbrev holds : Claimed → Bool
+  holds v = is_satisfied v && (not v.claim.write_half || is_earlier_write c v.claim) && conflicts v.claim c
+
+  -- or reads what it writes
+  abbrev reads : Claimed → Bool
+  reads v = is_satisfied v && (not v.claim.write_half || is_earlier_write c v.claim) && meets v.claim.reads c.writes
+
+  abbrev writes_in : Set → Claimed → Bool
+  writes_in s v = (v.claim.write_half && is_satisfied v) && meets v.claim.writes s
+
+  turned : (v : Claimed)
+      → holds v ≡ (is_satisfied v && (not v.claim.write_half || is_earlier_write c v.claim)
+      && ((meets v.claim.writes c.reads || meets v.claim.writes c.writes) || (meets v.claim.reads c.writes || meets v.claim.writes c.writes)))
+  turned v =
+      (λ i. is_satisfied v && (not v.claim.write_half || is_earlier_write c v.claim)
+      && ((meets_symmetric c.reads v.claim.writes i || meets_symmetric c.writes v.claim.writes i) || (meets v.claim.reads c.writes || meets v.claim.writes c.writes)))
+
+  writes_none : (v : Claimed) → IsClaim v.claim → (s : Set) → v.claim.write_half ≡ false → meets v.claim.writes s ≡ false
+  writes_none v is s r = ap (λ w. meets w s) (is.read_only r) ∙ meets_empty_left s
+
+  holds_before : (v : Claimed) → (v.claim.write_half ≡ true → v.claim.stamp < c.stamp) × IsClaim v.claim → holds v ≡ ((writes_in c.reads v || writes_in c.writes v) || reads v)
+  holds_before v h =
+      turned v
+      ∙ held_before v.claim.write_half (is_satisfied v) (nat_lt v.claim.stamp c.stamp) (meets v.claim.writes c.reads) (meets v.claim.writes c.writes) (meets v.claim.reads c.writes)
+      (λ w. lt-ltb v.claim.stamp c.stamp (h.0 w)) (writes_none v h.1 c.reads) (writes_none v h.1 c.writes)
+
+  holds_behind : (v : Claimed) → (c.stamp ≤ v.claim.stamp) × IsClaim v.claim → holds v ≡ reads v
+  holds_behind v h =
+      turned v
+      ∙ held_behind v.claim.write_half (is_satisfied v) (nat_lt v.claim.stamp c.stamp) (meets v.claim.writes c.reads) (meets v.claim.writes c.writes) (meets v.claim.reads c.writes)
+      (not_below v.claim.stamp c.stamp h.0) (writes_none v h.1 c.reads) (writes_none v h.1 c.writes)
+
+  held_seen : (done rest : List Claimed) → AllByRecursion (λ v. (v.claim.write_half ≡ true → v.claim.stamp < c.stamp) × IsClaim v.claim) done
+      → AllByRecursion (λ v. (c.stamp ≤ v.claim.stamp) × IsClaim v.claim) rest
+      → is_held_up (done ++ rest) c ≡ ((meets (seen_of done).kept c.reads || meets (seen_of done).kept c.writes) || list_any reads (done ++ rest))
+  held_seen done rest before behind =
+      list_any-append holds done rest
+      ∙ (λ i. any_agree _ holds _ holds_before done before i || any_agree _ holds reads holds_behind rest behind i)
+      ∙ ap (λ b. b || list_any reads rest) (sym (any_or (λ v. writes_in c.reads v || writes_in c.writes v) reads done))
+      ∙ or_assoc _ (list_any reads done) (list_any reads rest)
+      ∙ ap (λ b. list_any (λ v. writes_in c.reads v || writes_in c.writes v) done || b) (sym (list_any-append reads done rest))
+      ∙ ap (λ b. b || list_any reads (done ++ rest)) (sym (any_or (writes_in c.reads) (writes_in c.writes) done) ∙ (λ i. sym (kept_meets done c.reads) i || sym (kept_meets done c.writes) i))
+
 module _ (xs : List Claimed) (left : Left) (is_left : IsLeft xs left) where
   abbrev t : List Claimed
   t = settled xs
@@ -148,6 +282,7 @@ module _ (xs : List Claimed) (left : Left) (is_left : IsLeft xs left) where
   -- what is known of a claim before
   record Was (x : Claimed) : Type 0 where
     is_claim : IsClaim x.claim
+    within : is_subset x.claim.reads left.read ≡ true
     released : x.claim.write_half ≡ false → is_satisfied x ≡ false → is_kept_out xs x.claim ≡ not (meets left.written x.claim.reads)
     held : x.claim.write_half ≡ true → is_active x ≡ true → is_satisfied x ≡ false → meets left.freed x.claim.places ≡ false → is_held_up xs x.claim ≡ true
 
@@ -160,6 +295,7 @@ module _ (xs : List Claimed) (left : Left) (is_left : IsLeft xs left) where
   falls = zip_all Was (SettlesAt xs t) Falls (λ x y w a. record { at = a; was = w }) xs t
       (all_from Was xs (λ x there. record {
         is_claim = all_at (λ x. IsClaim x.claim) xs x is_left.well_formed.claims there;
+        within = all_at (λ x. is_subset x.claim.reads left.read ≡ true) xs x is_left.within there;
         released = all_at _ xs x is_left.released there;
         held = all_at _ xs x is_left.held there;
       }))
@@ -215,11 +351,11 @@ module _ (xs : List Claimed) (left : Left) (is_left : IsLeft xs left) where
         ∙ clear_same v.claim.write_half (nat_lt v.claim.stamp c.stamp) (is_satisfied u) (is_satisfied v) (share_place v.claim c) (not (meets v.claim.writes s)) b.writes)
         us vs zip
 
-    held_beside : still_holds_up left us c ≡ is_held_up vs c
-    held_beside = any_zip (Beside c.stamp) _ _
+    read_beside : is_read_still left us c ≡ list_any (reads c) vs
+    read_beside = any_zip (Beside c.stamp) _ _
         (λ u v b.
-        ap (λ k. stands left u && (not k.write_half || is_earlier_write c k) && conflicts k c) b.claim
-        ∙ held_same v.claim.write_half (nat_lt v.claim.stamp c.stamp) (stands left u) (is_satisfied v) (conflicts v.claim c) b.reads
+        ap (λ k. stands left u && (not k.write_half || is_earlier_write c k) && meets k.reads c.writes) b.claim
+        ∙ held_same v.claim.write_half (nat_lt v.claim.stamp c.stamp) (stands left u) (is_satisfied v) (meets v.claim.reads c.writes) b.reads
         (λ w low. ap (λ h. is_satisfied u || (not h && meets left.written u.claim.reads)) (ap (λ k. k.write_half) b.claim ∙ w) ∙ or_none (is_satisfied u) ∙ b.writes w low))
         us vs zip
 
@@ -272,6 +408,13 @@ module _ (xs : List Claimed) (left : Left) (is_left : IsLeft xs left) where
     well_whole : AreWellFormed (done ++ (y ∷ tail))
     well_whole = subst AreWellFormed (sym whole) well
 
+    within : AreReadWithin left.read us
+    within =
+        let P : Claimed → Type 0 = λ v. is_subset v.claim.reads left.read ≡ true in
+        all_append P done (x ∷ rest)
+        (all_second Falls P (λ a b f. ap (λ (c : Claim). is_subset c.reads left.read) f.at.same ∙ f.was.within) was done before)
+        (behind P was (x ∷ rest) (subst (λ (l : List Claimed). AreReadWithin left.read l) (sym all) is_left.within))
+
     -- a write that is barred does not enter
     barred_out : meets (bars_of done) x.claim.places ≡ true → may_enter t y.claim ≡ false
     barred_out h =
@@ -279,10 +422,11 @@ module _ (xs : List Claimed) (left : Left) (is_left : IsLeft xs left) where
         ∙ barred_in done tail y well_whole (ap (λ c. meets (bars_of done) c.places) (sym same) ∙ h)
 
     -- another enters where no read stands between
-    way_is : meets (bars_of done) x.claim.places ≡ false → is_past us x.claim (still_near left us x.claim.places) ≡ may_enter t y.claim
+    way_is : meets (bars_of done) x.claim.places ≡ false → is_past_still left us x.claim ≡ may_enter t y.claim
     unfolding has_way
     way_is h =
-        (λ i. is_past us (same i) (still_near left us (same i).places))
+        past_guarded left x.claim us within
+        ∙ (λ i. is_past us (same i) (still_near left us (same i).places))
         ∙ past_is us y.claim (still_near left us y.claim.places) (clear_beside y.claim us t beside y.claim.places ∙ free)
         ∙ clear_beside y.claim us t beside (still_near left us y.claim.places)
         ∙ ap (is_clear t y.claim) (near_beside y.claim us t beside y.claim.places)
@@ -291,9 +435,6 @@ module _ (xs : List Claimed) (left : Left) (is_left : IsLeft xs left) where
       where
         free : is_clear t y.claim y.claim.places ≡ true
         free = ap (λ l. is_clear l y.claim y.claim.places) (sym whole) ∙ clear_in done tail y well_whole (ap (λ c. meets (bars_of done) c.places) (sym same) ∙ h)
-
-    held_is : still_holds_up left us x.claim ≡ is_held_up t y.claim
-    held_is = ap (still_holds_up left us) same ∙ held_beside y.claim us t beside
 
     -- what keeps a read waiting comes before it
     none_later : y.claim.write_half ≡ false → is_satisfied y ≡ false → list_any (λ v. v.claim.write_half && is_satisfied v && conflicts v.claim y.claim) tail ≡ false
@@ -321,6 +462,27 @@ module _ (xs : List Claimed) (left : Left) (is_left : IsLeft xs left) where
       kept : (s : Set) → meets seen.kept s ≡ meets (written_by_satisfied done) s
       kept s = ap (λ (z : Seen). meets z.kept s) is_seen ∙ ap (λ b. meets b s) (kept_seen done)
 
+      held_is : is_held_still left seen us x.claim ≡ is_held_up t y.claim
+      held_is =
+          let c = y.claim in
+          ap (is_held_still left seen us) same
+          ∙ (λ i. (meets (is_seen i).kept c.reads || meets (is_seen i).kept c.writes) || (read_guarded left c us within ∙ read_beside c us t beside ∙ ap (list_any (reads c)) (sym whole)) i)
+          ∙ sym
+          (held_seen c done (y ∷ tail)
+          (all_weak _ _ (λ v h. (h.0.after_write, h.1)) done (all_both (λ v. Rises v y) (λ v. IsClaim v.claim) done (rise_to done tail y well_whole.rising) (front done (y ∷ tail) well_whole.claims)))
+          ((le_itself c.stamp, claims.0), all_weak _ _ (λ v h. (h.0.not_above, h.1)) tail (all_both (Rises y) (λ v. IsClaim v.claim) tail (rise_from done tail y well_whole.rising) claims.1)))
+          ∙ ap (λ l. is_held_up l c) whole
+        where
+          claims : AllByRecursion (λ v. IsClaim v.claim) (y ∷ tail)
+          claims = behind (λ v. IsClaim v.claim) done (y ∷ tail) well_whole.claims
+
+          le_itself : (n : ℕ) → n ≤ n
+          le_itself n = omega arith
+
+          all_weak : (P Q : Claimed → Type 0) → ((v : Claimed) → P v → Q v) → (vs : List Claimed) → AllByRecursion P vs → AllByRecursion Q vs
+          all_weak P Q by [] h = tt
+          all_weak P Q by (v ∷ vs) h = (by v h.0, all_weak P Q by vs h.1)
+
       -- the status that the pass makes, where the claim is a write or not
       abbrev made : Bool → Status
       made w =
@@ -329,15 +491,15 @@ module _ (xs : List Claimed) (left : Left) (is_left : IsLeft xs left) where
           (not (meets left.written x.claim.reads) && is_same (is_entitled x) (meets seen.kept x.claim.reads)))
           x.status
           (cond (is_satisfied x) Satisfied
-          (cond w (entered_status (is_active x || is_past us x.claim (still_near left us x.claim.places)) (still_holds_up left us x.claim))
+          (cond w (entered_status (is_active x || is_past_still left us x.claim) (is_held_still left seen us x.claim))
           (cond (meets left.written x.claim.reads) Satisfied (cond (meets seen.kept x.claim.reads) Entitled Waiting))))
 
       status_is : cond (remains left seen x) x.status (swept_status left seen us x) ≡ y.status
       status_is = both_cases x.claim.write_half
           (λ w.
           ap made w
-          ∙ write_at x.status y.status (meets seen.bars x.claim.places) (meets left.freed x.claim.places) (is_past us x.claim (still_near left us x.claim.places))
-          (still_holds_up left us x.claim) (may_enter t y.claim) (is_held_up t y.claim)
+          ∙ write_at x.status y.status (meets seen.bars x.claim.places) (meets left.freed x.claim.places) (is_past_still left us x.claim)
+          (is_held_still left seen us x.claim) (may_enter t y.claim) (is_held_up t y.claim)
           (here.at.entitlement (sym (half x y here) ∙ w)) (here.at.satisfaction (sym (half x y here) ∙ w))
           (λ h. barred_out (sym (bars x.claim.places) ∙ h))
           (λ waits h. way_is (sym (bars x.claim.places) ∙ h))

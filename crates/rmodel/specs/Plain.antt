@@ -1,12 +1,13 @@
 -- How the plain machine keeps its lock state, and what it keeps true.
-use Rattle.std.specs.Prelude.{◌≡◌, ◌≤◌, ◌+◌, vec_capacity}
+use Rattle.std.specs.Prelude.{◌≡◌, ◌≤◌, ◌+◌, false, vec_capacity}
 use Rattle.rset.specs.declared.TheConstants.{SEATS}
 use Rattle.rclaim.specs.declared.TheConstants.{STATUS_ROOM}
 use Rattle.rmodel.specs.declared.plain.Plain.TheInside.{Inside}
 use Rattle.rclaim.specs.Events.{IsNormalEvent}
 use Rattle.rclaim.specs.declared.event.Event.{Event}
 use Rattle.rmodel.specs.Changes.{status_changes, grant_changes, AreActive}
-use Rattle.rmodel.specs.Steps.{changed, next}
+use Rattle.rmodel.specs.Steps.{changed, next, some_asks}
+use Rattle.rmodel.specs.Sweep.{AreReadWithin}
 use Rattle.rmodel.specs.WellFormed.{IsSound}
 use Rattle.rmodel.specs.State.{LockState}
 use Rattle.rmodel.specs.Machine.{Standing}
@@ -27,6 +28,9 @@ pub record IsKept (a : Inside) : Type 0 where
   -- what is seen of the claims is kept beside them
   pub seen : a.seen ≡ seen_of a.claims.items
   pub some_cap : 1 ≤ a.cap
+  -- what they read was read so far, and where nothing was asked for so far, they ask for nothing
+  pub within : AreReadWithin a.read a.claims.items
+  pub unasked : a.asked ≡ false → some_asks a.claims.items ≡ false
   pub cap : a.cap ≤ SEATS
   pub some_seats : 1 ≤ a.seats
   pub seats : a.seats ≤ SEATS

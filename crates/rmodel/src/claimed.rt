@@ -1,6 +1,6 @@
 // A claim of the lock state, with how far it has come.
 ghost use Rattle.std.specs.Prelude.{◌≡◌};
-ghost use Rattle.rmodel.specs.Claims.{is_active, is_entitled, is_satisfied, is_nested, is_read_half, conflicts, conflicts_on, touches, share_place, waiting};
+ghost use Rattle.rmodel.specs.Claims.{is_active, is_entitled, is_satisfied, is_nested, is_read_half, conflicts_on, touches, share_place, waiting};
 ghost use Rattle.rmodel.specs.Holds.{held_by};
 
 use crate::Granted;
@@ -86,17 +86,10 @@ pub(crate) fn is_read_half(claim: &Claim) -> bool
 
 /// Whether the claim reads or writes one of these resources.
 #[tactic(auto, using(rset::proofs::SetsMeet::meets_union_left))]
-pub(crate) fn touches(claim: &Claim, resources: ResourceSet) -> bool
+fn touches(claim: &Claim, resources: ResourceSet) -> bool
     ensures { result ≡ touches claim.now resources }
 {
     claim.reads.union(claim.writes).meets(resources)
-}
-
-/// Whether one of the claims writes what the other reads or writes.
-pub(crate) fn conflicts(a: &Claim, b: &Claim) -> bool
-    ensures { result ≡ conflicts a.now b.now }
-{
-    touches(b, a.writes) | touches(a, b.writes)
 }
 
 /// Whether the claim conflicts with an asker on a part of what that reads and writes.

@@ -1,6 +1,6 @@
 // What is asked for is granted, where it comes to a claim.
 ghost use Rattle.std.specs.FinSet.{len};
-ghost use Rattle.std.specs.Prelude.{◌≡◌, ◌<◌, ◌&&◌, nat_lt, length, slice_index_or, slice_set};
+ghost use Rattle.std.specs.Prelude.{◌≡◌, ◌<◌, ◌&&◌, false, nat_lt, length, slice_index_or, slice_set};
 ghost use Rattle.std.specs.List.{list_any};
 ghost use Rattle.rmodel.specs.Claims.{is_active};
 ghost use Rattle.rmodel.specs.declared.claimed.Claimed.{Claimed};
@@ -10,11 +10,12 @@ use crate::claimed::{Claimed, conflicts_on};
 use rclaim::Claim;
 use rset::ResourceSet;
 
-/// Whether some claim asks for something.
-pub(crate) fn some_asks(claims: &[Claimed]) -> bool
+/// Whether some claim asks for something. Where nothing was ever asked for, nothing is looked at.
+pub(crate) fn some_asks(claims: &[Claimed], asked: bool) -> bool
+    requires { asked ≡ false → some_asks claims.now ≡ false }
     ensures { result ≡ some_asks claims.now }
 {
-    claims.iter().any(|x| x.asked.len() > 0)
+    asked && claims.iter().any(|x| x.asked.len() > 0)
 }
 
 /// Whether some satisfied claim conflicts with the claim on this part.

@@ -14,15 +14,18 @@ pub(crate) struct Left {
     pub(crate) written: ResourceSet,
     /// What they read or wrote.
     pub(crate) freed: ResourceSet,
+    /// What those that stay read lies within this.
+    pub(crate) read: ResourceSet,
 }
 
 /// Nothing is gone.
-fn none_gone() -> Left
-    ensures { result ≡ none_gone }
+fn none_gone(read: ResourceSet) -> Left
+    ensures { result ≡ none_gone read }
 {
     Left {
         written: ResourceSet::empty(),
         freed: ResourceSet::empty(),
+        read,
     }
 }
 
@@ -39,15 +42,16 @@ fn with_left(all: Left, x: &Claimed) -> Left
             all.written
         },
         freed: all.freed.union(reads.union(writes)),
+        read: all.read,
     }
 }
 
 /// What the claims of a seat leave where they go.
 #[tactic(auto, unfolding(crate::specs::Sweep::left_by))]
-fn left_by_seat(claims: &[Claimed], seat: u8) -> Left
-    ensures { result ≡ left_by (is_of seat) claims.now }
+fn left_by_seat(claims: &[Claimed], seat: u8, read: ResourceSet) -> Left
+    ensures { result ≡ left_by (is_of seat) read claims.now }
 {
-    claims.iter().fold(none_gone(), |all, x| {
+    claims.iter().fold(none_gone(read), |all, x| {
         if x.claim.seat == seat {
             with_left(all, x)
         } else {
@@ -58,10 +62,10 @@ fn left_by_seat(claims: &[Claimed], seat: u8) -> Left
 
 /// What the read claim of a seat leaves where it goes.
 #[tactic(auto, unfolding(crate::specs::Sweep::left_by))]
-fn left_by_read_half(claims: &[Claimed], seat: u8) -> Left
-    ensures { result ≡ left_by (is_read_of seat) claims.now }
+fn left_by_read_half(claims: &[Claimed], seat: u8, read: ResourceSet) -> Left
+    ensures { result ≡ left_by (is_read_of seat) read claims.now }
 {
-    claims.iter().fold(none_gone(), |all, x| {
+    claims.iter().fold(none_gone(read), |all, x| {
         if x.claim.seat == seat && !x.claim.write_half {
             with_left(all, x)
         } else {
@@ -88,29 +92,30 @@ fn lone_place(claims: &[Claimed], seat: u8) -> Option<usize>
     Some(i)
 }
 
-/// Takes the claims of a seat out, and answers what they leave. Only an upgrade that has not risen has two.
-pub(crate) fn take_seat(claims: &mut Vec<Claimed>, seat: u8) -> Left
+/// Takes the claims of a seat out, and answers what they leave. Only an upgrade that has not risen has two. What the
+/// claims read lies within `read`.
+pub(crate) fn take_seat(claims: &mut Vec<Claimed>, seat: u8, read: ResourceSet) -> Left
     requires { EachPair Distinct claims.old.items }
     ensures items { claims.new.items ≡ filter (λ x. not (is_of seat x)) claims.old.items }
-    ensures left { result ≡ left_by (is_of seat) claims.old.items }
+    ensures left { result ≡ left_by (is_of seat) read claims.old.items }
     ensures capacity { vec_capacity claims.new ≡ vec_capacity claims.old }
 {
     if let Some(i) = lone_place(claims, seat) {
         let gone = claims.remove(i);
-        return with_left(none_gone(), &gone);
+        return with_left(none_gone(read), &gone);
     }
-    let left = left_by_seat(claims, seat);
+    let left = left_by_seat(claims, seat, read);
     remove_seat(claims, seat);
     left
 }
 
-/// Takes the read half of a seat's upgrade out, and answers what it leaves.
-pub(crate) fn take_read_half(claims: &mut Vec<Claimed>, seat: u8) -> Left
+/// Takes the read half of a seat's upgrade out, and answers what it leaves. What the claims read lies within `read`.
+pub(crate) fn take_read_half(claims: &mut Vec<Claimed>, seat: u8, read: ResourceSet) -> Left
     ensures items { claims.new.items ≡ filter (λ x. not (is_read_of seat x)) claims.old.items }
-    ensures left { result ≡ left_by (is_read_of seat) claims.old.items }
+    ensures left { result ≡ left_by (is_read_of seat) read claims.old.items }
     ensures capacity { vec_capacity claims.new ≡ vec_capacity claims.old }
 {
-    let left = left_by_read_half(claims, seat);
+    let left = left_by_read_half(claims, seat, read);
     remove_read_half(claims, seat);
     left
 }

@@ -29,6 +29,10 @@ const CLAIMS: usize = STATUS_ROOM + 2;
 pub struct Plain {
     claims: Vec<Claimed>,
     seen: Seen,
+    // What requests have read so far.
+    read: ResourceSet,
+    // Whether anything was asked for so far.
+    asked: bool,
     before: Vec<Claimed>,
     changes: Changes,
     groups: Groups,
@@ -60,6 +64,8 @@ impl Machine for Plain {
         Ok(Plain {
             claims: Vec::with_capacity(alloc, CLAIMS)?,
             seen: no_seen(),
+            read: ResourceSet::empty(),
+            asked: false,
             before: Vec::with_capacity(alloc, CLAIMS)?,
             changes: Changes::new(alloc)?,
             groups,
@@ -181,6 +187,8 @@ impl Plain {
             request,
             &mut self.changes,
         );
+        self.read = self.read.union(request.reads());
+        self.asked = self.asked | (request.first().len() > 0);
         self.issued += 1;
     }
 
@@ -190,8 +198,14 @@ impl Plain {
         requires accepted { Accepts self.old.state (Finish seat) }
         ensures { IsTaken self.old (Finish seat) self.new }
     {
-        let left = take_seat(&mut self.claims, seat);
-        let seen = settle(&mut self.claims, &left, &mut self.before, &mut self.changes);
+        let left = take_seat(&mut self.claims, seat, self.read);
+        let seen = settle(
+            &mut self.claims,
+            &left,
+            self.asked,
+            &mut self.before,
+            &mut self.changes,
+        );
         self.seen = seen;
     }
 
@@ -201,8 +215,14 @@ impl Plain {
         requires accepted { Accepts self.old.state (Rise seat) }
         ensures { IsTaken self.old (Rise seat) self.new }
     {
-        let left = take_read_half(&mut self.claims, seat);
-        let seen = settle(&mut self.claims, &left, &mut self.before, &mut self.changes);
+        let left = take_read_half(&mut self.claims, seat, self.read);
+        let seen = settle(
+            &mut self.claims,
+            &left,
+            self.asked,
+            &mut self.before,
+            &mut self.changes,
+        );
         self.seen = seen;
     }
 
@@ -212,6 +232,7 @@ impl Plain {
         requires accepted { Accepts self.old.state (Ask seat set) }
         ensures { IsTaken self.old (Ask seat set) self.new }
     {
+        self.asked = true;
         ask(&mut self.claims, seat, set);
         give_once(&mut self.claims, &mut self.before, &mut self.changes);
     }

@@ -1,10 +1,10 @@
 // Settles the claims that a finish or a rise leaves, and grants what is asked for.
-ghost use Rattle.std.specs.Prelude.{◌≡◌, ◌≤◌, length, vec_capacity};
+ghost use Rattle.std.specs.Prelude.{◌≡◌, ◌≤◌, false, length, vec_capacity};
 ghost use Rattle.rclaim.specs.declared.TheConstants.{GRANT_ROOM};
 ghost use Rattle.rmodel.specs.Changes.{status_changes, grant_changes};
 ghost use Rattle.rmodel.specs.NewClaim.{seen_of};
 ghost use Rattle.rmodel.specs.Settling.{settled};
-ghost use Rattle.rmodel.specs.Steps.{given};
+ghost use Rattle.rmodel.specs.Steps.{some_asks, given};
 ghost use Rattle.rmodel.specs.Sweep.{IsLeft};
 
 use crate::claimed::Claimed;
@@ -16,15 +16,17 @@ use crate::sweep::sweep;
 use crate::tell::tell_changes;
 use rclaim::Changes;
 
-/// Settles the claims once, grants what is asked for, and makes the changes those from the claims before. `before` is room.
-/// It answers what is seen of the claims then.
+/// Settles the claims once, grants what is asked for, and makes the changes those from the claims before. `before` is room,
+/// and `asked` whether anything was ever asked for. It answers what is seen of the claims then.
 fn settle_once(
     claims: &mut [Claimed],
     left: &Left,
+    asked: bool,
     before: &mut Vec<Claimed>,
     changes: &mut Changes,
 ) -> Seen
     requires left { IsLeft claims.old left.now }
+    requires asked { asked ≡ false → some_asks claims.old ≡ false }
     requires room { length claims.old ≤ GRANT_ROOM }
     requires before_room { length claims.old ≤ vec_capacity before.old }
     ensures settled { claims.new ≡ given (settled claims.old) }
@@ -34,7 +36,7 @@ fn settle_once(
     ensures grants { changes.new.grants ≡ grant_changes claims.old claims.new }
 {
     changes.clear();
-    if some_asks(claims) {
+    if some_asks(claims, asked) {
         copy_into(before, claims);
         let seen = sweep(claims, left, changes);
         if some_gets(claims) {
@@ -48,14 +50,16 @@ fn settle_once(
 }
 
 /// Settles the claims of a list once, grants what is asked for, and makes the changes those from the list before.
-/// `before` is room. It answers what is seen of the claims then.
+/// `before` is room, and `asked` whether anything was ever asked for. It answers what is seen of the claims then.
 pub(crate) fn settle(
     claims: &mut Vec<Claimed>,
     left: &Left,
+    asked: bool,
     before: &mut Vec<Claimed>,
     changes: &mut Changes,
 ) -> Seen
     requires left { IsLeft claims.old.items left.now }
+    requires asked { asked ≡ false → some_asks claims.old.items ≡ false }
     requires room { length claims.old.items ≤ GRANT_ROOM }
     requires before_room { length claims.old.items ≤ vec_capacity before.old }
     ensures items { claims.new.items ≡ given (settled claims.old.items) }
@@ -66,7 +70,7 @@ pub(crate) fn settle(
     ensures statuses { changes.new.statuses ≡ status_changes claims.old.items claims.new.items }
     ensures grants { changes.new.grants ≡ grant_changes claims.old.items claims.new.items }
 {
-    settle_once(claims, left, before, changes)
+    settle_once(claims, left, asked, before, changes)
 }
 
 /// Grants what is asked for, and makes the changes those from the claims before. `before` is room.

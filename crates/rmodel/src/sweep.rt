@@ -5,10 +5,10 @@ ghost use Rattle.rclaim.specs.Changes.{no_changes};
 ghost use Rattle.rmodel.specs.Changes.{status_changes, grant_changes, with_change};
 ghost use Rattle.rmodel.specs.NewClaim.{seen_of};
 ghost use Rattle.rmodel.specs.Settling.{settled};
-ghost use Rattle.rmodel.specs.Sweep.{stands, with_near, still_near, holds_up, still_holds_up, remains, read_swept, write_swept, swept_status, swept, IsLeft};
+ghost use Rattle.rmodel.specs.Sweep.{stands, with_near, still_near, reads_of, is_read_still, is_held_still, is_past_still, remains, read_swept, write_swept, swept_status, swept, IsLeft};
 ghost use Rattle.rmodel.specs.declared.claimed.Claimed.{Claimed};
 
-use crate::claimed::{Claimed, conflicts};
+use crate::claimed::Claimed;
 use crate::left::Left;
 use crate::seen::{Seen, and_where, no_seen, with_seen};
 use crate::tell::tell_claim;
@@ -41,20 +41,38 @@ fn still_near(left: &Left, claims: &[Claimed], resources: ResourceSet) -> Resour
     })
 }
 
-/// Whether a claim is a satisfied read, or a satisfied write of smaller stamp, and conflicts with another. It makes no
+/// Whether a claim is a satisfied read, or a satisfied write of smaller stamp, and reads what another writes. It makes no
 /// branch.
-fn holds_up(left: &Left, v: &Claimed, claim: &Claim) -> bool
-    ensures { result ≡ holds_up left.now claim.now v.now }
+fn reads_of(left: &Left, v: &Claimed, claim: &Claim) -> bool
+    ensures { result ≡ reads_of left.now claim.now v.now }
 {
     let counts = !v.claim.write_half | is_earlier_write(claim, &v.claim);
-    stands(left, v) & counts & conflicts(&v.claim, claim)
+    stands(left, v) & counts & v.claim.reads.meets(claim.writes)
 }
 
-/// Whether a satisfied read, or a satisfied write of smaller stamp, conflicts with the claim.
-fn still_holds_up(left: &Left, claims: &[Claimed], claim: &Claim) -> bool
-    ensures { result ≡ still_holds_up left.now claims.now claim.now }
+/// Whether a satisfied read, or a satisfied write of smaller stamp, reads what the claim writes.
+fn is_read_still(left: &Left, claims: &[Claimed], claim: &Claim) -> bool
+    ensures { result ≡ is_read_still left.now claims.now claim.now }
 {
-    claims.iter().any(|v| holds_up(left, v, claim))
+    claims.iter().any(|v| reads_of(left, v, claim))
+}
+
+/// Whether a satisfied read, or a satisfied write of smaller stamp, conflicts with the claim. Where nobody reads what it
+/// writes, nothing is looked at.
+fn is_held_still(left: &Left, seen: &Seen, claims: &[Claimed], claim: &Claim) -> bool
+    ensures { result ≡ is_held_still left.now seen.now claims.now claim.now }
+{
+    seen.kept.meets(claim.reads)
+        || seen.kept.meets(claim.writes)
+        || left.read.meets(claim.writes) && is_read_still(left, claims, claim)
+}
+
+/// Whether each earlier write that shares a place with the claim writes nothing of what the reads near it read that go on
+/// waiting. Where nobody reads a place of it, nothing is looked at.
+fn is_past_still(left: &Left, claims: &[Claimed], claim: &Claim) -> bool
+    ensures { result ≡ is_past_still left.now claims.now claim.now }
+{
+    !left.read.meets(claim.places) || is_past(claims, claim, still_near(left, claims, claim.places))
 }
 
 /// Whether it is seen at once that a claim stays as it is. It makes no branch, as nothing foretells what a claim is; so it
@@ -86,13 +104,12 @@ fn read_swept(left: &Left, seen: &Seen, x: &Claimed) -> Status
 }
 
 /// The status of an unsatisfied write that does not.
-fn write_swept(left: &Left, claims: &[Claimed], x: &Claimed) -> Status
-    ensures { result ≡ write_swept left.now claims.now x.now }
+fn write_swept(left: &Left, seen: &Seen, claims: &[Claimed], x: &Claimed) -> Status
+    ensures { result ≡ write_swept left.now seen.now claims.now x.now }
 {
-    let places = x.claim.places;
-    if !x.is_active() && !is_past(claims, &x.claim, still_near(left, claims, places)) {
+    if !x.is_active() && !is_past_still(left, claims, &x.claim) {
         Status::Waiting
-    } else if still_holds_up(left, claims, &x.claim) {
+    } else if is_held_still(left, seen, claims, &x.claim) {
         Status::Entitled
     } else {
         Status::Satisfied
@@ -106,7 +123,7 @@ fn swept_status(left: &Left, seen: &Seen, claims: &[Claimed], x: &Claimed) -> St
     if x.is_satisfied() {
         Status::Satisfied
     } else if x.claim.write_half {
-        write_swept(left, claims, x)
+        write_swept(left, seen, claims, x)
     } else {
         read_swept(left, seen, x)
     }

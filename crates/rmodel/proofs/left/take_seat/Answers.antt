@@ -14,4 +14,4 @@ pub returns-in-Some-clause-left : goal.returns-in-Some-clause-left
 returns-in-Some-clause-left c =
     let xs = c.args.claims.now.items in
     let lone : IsLone (is_of c.args.seat) xs c.in-Some.i = subst (λ (l : List Claimed). IsLone (is_of c.args.seat) l c.in-Some.i) c.deref.ensures.value c.in-Some.ensures in
-    c.with_left.ensures ∙ (λ k. with_left (c.none_gone.ensures k) (c.remove-gone.ensures.value k)) ∙ sym (lone_leaves c.args.seat xs c.in-Some.i c.remove-gone.result c.requires lone)
+    c.with_left.ensures ∙ (λ k. with_left (c.none_gone.ensures k) (c.remove-gone.ensures.value k)) ∙ sym (lone_leaves c.args.seat xs c.in-Some.i c.remove-gone.result c.requires lone c.args.read)

@@ -11,6 +11,9 @@ use Rattle.rmodel.proofs.Reached.{reached_next}
 use Rattle.rmodel.specs.NewClaim.{seen_of}
 use Rattle.rmodel.proofs.SweepSteps.{seen_standing}
 use Rattle.rmodel.proofs.Standing.{asking_standing, given_standing}
+use Rattle.std.proofs.lemmas.Bool.{true≢false}
+use Rattle.rmodel.specs.Sweep.{AreReadWithin}
+use Rattle.rmodel.proofs.SoFar.{within_next, within_asking}
 use Rattle.rmodel.proofs.Soundness.{sound_changed}
 use Rattle.rmodel.proofs.plain.Plain.ask.Goals as goal
 
@@ -47,6 +50,9 @@ invariant_of-self c =
       seen = c.self.invariant.seen ∙ seen_standing a.claims.items _ (asking_standing c.args.seat c.args.set a.claims.items)
           ∙ ap seen_of (sym c.ask.ensures.items) ∙ seen_standing c.ask.new.claims.items _ (given_standing c.ask.new.claims.items) ∙ ap seen_of (sym c.give_once.ensures.items);
       some_cap = c.self.invariant.some_cap;
+      within = subst (λ (xs : List Claimed). AreReadWithin a.read xs) (sym (c.give_once.ensures.items ∙ ap given (c.ask.ensures.items ∙ sym same)))
+          (within_next (state_of a) e c.self.invariant.reached.sound comes a.read (within_asking a.read c.args.set c.args.seat a.claims.items c.self.invariant.within));
+      unasked = λ unasked. absurd (true≢false unasked);
       cap = c.self.invariant.cap;
       some_seats = c.self.invariant.some_seats;
       seats = c.self.invariant.seats;

@@ -1,4 +1,5 @@
-use Rattle.std.proofs.Common.{List, length, refl, sym, ap, subst, ◌∙◌, arith}
+use Rattle.std.proofs.Common.{List, length, refl, sym, ap, subst, ◌∙◌, arith, ◌+◌, ◌≤◌, not}
+use Rattle.rclaim.specs.declared.TheConstants.{STATUS_ROOM}
 use Rattle.rclaim.specs.declared.event.Event.TheVariants.{Finish}
 use Rattle.rmodel.specs.declared.claimed.Claimed.{Claimed}
 use Rattle.rmodel.specs.Changes.{status_changes, grant_changes}
@@ -6,12 +7,14 @@ use Rattle.rmodel.specs.Plain.{state_of}
 use Rattle.rmodel.specs.Reached.{IsReached}
 use Rattle.rmodel.specs.Settling.{settled}
 use Rattle.rmodel.specs.State.{LockState}
-use Rattle.rmodel.specs.Steps.{changed, given}
+use Rattle.rmodel.specs.Steps.{changed, given, some_asks}
 use Rattle.rmodel.specs.declared.left.Left.{Left}
-use Rattle.rmodel.specs.Sweep.{is_of, IsLeft}
+use Rattle.rmodel.specs.Sweep.{is_of, AreReadWithin, IsLeft}
 use Rattle.rmodel.proofs.RemovedSteps.{is_left_by}
 use Rattle.rmodel.proofs.PlainSteps.{kept_comes, taken, few_claims}
 use Rattle.rmodel.proofs.Reached.{reached_next}
+use Rattle.rmodel.proofs.ListFacts.{all_filter}
+use Rattle.rmodel.proofs.SoFar.{within_next, unasked_left, unasked_next}
 use Rattle.rmodel.proofs.Soundness.{sound_changed}
 use Rattle.rmodel.proofs.plain.Plain.finish.Goals as goal
 
@@ -21,10 +24,15 @@ settle-seen-requires-clause-left c =
     let e = Finish c.args.seat in
     let comes = kept_comes a c.args.self.now e c.self.view_is c.requires.fits c.requires.accepted tt in
     subst (λ (p : List Claimed × Left). IsLeft p.0 p.1) (λ k. (sym c.take_seat-left.ensures.items k, sym c.take_seat-left.ensures.left k))
-    (is_left_by (state_of a) e (is_of c.args.seat) c.self.invariant.reached comes refl)
+    (is_left_by (state_of a) e (is_of c.args.seat) a.read c.self.invariant.reached c.self.invariant.within comes refl)
 
 pub take_seat-left-requires : goal.take_seat-left-requires
 take_seat-left-requires c = c.self.invariant.reached.sound.one_each
+
+pub settle-seen-requires-clause-asked : goal.settle-seen-requires-clause-asked
+settle-seen-requires-clause-asked c = λ unasked.
+    let xs = c.self.inside.claims.items in
+    ap some_asks c.take_seat-left.ensures.items ∙ unasked_left (λ x. not (is_of c.args.seat x)) xs (c.self.invariant.unasked unasked)
 
 pub settle-seen-requires-clause-room : goal.settle-seen-requires-clause-room
 settle-seen-requires-clause-room c =
@@ -57,6 +65,11 @@ invariant_of-self c =
           (reached_next (state_of a) e c.self.invariant.reached comes);
       seen = c.settle-seen.ensures.seen;
       some_cap = c.self.invariant.some_cap;
+      within = subst (λ (xs : List Claimed). AreReadWithin a.read xs) (sym (c.settle-seen.ensures.items ∙ ap (λ xs. given (settled xs)) c.take_seat-left.ensures.items))
+          (within_next (state_of a) e c.self.invariant.reached.sound comes a.read (all_filter _ (λ x. not (is_of c.args.seat x)) a.claims.items c.self.invariant.within));
+      unasked = λ unasked.
+          ap (λ xs. some_asks xs) (c.settle-seen.ensures.items ∙ ap (λ xs. given (settled xs)) c.take_seat-left.ensures.items)
+          ∙ unasked_next (state_of a) e c.self.invariant.reached.sound comes (unasked_left (λ x. not (is_of c.args.seat x)) a.claims.items (c.self.invariant.unasked unasked));
       cap = c.self.invariant.cap;
       some_seats = c.self.invariant.some_seats;
       seats = c.self.invariant.seats;

@@ -1,4 +1,5 @@
-use Rattle.std.proofs.Common.{◌+◌, List, ◌++◌, map, sym, ap, subst, ◌∙◌, arith}
+use Rattle.std.proofs.Common.{◌+◌, List, ◌++◌, map, sym, ap, subst, ◌∙◌, arith, ◌≡◌, ◌≤◌, nat_lt}
+use Rattle.rclaim.specs.declared.TheConstants.{STATUS_ROOM}
 use Rattle.rclaim.specs.declared.event.Event.TheVariants.{Issue}
 use Rattle.rmodel.specs.declared.claimed.Claimed.{Claimed}
 use Rattle.rclaim.specs.Changes.{ChangeLists}
@@ -9,6 +10,12 @@ use Rattle.rmodel.specs.Plain.{state_of}
 use Rattle.rmodel.specs.Reached.{IsReached}
 use Rattle.rmodel.proofs.PlainSteps.{kept_comes, taken, few_claims, two_claims}
 use Rattle.rmodel.proofs.IssueSteps.{issue_is, told_is}
+use Rattle.std.proofs.lemmas.Bool.{or_parts}
+use Rattle.std.specs.FinSet.{union, len}
+use Rattle.rset.specs.Sets.{Set}
+use Rattle.rmodel.specs.Steps.{next, some_asks}
+use Rattle.rmodel.specs.Sweep.{AreReadWithin}
+use Rattle.rmodel.proofs.SoFar.{within_issued, unasked_issued, within_next, unasked_next}
 use Rattle.rmodel.proofs.Reached.{reached_next}
 use Rattle.rmodel.proofs.plain.Plain.issue.Goals as goal
 
@@ -24,14 +31,23 @@ push_claims-requires-clause-room c =
 pub invariant_of-self : goal.invariant_of-self
 invariant_of-self c =
     let a = c.self.inside in
-    let e = Issue c.args.seat c.args.request.now in
+    let r = c.args.request.now in
+    let e = Issue c.args.seat r in
     let comes = kept_comes a c.args.self.now e c.self.view_is c.requires.fits c.requires.accepted c.push_claims.ensures.normal in
+    let sound = c.self.invariant.reached.sound in
+    let is : c.push_claims.new.claims.items ≡ (next (state_of a) e).claims = c.push_claims.ensures.items ∙ sym (issue_is (state_of a) c.args.seat r c.self.invariant.reached comes) in
     record {
-      reached = subst (λ (xs : List Claimed). IsReached (record (state_of a) { issued = a.issued + 1; claims = xs }))
-          (sym (c.push_claims.ensures.items ∙ sym (issue_is (state_of a) c.args.seat c.args.request.now c.self.invariant.reached comes)))
+      reached = subst (λ (xs : List Claimed). IsReached (record (state_of a) { issued = a.issued + 1; claims = xs })) (sym is)
           (reached_next (state_of a) e c.self.invariant.reached comes);
       seen = c.push_claims.ensures.seen;
       some_cap = c.self.invariant.some_cap;
+      within = subst (λ (p : Set × List Claimed). AreReadWithin p.0 p.1) (λ k. (sym (c.union-self-inside.ensures ∙ ap (union a.read) c.reads.ensures.value) k, sym is k))
+          (within_next (state_of a) e sound comes (union a.read r.reads) (within_issued a.read a.claims.items a.groups.groups a.issued c.args.seat r c.self.invariant.within));
+      unasked = λ unasked.
+          let parts = or_parts a.asked (nat_lt 0 c.len.result) unasked in
+          ap some_asks is
+          ∙ unasked_next (state_of a) e sound comes
+          (unasked_issued a.claims.items a.groups.groups a.issued c.args.seat r (c.self.invariant.unasked parts.0) (ap (nat_lt 0) (sym (c.len.ensures.value ∙ ap len c.first.ensures)) ∙ parts.1));
       cap = c.self.invariant.cap;
       some_seats = c.self.invariant.some_seats;
       seats = c.self.invariant.seats;

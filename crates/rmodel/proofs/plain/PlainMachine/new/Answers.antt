@@ -3,6 +3,8 @@ use Rattle.rmodel.specs.declared.claimed.Claimed.{Claimed}
 use Rattle.rmodel.specs.NewClaim.{seen_of}
 use Rattle.rmodel.proofs.SweepSteps.{seen_none}
 use Rattle.rmodel.specs.Reached.{IsReached}
+use Rattle.rmodel.specs.Steps.{some_asks}
+use Rattle.rmodel.proofs.SoFar.{within_none}
 use Rattle.rmodel.specs.State.{opening}
 use Rattle.rmodel.proofs.Reached.{reached_opening}
 use Rattle.rmodel.proofs.plain.PlainMachine.new.Goals as goal
@@ -13,6 +15,8 @@ invariant_of-result c = record {
       (reached_opening c.args.groups c.args.seats c.args.cap);
   seen = c.no_seen.ensures ∙ seen_none ∙ ap seen_of (sym c.in_ok-with_capacity.ensures.items);
   some_cap = c.requires.cap.0;
+  within = within_none _ _ c.in_ok-with_capacity.ensures.items;
+  unasked = λ _. ap some_asks c.in_ok-with_capacity.ensures.items;
   cap = c.requires.cap.1;
   some_seats = c.requires.seats.0;
   seats = c.requires.seats.1;
