@@ -26,7 +26,7 @@ use Rattle.rmodel.specs.Sweep.{stands, with_near, still_near, is_past_still, is_
 use Rattle.rmodel.specs.WellFormed.{EachPair, Rises, IsClaim, AreWellFormed}
 use Rattle.rmodel.proofs.Barred.{between, barred_in, clear_in, past_is, rise_to, rise_from, front}
 use Rattle.rmodel.proofs.ChangeSteps.{first_of_rest}
-use Rattle.rmodel.proofs.ListFacts.{contrary, false_from, any_zip, all_zip, none_from, all_at, all_from, zip_all, zip_append, some_second, second_itself, all_append, behind}
+use Rattle.rmodel.proofs.ListFacts.{contrary, false_from, any_zip, all_zip, none_from, all_at, all_from, zip_all, zip_append, some_second, second_itself, each_second, all_append, behind}
 use Rattle.rmodel.proofs.NewSettled.{bars_seen, kept_seen, kept_meets, any_or, all_both}
 use Rattle.rmodel.proofs.OneSettlement.{both_cases, status_told}
 use Rattle.rmodel.proofs.Settlement.{ReadsOnly, any_agree, has_way_is, kept_is, settles_settled}
@@ -102,13 +102,6 @@ zip_drop R (suc i) [] (y ∷ ys) zip = absurd zip
 zip_drop R (suc i) (x ∷ xs) [] zip = absurd zip
 zip_drop R (suc i) (x ∷ xs) (y ∷ ys) zip = zip_drop R i xs ys zip.1
 
--- what holds of each second one, by what holds of each pair
-pub all_second : {X Y : Type 0} (R : X → Y → Type 0) (Q : Y → Type 0) → ((x : X) (y : Y) → R x y → Q y) → (xs : List X) (ys : List Y) → AllZip R xs ys → AllByRecursion Q ys
-all_second R Q by [] [] zip = tt
-all_second R Q by [] (y ∷ ys) zip = absurd zip
-all_second R Q by (x ∷ xs) [] zip = absurd zip
-all_second R Q by (x ∷ xs) (y ∷ ys) zip = (by x y zip.0, all_second R Q by xs ys zip.1)
-
 -- what holds of an element and each that comes after it
 pub pairs_at : (R : Claimed → Claimed → Type 0) (done : List Claimed) (y : Claimed) (tail : List Claimed) → EachPair R (done ++ (y ∷ tail)) → AllByRecursion (R y) tail
 pairs_at R [] y tail pairs = pairs.0
@@ -144,12 +137,12 @@ near_same false a b m all more same = ap (λ c. cond (not c && m) more all) (sam
 
 -- ---- what the claims read lies within a set
 
-none_near : (a b : Bool) → (not a && not b && false) ≡ false
+pub none_near : (a b : Bool) → (not a && not b && false) ≡ false
 none_near true b = refl
 none_near false true = refl
 none_near false false = refl
 
-none_read : (a b : Bool) → (a && b && false) ≡ false
+pub none_read : (a b : Bool) → (a && b && false) ≡ false
 none_read false b = refl
 none_read true false = refl
 none_read true true = refl
@@ -412,7 +405,7 @@ module _ (xs : List Claimed) (left : Left) (is_left : IsLeft xs left) where
     within =
         let P : Claimed → Type 0 = λ v. is_subset v.claim.reads left.read ≡ true in
         all_append P done (x ∷ rest)
-        (all_second Falls P (λ a b f. ap (λ (c : Claim). is_subset c.reads left.read) f.at.same ∙ f.was.within) was done before)
+        (each_second Falls P (λ a b f. ap (λ (c : Claim). is_subset c.reads left.read) f.at.same ∙ f.was.within) was done before)
         (behind P was (x ∷ rest) (subst (λ (l : List Claimed). AreReadWithin left.read l) (sym all) is_left.within))
 
     -- a write that is barred does not enter

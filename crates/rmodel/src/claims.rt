@@ -1,9 +1,11 @@
 // From requests to claims.
-ghost use Rattle.std.specs.Prelude.{◌≡◌, ◌≤◌, ◌+◌, ◌↔◌, IsTrue, IsOk, IsErrOf, length, map, vec_capacity};
+ghost use Rattle.std.specs.Prelude.{◌≡◌, true, ◌≤◌, ◌+◌, ◌↔◌, IsTrue, IsOk, IsErrOf, length, map, vec_capacity};
+ghost use Rattle.std.specs.FinSet.{is_subset};
 ghost use Rattle.rset.specs.Sets.{all_below};
 ghost use Rattle.rclaim.specs.Requests.{IsNormal};
 ghost use Rattle.rclaim.specs.Changes.{no_changes};
 ghost use Rattle.rmodel.specs.NewClaim.{seen_of, settled_behind, told_behind};
+ghost use Rattle.rmodel.specs.Sweep.{AreReadWithin};
 ghost use Rattle.rmodel.specs.Claims.{is_admitted, IsUndeclared, needs_declared, claim_of, claims_of, waiting};
 
 use crate::claimed::Claimed;
@@ -66,10 +68,11 @@ fn claim_of(
 }
 
 /// Adds the claims of a request behind settled ones, settled, with what they ask for granted if that comes to them, and
-/// tells what changes of them. `seen` is what is seen of the claims.
+/// tells what changes of them. `seen` is what is seen of the claims, and what they and the request read lies within `read`.
 pub(crate) fn push_claims(
     claims: &mut Vec<Claimed>,
     seen: &mut Seen,
+    read: ResourceSet,
     groups: &Groups,
     stamp: u64,
     seat: u8,
@@ -77,6 +80,8 @@ pub(crate) fn push_claims(
     changes: &mut Changes,
 )
     requires seen { seen.old ≡ seen_of claims.old.items }
+    requires within { AreReadWithin read claims.old.items }
+    requires request_within { is_subset request.now.reads read ≡ true }
     requires reads { IsTrue (all_below groups.now.q request.now.reads) }
     requires writes { IsTrue (all_below groups.now.q request.now.writes) }
     requires room { length claims.old.items + length (claims_of groups.now.groups stamp seat request.now) ≤ vec_capacity claims.old }
@@ -95,17 +100,29 @@ pub(crate) fn push_claims(
     match kind {
         Kind::Read => {
             let claim = claim_of(groups, false, stamp, seat, kind, reads, writes);
-            push_new(claims, seen, &Claimed::waiting(first, claim), changes);
+            push_new(claims, seen, read, &Claimed::waiting(first, claim), changes);
         }
         Kind::Write | Kind::Mixed | Kind::Nested => {
             let claim = claim_of(groups, true, stamp, seat, kind, reads, writes);
-            push_new(claims, seen, &Claimed::waiting(first, claim), changes);
+            push_new(claims, seen, read, &Claimed::waiting(first, claim), changes);
         }
         Kind::Upgrade => {
             let read_half = claim_of(groups, false, stamp, seat, kind, reads, none);
             let write_half = claim_of(groups, true, stamp, seat, kind, none, reads);
-            push_new(claims, seen, &Claimed::waiting(first, read_half), changes);
-            push_new(claims, seen, &Claimed::waiting(first, write_half), changes);
+            push_new(
+                claims,
+                seen,
+                read,
+                &Claimed::waiting(first, read_half),
+                changes,
+            );
+            push_new(
+                claims,
+                seen,
+                read,
+                &Claimed::waiting(first, write_half),
+                changes,
+            );
         }
     }
 }

@@ -2,14 +2,16 @@
 ghost use Rattle.std.specs.Prelude.{◌≡◌, ◌<◌, ◌∷◌, ◌++◌, [], length, vec_capacity};
 ghost use Rattle.rclaim.specs.declared.TheConstants.{STATUS_ROOM, GRANT_ROOM};
 ghost use Rattle.rmodel.specs.Changes.{with_change};
-ghost use Rattle.rmodel.specs.NewClaim.{seen_of, new_read_status, is_read, new_is_held_up, new_write_status, new_status, new_claim};
+ghost use Rattle.rmodel.specs.Settling.{read_near};
+ghost use Rattle.rmodel.specs.Sweep.{AreReadWithin};
+ghost use Rattle.rmodel.specs.NewClaim.{seen_of, is_past, new_read_status, is_read, new_is_held_up, new_write_status, new_status, new_claim};
 
 use crate::claimed::Claimed;
 use crate::give::granted_to;
 use crate::seen::{Seen, with_seen};
 use crate::tell::tell_claim;
 use crate::way::{is_past, read_near};
-use rclaim::{Changes, Status};
+use rclaim::{Changes, Claim, Status};
 use rset::ResourceSet;
 
 /// The status of a new read.
@@ -25,32 +27,45 @@ fn new_read_status(seen: &Seen, x: &Claimed) -> Status
     }
 }
 
-/// Whether some satisfied claim reads one of these resources.
-fn is_read(claims: &[Claimed], resources: ResourceSet) -> bool
+/// Whether some satisfied claim reads one of these resources. What the claims read lies within `read`: where that has none
+/// of them, nothing is looked at.
+fn is_read(claims: &[Claimed], read: ResourceSet, resources: ResourceSet) -> bool
+    requires { AreReadWithin read claims.now }
     ensures { result ≡ is_read claims.now resources }
 {
-    claims
-        .iter()
-        .any(|v| v.claim.reads.meets(resources) && v.is_satisfied())
+    read.meets(resources)
+        && claims
+            .iter()
+            .any(|v| v.claim.reads.meets(resources) && v.is_satisfied())
 }
 
 /// Whether some satisfied claim conflicts with a new write.
-fn new_is_held_up(claims: &[Claimed], seen: &Seen, x: &Claimed) -> bool
+fn new_is_held_up(claims: &[Claimed], seen: &Seen, read: ResourceSet, x: &Claimed) -> bool
+    requires { AreReadWithin read claims.now }
     ensures { result ≡ new_is_held_up claims.now seen.now x.now }
 {
     seen.kept.meets(x.claim.reads)
         || seen.kept.meets(x.claim.writes)
-        || is_read(claims, x.claim.writes)
+        || is_read(claims, read, x.claim.writes)
+}
+
+/// Whether each earlier write that shares a place with a new claim writes nothing of what the reads near it read. What the
+/// claims read lies within `read`: where nobody reads a place of it, nothing is looked at.
+fn new_is_past(claims: &[Claimed], read: ResourceSet, claim: &Claim) -> bool
+    requires { AreReadWithin read claims.now }
+    ensures { result ≡ is_past claims.now claim.now (read_near claims.now claim.now.places) }
+{
+    !read.meets(claim.places) || is_past(claims, claim, read_near(claims, claim.places))
 }
 
 /// The status of a new write.
-fn new_write_status(claims: &[Claimed], seen: &Seen, x: &Claimed) -> Status
+fn new_write_status(claims: &[Claimed], seen: &Seen, read: ResourceSet, x: &Claimed) -> Status
+    requires { AreReadWithin read claims.now }
     ensures { result ≡ new_write_status claims.now seen.now x.now }
 {
-    let places = x.claim.places;
-    if seen.bars.meets(places) || !is_past(claims, &x.claim, read_near(claims, places)) {
+    if seen.bars.meets(x.claim.places) || !new_is_past(claims, read, &x.claim) {
         Status::Waiting
-    } else if new_is_held_up(claims, seen, x) {
+    } else if new_is_held_up(claims, seen, read, x) {
         Status::Entitled
     } else {
         Status::Satisfied
@@ -58,11 +73,12 @@ fn new_write_status(claims: &[Claimed], seen: &Seen, x: &Claimed) -> Status
 }
 
 /// The status of a new claim.
-fn new_status(claims: &[Claimed], seen: &Seen, x: &Claimed) -> Status
+fn new_status(claims: &[Claimed], seen: &Seen, read: ResourceSet, x: &Claimed) -> Status
+    requires { AreReadWithin read claims.now }
     ensures { result ≡ new_status claims.now seen.now x.now }
 {
     if x.claim.write_half {
-        new_write_status(claims, seen, x)
+        new_write_status(claims, seen, read, x)
     } else {
         new_read_status(seen, x)
     }
@@ -70,26 +86,29 @@ fn new_status(claims: &[Claimed], seen: &Seen, x: &Claimed) -> Status
 
 /// A new claim, settled behind these of which this is seen, with what it asks for granted if that comes to it.
 #[tactic(auto, unfolding(crate::specs::NewClaim::new_claim))]
-fn new_claim(claims: &[Claimed], seen: &Seen, x: &Claimed) -> Claimed
-    requires { seen.now ≡ seen_of claims.now }
+fn new_claim(claims: &[Claimed], seen: &Seen, read: ResourceSet, x: &Claimed) -> Claimed
+    requires seen { seen.now ≡ seen_of claims.now }
+    requires within { AreReadWithin read claims.now }
     ensures { result ≡ new_claim claims.now x.now }
 {
     let settled = Claimed {
-        status: new_status(claims, seen, x),
+        status: new_status(claims, seen, read, x),
         ..*x
     };
     granted_to(claims, &settled)
 }
 
 /// Adds a new claim behind settled ones, settled, with what it asks for granted if that comes to it, and tells what
-/// changes of it. `seen` is what is seen of the claims.
+/// changes of it. `seen` is what is seen of the claims, and what they read lies within `read`.
 pub(crate) fn push_new(
     claims: &mut Vec<Claimed>,
     seen: &mut Seen,
+    read: ResourceSet,
     x: &Claimed,
     changes: &mut Changes,
 )
     requires seen { seen.old ≡ seen_of claims.old.items }
+    requires within { AreReadWithin read claims.old.items }
     requires room { length claims.old.items < vec_capacity claims.old }
     requires statuses_room { length changes.old.statuses < STATUS_ROOM }
     requires grants_room { length changes.old.grants < GRANT_ROOM }
@@ -98,7 +117,7 @@ pub(crate) fn push_new(
     ensures capacity { vec_capacity claims.new ≡ vec_capacity claims.old }
     ensures changes { changes.new ≡ with_change changes.old x.now (new_claim claims.old.items x.now) }
 {
-    let now = new_claim(claims, seen, x);
+    let now = new_claim(claims, seen, read, x);
     tell_claim(x, &now, changes);
     *seen = with_seen(*seen, &now);
     claims.push_reserved(now);

@@ -178,16 +178,17 @@ impl Plain {
         ensures { IsTaken self.old (Issue seat request.now) self.new }
     {
         self.changes.clear();
+        self.read = self.read.union(request.reads());
         push_claims(
             &mut self.claims,
             &mut self.seen,
+            self.read,
             &self.groups,
             self.issued,
             seat,
             request,
             &mut self.changes,
         );
-        self.read = self.read.union(request.reads());
         self.asked = self.asked | (request.first().len() > 0);
         self.issued += 1;
     }

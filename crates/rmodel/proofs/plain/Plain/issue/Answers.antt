@@ -11,13 +11,24 @@ use Rattle.rmodel.specs.Reached.{IsReached}
 use Rattle.rmodel.proofs.PlainSteps.{kept_comes, taken, few_claims, two_claims}
 use Rattle.rmodel.proofs.IssueSteps.{issue_is, told_is}
 use Rattle.std.proofs.lemmas.Bool.{or_parts}
-use Rattle.std.specs.FinSet.{union, len}
+use Rattle.std.specs.FinSet.{union, len, is_subset}
+use Rattle.rset.proofs.SetLemmas.{within_union_right}
 use Rattle.rset.specs.Sets.{Set}
 use Rattle.rmodel.specs.Steps.{next, some_asks}
 use Rattle.rmodel.specs.Sweep.{AreReadWithin}
-use Rattle.rmodel.proofs.SoFar.{within_issued, unasked_issued, within_next, unasked_next}
+use Rattle.rmodel.proofs.SoFar.{within_more, within_issued, unasked_issued, within_next, unasked_next}
 use Rattle.rmodel.proofs.Reached.{reached_next}
 use Rattle.rmodel.proofs.plain.Plain.issue.Goals as goal
+
+pub push_claims-requires-clause-within : goal.push_claims-requires-clause-within
+push_claims-requires-clause-within c =
+    let a = c.self.inside in
+    subst (λ (s : Set). AreReadWithin s a.claims.items) (sym c.union-self-inside.ensures) (within_more a.read c.reads.result a.claims.items c.self.invariant.within)
+
+pub push_claims-requires-clause-request_within : goal.push_claims-requires-clause-request_within
+push_claims-requires-clause-request_within c =
+    let a = c.self.inside in
+    (λ i. is_subset (sym c.reads.ensures.value i) (c.union-self-inside.ensures i)) ∙ within_union_right a.read c.reads.result
 
 pub push_claims-requires-clause-room : goal.push_claims-requires-clause-room
 push_claims-requires-clause-room c =
