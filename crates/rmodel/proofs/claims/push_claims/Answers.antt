@@ -3,7 +3,7 @@ use Rattle.std.specs.FinSet.{is_subset}
 use Rattle.rclaim.specs.declared.claim.Claim.{Claim}
 use Rattle.rmodel.specs.declared.claimed.Claimed.{Claimed}
 use Rattle.rmodel.specs.Sweep.{AreReadWithin}
-use Rattle.rmodel.proofs.SoFar.{within_pushed}
+use Rattle.rmodel.proofs.stepping.SoFar.{within_pushed}
 use Rattle.rmodel.proofs.claims.push_claims.Goals as goal
 
 pub push_new-requires-in-Upgrade-2-clause-within : goal.push_new-requires-in-Upgrade-2-clause-within

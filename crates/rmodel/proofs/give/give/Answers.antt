@@ -1,6 +1,6 @@
 use Rattle.std.proofs.Common.{◌<◌, length, ap, ◌∙◌, arith}
 use Rattle.std.proofs.lemmas.List.{length-set}
-use Rattle.rmodel.proofs.Giving.{give_step, give_end, some_claim}
+use Rattle.rmodel.proofs.settling.Giving.{give_step, give_end, some_claim}
 use Rattle.rmodel.proofs.give.give.Goals as goal
 
 pub loop-i-preserved : goal.loop-i-preserved

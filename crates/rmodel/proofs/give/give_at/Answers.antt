@@ -1,7 +1,7 @@
 use Rattle.std.proofs.Common.{◌≡◌, get_or, sym, ap, ◌∙◌, arith}
 use Rattle.std.proofs.Math.ListN.{set}
 use Rattle.std.proofs.lemmas.List.{set-get_or, get_or_default}
-use Rattle.rmodel.proofs.Giving.{asks_nothing, none_by_number}
+use Rattle.rmodel.proofs.settling.Giving.{asks_nothing, none_by_number}
 use Rattle.rmodel.proofs.give.give_at.Goals as goal
 
 pub returns-else-len-gt0 : goal.returns-else-len-gt0

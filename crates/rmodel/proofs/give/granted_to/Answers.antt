@@ -1,5 +1,5 @@
 use Rattle.std.proofs.Common.{sym, arith}
-use Rattle.rmodel.proofs.Giving.{asks_nothing, none_by_number}
+use Rattle.rmodel.proofs.settling.Giving.{asks_nothing, none_by_number}
 use Rattle.rmodel.proofs.give.granted_to.Goals as goal
 
 pub returns-else-len-gt0 : goal.returns-else-len-gt0

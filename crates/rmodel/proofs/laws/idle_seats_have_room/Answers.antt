@@ -1,4 +1,4 @@
-use Rattle.rmodel.proofs.HistoryLaws.{idle_seats_have_room}
+use Rattle.rmodel.proofs.theorems.HistoryLaws.{idle_seats_have_room}
 use Rattle.rmodel.proofs.laws.idle_seats_have_room.Goals as goal
 
 pub returns : goal.returns

@@ -1,4 +1,4 @@
-use Rattle.rmodel.proofs.LawProofs.{one_settlement, one_settlement_a_step}
+use Rattle.rmodel.proofs.theorems.LawProofs.{one_settlement, one_settlement_a_step}
 use Rattle.rmodel.proofs.laws.l1.Goals as goal
 
 pub returns-clause-any : goal.returns-clause-any

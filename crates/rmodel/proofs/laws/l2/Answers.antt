@@ -1,4 +1,4 @@
-use Rattle.rmodel.proofs.LawProofs.{settled_is_stable, settled_is_stable_a_step}
+use Rattle.rmodel.proofs.theorems.LawProofs.{settled_is_stable, settled_is_stable_a_step}
 use Rattle.rmodel.proofs.laws.l2.Goals as goal
 
 pub returns-clause-any : goal.returns-clause-any

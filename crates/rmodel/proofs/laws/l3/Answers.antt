@@ -1,4 +1,4 @@
-use Rattle.rmodel.proofs.LawProofs.{settling_is_exclusive, writes_are_exclusive}
+use Rattle.rmodel.proofs.theorems.LawProofs.{settling_is_exclusive, writes_are_exclusive}
 use Rattle.rmodel.proofs.laws.l3.Goals as goal
 
 pub returns-clause-any : goal.returns-clause-any

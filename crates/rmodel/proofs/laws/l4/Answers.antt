@@ -1,4 +1,4 @@
-use Rattle.rmodel.proofs.LawProofs.{somebody_holds, somebody_holds_a_step}
+use Rattle.rmodel.proofs.theorems.LawProofs.{somebody_holds, somebody_holds_a_step}
 use Rattle.rmodel.proofs.laws.l4.Goals as goal
 
 pub returns-clause-any : goal.returns-clause-any

@@ -1,4 +1,4 @@
-use Rattle.rmodel.proofs.LawProofs.{taking_turns, taking_turns_a_step}
+use Rattle.rmodel.proofs.theorems.LawProofs.{taking_turns, taking_turns_a_step}
 use Rattle.rmodel.proofs.laws.l6.Goals as goal
 
 pub returns-clause-any : goal.returns-clause-any

@@ -1,4 +1,4 @@
-use Rattle.rmodel.proofs.LawProofs.{earliest_is_entitled, earliest_is_entitled_a_step}
+use Rattle.rmodel.proofs.theorems.LawProofs.{earliest_is_entitled, earliest_is_entitled_a_step}
 use Rattle.rmodel.proofs.laws.l7.Goals as goal
 
 pub returns-clause-any : goal.returns-clause-any

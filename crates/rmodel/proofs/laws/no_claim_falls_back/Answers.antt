@@ -1,4 +1,4 @@
-use Rattle.rmodel.proofs.HistoryLaws.{none_is_told_to_wait, none_falls_back_a_step}
+use Rattle.rmodel.proofs.theorems.HistoryLaws.{none_is_told_to_wait, none_falls_back_a_step}
 use Rattle.rmodel.proofs.laws.no_claim_falls_back.Goals as goal
 
 pub returns-clause-told : goal.returns-clause-told

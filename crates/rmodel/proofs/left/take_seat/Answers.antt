@@ -1,7 +1,7 @@
 use Rattle.std.proofs.Common.{List, sym, subst, ◌∙◌}
 use Rattle.rmodel.specs.declared.claimed.Claimed.{Claimed}
 use Rattle.rmodel.specs.Sweep.{with_left, is_of, IsLone}
-use Rattle.rmodel.proofs.Own.{lone_goes, lone_leaves}
+use Rattle.rmodel.proofs.stepping.Own.{lone_goes, lone_leaves}
 use Rattle.rmodel.proofs.left.take_seat.Goals as goal
 
 pub returns-in-Some-clause-items : goal.returns-in-Some-clause-items

@@ -1,6 +1,6 @@
 use Rattle.std.proofs.Common.{true, sym, ap, ◌∙◌}
 use Rattle.std.specs.Prelude.{unwrap_or}
-use Rattle.rmodel.proofs.Own.{first_tells}
+use Rattle.rmodel.proofs.stepping.Own.{first_tells}
 use Rattle.rmodel.proofs.list.is_not_holding.Goals as goal
 
 pub returns : goal.returns

@@ -1,5 +1,5 @@
 use Rattle.std.proofs.Common.{sym, ◌∙◌}
-use Rattle.rmodel.proofs.SoFar.{unread}
+use Rattle.rmodel.proofs.stepping.SoFar.{unread}
 use Rattle.rmodel.proofs.new_claim.is_read.Goals as goal
 
 pub returns-else-meets : goal.returns-else-meets

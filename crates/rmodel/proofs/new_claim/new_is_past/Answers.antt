@@ -1,5 +1,5 @@
 use Rattle.std.proofs.Common.{not, sym, ap, ◌∙◌}
-use Rattle.rmodel.proofs.SoFar.{past_unread}
+use Rattle.rmodel.proofs.stepping.SoFar.{past_unread}
 use Rattle.rmodel.proofs.new_claim.new_is_past.Goals as goal
 
 pub returns-then-not-meets : goal.returns-then-not-meets

@@ -1,6 +1,6 @@
 use Rattle.std.proofs.Common.{sym, ap, ◌∙◌}
 use Rattle.rmodel.specs.NewClaim.{with_seen, seen_of}
-use Rattle.rmodel.proofs.SweepSteps.{seen_more}
+use Rattle.rmodel.proofs.stepping.SweepSteps.{seen_more}
 use Rattle.rmodel.proofs.new_claim.push_new.Goals as goal
 
 pub returns-clause-seen : goal.returns-clause-seen

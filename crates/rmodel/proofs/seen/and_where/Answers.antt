@@ -1,6 +1,6 @@
 use Rattle.std.proofs.Common.{ap, ◌∙◌}
 use Rattle.std.specs.FinSet.{union}
-use Rattle.rmodel.proofs.NewSettled.{union_where}
+use Rattle.rmodel.proofs.stepping.NewSettled.{union_where}
 use Rattle.rmodel.proofs.seen.and_where.Goals as goal
 
 pub returns : goal.returns

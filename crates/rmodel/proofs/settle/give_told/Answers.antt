@@ -2,7 +2,7 @@ use Rattle.std.proofs.Common.{List, refl, sym, subst, ◌∙◌}
 use Rattle.std.specs.List.{AllZip}
 use Rattle.rmodel.specs.declared.claimed.Claimed.{Claimed}
 use Rattle.rmodel.specs.Changes.{SameClaim}
-use Rattle.rmodel.proofs.Giving.{same_given}
+use Rattle.rmodel.proofs.settling.Giving.{same_given}
 use Rattle.rmodel.proofs.ListFacts.{zip_same}
 use Rattle.rmodel.proofs.settle.give_told.Goals as goal
 

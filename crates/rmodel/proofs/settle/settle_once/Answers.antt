@@ -4,12 +4,12 @@ use Rattle.rmodel.specs.declared.claimed.Claimed.{Claimed}
 use Rattle.rmodel.specs.Changes.{SameClaim}
 use Rattle.rmodel.specs.Settling.{settled}
 use Rattle.rmodel.specs.Steps.{given, gets}
-use Rattle.rmodel.proofs.Settlement.{settles_settled}
-use Rattle.rmodel.proofs.Soundness.{same_claims}
-use Rattle.rmodel.proofs.Giving.{given_none, given_unless, settled_asks, same_given}
+use Rattle.rmodel.proofs.settling.Settlement.{settles_settled}
+use Rattle.rmodel.proofs.reaching.Soundness.{same_claims}
+use Rattle.rmodel.proofs.settling.Giving.{given_none, given_unless, settled_asks, same_given}
 use Rattle.rmodel.specs.NewClaim.{seen_of}
-use Rattle.rmodel.proofs.Standing.{given_standing}
-use Rattle.rmodel.proofs.SweepSteps.{seen_standing}
+use Rattle.rmodel.proofs.settling.Standing.{given_standing}
+use Rattle.rmodel.proofs.stepping.SweepSteps.{seen_standing}
 use Rattle.rmodel.proofs.settle.settle_once.Goals as goal
 
 pub tell_changes-requires-clause-same : goal.tell_changes-requires-clause-same

@@ -6,7 +6,7 @@ use Rattle.rmodel.specs.declared.claimed.Claimed.{Claimed}
 use Rattle.rmodel.specs.declared.seen.Seen.{Seen}
 use Rattle.rmodel.specs.NewClaim.{with_seen}
 use Rattle.rmodel.specs.Sweep.{swept}
-use Rattle.rmodel.proofs.SweepSteps.{SweptTo, begins, goes_on, ends_settled, ends_seen, ends_statuses, ends_grants}
+use Rattle.rmodel.proofs.stepping.SweepSteps.{SweptTo, begins, goes_on, ends_settled, ends_seen, ends_statuses, ends_grants}
 use Rattle.rmodel.proofs.sweep.sweep.Goals as goal
 
 pub loop-i-init : goal.loop-i-init

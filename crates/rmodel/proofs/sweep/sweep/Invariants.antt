@@ -1,4 +1,4 @@
-use Rattle.rmodel.proofs.SweepSteps.{SweptTo}
+use Rattle.rmodel.proofs.stepping.SweepSteps.{SweptTo}
 use Rattle.rmodel.proofs.sweep.sweep.Given as goal
 
 abbrev pub invariant-loop-i : goal.invariant-loop-i

@@ -3,8 +3,8 @@ use Rattle.std.proofs.Math.ListN.{set}
 use Rattle.std.proofs.lemmas.List.{set-get_or, get_or_default}
 use Rattle.rmodel.specs.Changes.{with_change}
 use Rattle.rmodel.specs.Sweep.{remains}
-use Rattle.rmodel.proofs.ChangeSteps.{no_change}
-use Rattle.rmodel.proofs.SweepSteps.{stays_swept}
+use Rattle.rmodel.proofs.telling.ChangeSteps.{no_change}
+use Rattle.rmodel.proofs.stepping.SweepSteps.{stays_swept}
 use Rattle.rmodel.proofs.sweep.sweep_at.Goals as goal
 
 pub returns-else-not-remains-clause-claims : goal.returns-else-not-remains-clause-claims

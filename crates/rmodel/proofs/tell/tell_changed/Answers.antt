@@ -1,5 +1,5 @@
 use Rattle.std.proofs.Common.{refl, sym}
-use Rattle.rmodel.proofs.ChangeSteps.{no_change_since}
+use Rattle.rmodel.proofs.telling.ChangeSteps.{no_change_since}
 use Rattle.rmodel.proofs.tell.tell_changed.Goals as goal
 
 pub returns-else-not-is_as_it_was : goal.returns-else-not-is_as_it_was

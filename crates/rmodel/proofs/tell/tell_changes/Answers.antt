@@ -5,7 +5,7 @@ use Rattle.rclaim.specs.declared.changes.StatusChange.{StatusChange}
 use Rattle.rclaim.specs.declared.changes.GrantChange.{GrantChange}
 use Rattle.rmodel.specs.Changes.{SameClaim, status_change, grant_change, status_changes, grant_changes, with_change}
 use Rattle.std.proofs.lemmas.List.Elements.{AllZip-get_or}
-use Rattle.rmodel.proofs.ChangeSteps.{status_step, grant_step, status_end, grant_end, one_more}
+use Rattle.rmodel.proofs.telling.ChangeSteps.{status_step, grant_step, status_end, grant_end, one_more}
 use Rattle.rmodel.proofs.tell.tell_changes.Goals as goal
 
 pub tell_changed-requires-clause-same : goal.tell_changed-requires-clause-same

@@ -6,15 +6,15 @@ use Rattle.rmodel.specs.State.{LockState}
 use Rattle.rmodel.specs.Plain.{state_of}
 use Rattle.rmodel.specs.Reached.{IsReached}
 use Rattle.rmodel.specs.Steps.{changed, given}
-use Rattle.rmodel.proofs.PlainSteps.{kept_comes, taken, ask_settled, few_claims}
-use Rattle.rmodel.proofs.Reached.{reached_next}
+use Rattle.rmodel.proofs.stepping.PlainSteps.{kept_comes, taken, ask_settled, few_claims}
+use Rattle.rmodel.proofs.reaching.Reached.{reached_next}
 use Rattle.rmodel.specs.NewClaim.{seen_of}
-use Rattle.rmodel.proofs.SweepSteps.{seen_standing}
-use Rattle.rmodel.proofs.Standing.{asking_standing, given_standing}
+use Rattle.rmodel.proofs.stepping.SweepSteps.{seen_standing}
+use Rattle.rmodel.proofs.settling.Standing.{asking_standing, given_standing}
 use Rattle.std.proofs.lemmas.Bool.{true≢false}
 use Rattle.rmodel.specs.Sweep.{AreReadWithin}
-use Rattle.rmodel.proofs.SoFar.{within_next, within_asking}
-use Rattle.rmodel.proofs.Soundness.{sound_changed}
+use Rattle.rmodel.proofs.stepping.SoFar.{within_next, within_asking}
+use Rattle.rmodel.proofs.reaching.Soundness.{sound_changed}
 use Rattle.rmodel.proofs.plain.Plain.ask.Goals as goal
 
 pub give_once-requires-clause-room : goal.give_once-requires-clause-room

@@ -1,5 +1,4 @@
-use Rattle.std.proofs.Common.{◌+◌, List, ◌++◌, map, sym, ap, subst, ◌∙◌, arith, ◌≡◌, ◌≤◌, nat_lt}
-use Rattle.rclaim.specs.declared.TheConstants.{STATUS_ROOM}
+use Rattle.std.proofs.Common.{◌+◌, List, ◌++◌, map, sym, ap, subst, ◌∙◌, arith, ◌≡◌, nat_lt}
 use Rattle.rclaim.specs.declared.event.Event.TheVariants.{Issue}
 use Rattle.rmodel.specs.declared.claimed.Claimed.{Claimed}
 use Rattle.rclaim.specs.Changes.{ChangeLists}
@@ -8,16 +7,16 @@ use Rattle.rmodel.specs.Claims.{waiting, claims_of}
 use Rattle.rmodel.specs.State.{LockState}
 use Rattle.rmodel.specs.Plain.{state_of}
 use Rattle.rmodel.specs.Reached.{IsReached}
-use Rattle.rmodel.proofs.PlainSteps.{kept_comes, taken, few_claims, two_claims}
-use Rattle.rmodel.proofs.IssueSteps.{issue_is, told_is}
+use Rattle.rmodel.proofs.stepping.PlainSteps.{kept_comes, taken, few_claims, two_claims}
+use Rattle.rmodel.proofs.stepping.IssueSteps.{issue_is, told_is}
 use Rattle.std.proofs.lemmas.Bool.{or_parts}
 use Rattle.std.specs.FinSet.{union, len, is_subset}
 use Rattle.rset.proofs.SetLemmas.{within_union_right}
 use Rattle.rset.specs.Sets.{Set}
 use Rattle.rmodel.specs.Steps.{next, some_asks}
 use Rattle.rmodel.specs.Sweep.{AreReadWithin}
-use Rattle.rmodel.proofs.SoFar.{within_more, within_issued, unasked_issued, within_next, unasked_next}
-use Rattle.rmodel.proofs.Reached.{reached_next}
+use Rattle.rmodel.proofs.stepping.SoFar.{within_more, within_issued, unasked_issued, within_next, unasked_next}
+use Rattle.rmodel.proofs.reaching.Reached.{reached_next}
 use Rattle.rmodel.proofs.plain.Plain.issue.Goals as goal
 
 pub push_claims-requires-clause-within : goal.push_claims-requires-clause-within

@@ -1,10 +1,10 @@
-use Rattle.std.proofs.Common.{rules, arith, List, sym, subst}
+use Rattle.std.proofs.Common.{arith, List, sym, subst}
 use Rattle.std.proofs.lemmas.Grind.{common_steps}
 use Rattle.rmodel.specs.declared.claimed.Claimed.{Claimed}
 use Rattle.rmodel.specs.Holds.{Alone}
 use Rattle.rmodel.specs.Plain.{state_of}
 use Rattle.rmodel.specs.WellFormed.{EachPair}
-use Rattle.rmodel.proofs.Own.{each_alone}
+use Rattle.rmodel.proofs.stepping.Own.{each_alone}
 use Rattle.rmodel.proofs.plain.Plain.refusal.Goals as goal
 
 pub is_not_holding-requires : goal.is_not_holding-requires

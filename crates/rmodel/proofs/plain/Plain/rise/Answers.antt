@@ -1,5 +1,4 @@
-use Rattle.std.proofs.Common.{List, length, refl, sym, ap, subst, ◌∙◌, arith, ◌+◌, ◌≤◌, not}
-use Rattle.rclaim.specs.declared.TheConstants.{STATUS_ROOM}
+use Rattle.std.proofs.Common.{List, length, refl, sym, ap, subst, ◌∙◌, arith, not}
 use Rattle.rclaim.specs.declared.event.Event.TheVariants.{Rise}
 use Rattle.rmodel.specs.declared.claimed.Claimed.{Claimed}
 use Rattle.rmodel.specs.Changes.{status_changes, grant_changes}
@@ -10,12 +9,12 @@ use Rattle.rmodel.specs.State.{LockState}
 use Rattle.rmodel.specs.Steps.{changed, given, some_asks}
 use Rattle.rmodel.specs.declared.left.Left.{Left}
 use Rattle.rmodel.specs.Sweep.{is_read_of, AreReadWithin, IsLeft}
-use Rattle.rmodel.proofs.RemovedSteps.{is_left_by}
-use Rattle.rmodel.proofs.PlainSteps.{kept_comes, taken, few_claims}
-use Rattle.rmodel.proofs.Reached.{reached_next}
+use Rattle.rmodel.proofs.stepping.RemovedSteps.{is_left_by}
+use Rattle.rmodel.proofs.stepping.PlainSteps.{kept_comes, taken, few_claims}
+use Rattle.rmodel.proofs.reaching.Reached.{reached_next}
 use Rattle.rmodel.proofs.ListFacts.{all_filter}
-use Rattle.rmodel.proofs.SoFar.{within_next, unasked_left, unasked_next}
-use Rattle.rmodel.proofs.Soundness.{sound_changed}
+use Rattle.rmodel.proofs.stepping.SoFar.{within_next, unasked_left, unasked_next}
+use Rattle.rmodel.proofs.reaching.Soundness.{sound_changed}
 use Rattle.rmodel.proofs.plain.Plain.rise.Goals as goal
 
 pub settle-seen-requires-clause-left : goal.settle-seen-requires-clause-left

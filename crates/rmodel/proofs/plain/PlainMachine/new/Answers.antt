@@ -1,12 +1,12 @@
 use Rattle.std.proofs.Common.{List, sym, ap, subst, ◌∙◌}
 use Rattle.rmodel.specs.declared.claimed.Claimed.{Claimed}
 use Rattle.rmodel.specs.NewClaim.{seen_of}
-use Rattle.rmodel.proofs.SweepSteps.{seen_none}
+use Rattle.rmodel.proofs.stepping.SweepSteps.{seen_none}
 use Rattle.rmodel.specs.Reached.{IsReached}
 use Rattle.rmodel.specs.Steps.{some_asks}
-use Rattle.rmodel.proofs.SoFar.{within_none}
+use Rattle.rmodel.proofs.stepping.SoFar.{within_none}
 use Rattle.rmodel.specs.State.{opening}
-use Rattle.rmodel.proofs.Reached.{reached_opening}
+use Rattle.rmodel.proofs.reaching.Reached.{reached_opening}
 use Rattle.rmodel.proofs.plain.PlainMachine.new.Goals as goal
 
 pub invariant_of-result : goal.invariant_of-result

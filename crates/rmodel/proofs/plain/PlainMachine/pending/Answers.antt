@@ -3,7 +3,7 @@ use Rattle.rmodel.specs.declared.claimed.Claimed.{Claimed}
 use Rattle.rmodel.specs.Holds.{Alone}
 use Rattle.rmodel.specs.Plain.{state_of}
 use Rattle.rmodel.specs.WellFormed.{EachPair}
-use Rattle.rmodel.proofs.Own.{each_alone}
+use Rattle.rmodel.proofs.stepping.Own.{each_alone}
 use Rattle.rmodel.proofs.plain.PlainMachine.pending.Goals as goal
 
 pub is_not_holding-requires : goal.is_not_holding-requires

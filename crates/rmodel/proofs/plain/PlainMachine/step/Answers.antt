@@ -1,5 +1,5 @@
 use Rattle.std.proofs.Common.{◌∙◌, sym}
-use Rattle.rmodel.proofs.PlainSteps.{step_holds, changes_hold}
+use Rattle.rmodel.proofs.stepping.PlainSteps.{step_holds, changes_hold}
 use Rattle.rmodel.proofs.plain.PlainMachine.step.Goals as goal
 
 pub returns-clause-step : goal.returns-clause-step

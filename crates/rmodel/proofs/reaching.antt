@@ -1,0 +1,12 @@
+-- What holds of the states that accepted events lead to, and how claims go through an event.
+pub mod Came
+pub mod EachClaim
+pub mod Going
+pub mod Growing
+pub mod HeldBySeat
+pub mod Histories
+pub mod IdleSeats
+pub mod NewClaims
+pub mod Reached
+pub mod Soundness
+pub mod Stamps

@@ -1,0 +1,4 @@
+-- What a step tells.
+pub mod ChangeSteps
+pub mod ChangesTold
+pub mod GrantsTold
