@@ -1,15 +1,2 @@
-pub mod Codes
-pub mod Grammar
-pub mod GroupTests
-pub mod Lines
-pub mod Numbers
 pub mod Outcomes
-pub mod Place
-pub mod Readings
-pub mod RecordFields
-pub mod Results
-pub mod Rows
-pub mod SetNames
-pub mod Sets
-pub mod Spelled
-pub mod Tables
+pub mod ToolAnswers

@@ -1,11 +1,5 @@
 pub mod Words
-pub mod Records
-pub mod Fields
-pub mod Heads
-pub mod Events
-pub mod Faults
-pub mod Lists
-pub mod Reading
-pub mod Text
-pub mod Report
-pub mod Tool
+pub mod Status
+pub mod Outputs
+pub mod Writing
+pub mod Answer

@@ -1,6 +1,6 @@
 // How a tool ended.
 ghost use Rattle.std.specs.Prelude.{◌≡◌};
-ghost use Rattle.rnlp_cli.specs.Tool.{status_number};
+ghost use Rattle.rnlp_cli.specs.Status.{status_number};
 
 /// How a tool ended. Its number is the exit status of the program.
 #[derive(Clone, Copy, Debug, PartialEq, Eq)]

@@ -1,0 +1,103 @@
+// The edge of the program: all of `main` but its handles.
+ghost use Rattle.std.specs.Prelude.{◌≡◌, ◌≢◌, ◌⊎◌, map, string_bytes, drop, IfErr};
+ghost use Rattle.std.specs.Process.{exit_status};
+ghost use Rattle.rnlp_cli.specs.Status.{status_number};
+ghost use Rattle.rnlp_cli.specs.Answer.{ProgramAnswer, RunAnswer};
+
+use crate::own::own_text;
+use crate::status::ToolStatus;
+use crate::tool::plain_tool;
+use io_ends::{Sink, Source, write_all};
+use std::alloc::Global;
+use std::env;
+use std::io::ErrorKind;
+use std::process::ExitCode;
+use std::rt::Env;
+
+/// Runs the program: answers the words that it was started with, tells a person on standard error what went wrong, and
+/// gives the exit status.
+///
+/// Which words an environment holds no contract can say: `words_of` takes those behind the program's name.
+pub fn run<R: Env + AllocGlobal + Eprint, S: Source, K: Sink>(
+    rt: &R,
+    source: &mut S,
+    sink: &mut K,
+) -> ExitCode
+    ensures { (status : ToolStatus) × (exit_status result ≡ status_number status) × RunAnswer S.left S.faults K.written K.faults source.old source.new sink.old sink.new status }
+{
+    let status = match words_of(rt) {
+        Ok(words) => answer(rt.alloc(), &words, source, sink),
+        Err(status) => status,
+    };
+    explain(rt, status);
+    ExitCode::from(status.number())
+}
+
+/// Answers the words that ask about the program itself, and else runs the tool that they name.
+pub fn answer<S: Source, K: Sink>(
+    alloc: Global,
+    words: &[String],
+    source: &mut S,
+    sink: &mut K,
+) -> ToolStatus
+    ensures { ProgramAnswer S.left S.faults K.written K.faults (map string_bytes words.now) source.old source.new sink.old sink.new result }
+{
+    match own_text(words) {
+        Some(text) => match write_all(sink, text) {
+            Ok(()) => ToolStatus::Done,
+            Err(_) => ToolStatus::WriteFault,
+        },
+        None => plain_tool(alloc, words, source, sink),
+    }
+}
+
+/// The words after the program's name, or the status where there are none to be had: wrong words where one is not
+/// UTF-8, and else want of memory.
+pub fn words_of<R: Env + AllocGlobal>(rt: &R) -> Result<Vec<String>, ToolStatus>
+    ensures { IfErr result (λ status. (status ≡ ToolStatus.Words) ⊎ (status ≡ ToolStatus.NoMemory)) }
+{
+    match env::args(rt) {
+        Ok(args) => match args.collect(rt.alloc()) {
+            Ok(all) => Ok(behind_name(all)),
+            Err(_) => Err(ToolStatus::NoMemory),
+        },
+        Err(e) => Err(status_without_words(e.kind())),
+    }
+}
+
+// All words but the first, which is the program's name.
+fn behind_name(all: Vec<String>) -> Vec<String>
+    ensures { result.items ≡ drop 1 all.items }
+{
+    let mut words = all;
+    if !words.is_empty() {
+        words.remove(0);
+    }
+    words
+}
+
+// The status where the words cannot be had: those that are no UTF-8 are wrong.
+fn status_without_words(kind: ErrorKind) -> ToolStatus
+    ensures no_text { kind ≡ ErrorKind.InvalidData → result ≡ ToolStatus.Words }
+    ensures other { kind ≢ ErrorKind.InvalidData → result ≡ ToolStatus.NoMemory }
+{
+    match kind {
+        ErrorKind::InvalidData => ToolStatus::Words,
+        _ => ToolStatus::NoMemory,
+    }
+}
+
+// Tells a person on standard error what a status means.
+fn explain(rt: &impl Eprint, status: ToolStatus) {
+    let meaning = match status {
+        ToolStatus::Done => return,
+        ToolStatus::Words => "no such form; try --help",
+        ToolStatus::ReadFault => "standard input failed",
+        ToolStatus::WriteFault => "standard output failed",
+        ToolStatus::Script => "the input is no script; its first fault was written",
+        ToolStatus::TooLong => "the input is too long",
+        ToolStatus::NoMemory => "out of memory",
+        ToolStatus::Trace => "the input is no event list; its first fault was written",
+    };
+    let _ = rt.eprintln(format_args!("rnlp: {meaning}"));
+}

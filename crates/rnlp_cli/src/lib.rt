@@ -1,0 +1,16 @@
+//! The tools of the program `rnlp` over any source and sink, and the program's edge.
+//!
+//! What a tool answers is one record, `ToolAnswer`: each status has its cause, and each cause its status. The whole
+//! program but its handles is `run`, whose exit status is that of the words that it was given.
+#![tactic(auto)]
+
+mod edge;
+mod own;
+mod status;
+mod tool;
+mod words;
+
+pub use edge::{answer, run, words_of};
+pub use status::ToolStatus;
+pub use tool::plain_tool;
+pub use words::LIST_LIMIT;

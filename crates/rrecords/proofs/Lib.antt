@@ -1,0 +1,10 @@
+pub mod Choices
+pub mod Digits
+pub mod events
+pub mod grammar
+pub mod GroupTests
+pub mod RecordFields
+pub mod Rows
+pub mod SetNames
+pub mod Tables
+pub mod Tests

@@ -1,0 +1,4 @@
+pub mod Lines
+pub mod ErrorLine
+pub mod History
+pub mod Report
