@@ -1,0 +1,13 @@
+//! Tests of the program's texts that are no table: limits, faults of the devices, and the words of an environment.
+//!
+//! What is asserted stands once in each test: the work is done by functions that answer whether it went as it should.
+#![tactic(auto)]
+
+#[cfg(test)]
+mod devices;
+#[cfg(test)]
+mod limits;
+#[cfg(test)]
+mod runs;
+#[cfg(test)]
+mod words;

@@ -1,0 +1,52 @@
+// Runs over memory, and whether they end as they should.
+use io_ends::{MemSink, MemSource};
+use rnlp_cli::{ToolStatus, plain_tool};
+use std::alloc::Global;
+use std::test::Fail;
+
+/// The list of one resource and one task, and its report.
+pub const SMALLEST: &[u8] = b"rnlp,1\nresource,a\ntask,t1\nend\n";
+
+pub const SMALLEST_REPORT: &[u8] = b"rnlp,1\nresource,a\ntask,t1\ncap,1\nledger,a,0,0\nend\n";
+
+// More bytes than any output here has.
+const ROOM: usize = 200_000;
+
+/// What a run is given: its word, its input, and the numbers of the reads and of the writes that fail.
+#[derive(Clone, Copy, Drop)]
+pub struct Given<'a> {
+    pub word: &'a str,
+    pub input: &'a [u8],
+    pub reads: &'a [u64],
+    pub writes: &'a [u64],
+}
+
+/// Whether such a run ends with this status and has written these bytes.
+pub fn ends(
+    alloc: Global,
+    given: Given<'_>,
+    status: ToolStatus,
+    output: &[u8],
+) -> Result<bool, Fail> {
+    let mut words = Vec::new(alloc);
+    words.push(String::from_str(alloc, given.word)?)?;
+    let mut source = MemSource::new(given.input.to_vec(alloc)?, given.reads.to_vec(alloc)?);
+    let mut sink = MemSink::new(alloc, ROOM, given.writes.to_vec(alloc)?)?;
+    let answer = plain_tool(alloc, &words, &mut source, &mut sink);
+    Ok(answer == status && sink.written() == output)
+}
+
+/// Whether a replay of an input on which no device fails ends with this status, and the last of what it wrote is this.
+pub fn replay_ends(
+    alloc: Global,
+    input: &[u8],
+    status: ToolStatus,
+    last: &[u8],
+) -> Result<bool, Fail> {
+    let mut words = Vec::new(alloc);
+    words.push(String::from_str(alloc, "replay")?)?;
+    let mut source = MemSource::new(input.to_vec(alloc)?, Vec::new(alloc));
+    let mut sink = MemSink::new(alloc, ROOM, Vec::new(alloc))?;
+    let answer = plain_tool(alloc, &words, &mut source, &mut sink);
+    Ok(answer == status && sink.written().ends_with(last))
+}
