@@ -6,7 +6,7 @@ use Rattle.std.proofs.lemmas.Bool.Decides.{nat_tests}
 use Rattle.std.proofs.lemmas.Bool.{true≢false}
 use Rattle.std.proofs.lemmas.Cmp.{nat_list_eq_equiv}
 use Rattle.rset.specs.Names.{is_name, knows, same_name, all_differ, is_table}
-use Rattle.rset.specs.declared.TheConstants.{RESOURCES}
+use Rattle.rset.proofs.NameLemmas.{table_empty}
 use Rattle.std.specs.FinSet.{len}
 use Rattle.rset.specs.Sets.{Set}
 use Rattle.rexpand.specs.declared.TheConstants.{GROUPS}
@@ -50,32 +50,31 @@ three true false c h = absurd (true≢false (sym h))
 three false b c h = absurd (true≢false (sym h))
 
 -- a name inside a table was none that the names before it refuse
-pub table-front : (before after : List (List ℕ)) (name : List ℕ) → is_table (before ++ name ∷ after) ≡ true → is_bad_name RESOURCES before name ≡ false
+pub table-front : (limit : ℕ) (before after : List (List ℕ)) (name : List ℕ) → is_table limit (before ++ name ∷ after) ≡ true → is_bad_name limit before name ≡ false
 unfolding is_table
-table-front before after name h =
+table-front limit before after name h =
     let parts = three (list_all is_name (before ++ name ∷ after)) (all_differ (before ++ name ∷ after)) _ h in
     let named = both_of (list_all is_name before) _ (sym (all-append is_name before (name ∷ after)) ∙ parts.0) in
     let is : is_name name ≡ true = (both_of (is_name name) _ named.1).0 in
     let new : knows before name ≡ false = knows-front before after name parts.1 in
-    let room : (length before == RESOURCES) ≡ false = (let all = parts.2 in let size = length-append before (name ∷ after) in grind (arith, nat_tests)) in
+    let room : (length before == limit) ≡ false = (let all = parts.2 in let size = length-append before (name ∷ after) in grind (arith, nat_tests)) in
     rw (is, new, room) refl
 
 -- a table with one more name that it does not refuse is a table
-pub table-push : (names : List (List ℕ)) (name : List ℕ) → is_table names ≡ true → is_bad_name RESOURCES names name ≡ false → is_table (names ++ name ∷ []) ≡ true
+pub table-push : (limit : ℕ) (names : List (List ℕ)) (name : List ℕ) → is_table limit names ≡ true → is_bad_name limit names name ≡ false → is_table limit (names ++ name ∷ []) ≡ true
 unfolding is_table
-table-push names name h fits =
+table-push limit names name h fits =
     let parts = three (list_all is_name names) (all_differ names) _ h in
     let room = neither_of (not (is_name name) || knows names name) _ fits in
     let kinds = neither_of (not (is_name name)) _ room.0 in
     let is : is_name name ≡ true = not_false (is_name name) kinds.0 in
     let named : list_all is_name (names ++ name ∷ []) ≡ true = all-append is_name names (name ∷ []) ∙ rw (parts.0, is) refl in
     let differ : all_differ (names ++ name ∷ []) ≡ true = all_differ-push names name parts.1 kinds.1 in
-    let few : nat_le (length (names ++ name ∷ [])) RESOURCES ≡ true = (let full = room.1 in let size = length-append names (name ∷ []) in grind (arith, nat_tests)) in
+    let few : nat_le (length (names ++ name ∷ [])) limit ≡ true = (let full = room.1 in let size = length-append names (name ∷ []) in grind (arith, nat_tests)) in
     rw (named, differ, few) refl
 
-pub table-empty : is_table [] ≡ true
-unfolding is_table all_differ
-table-empty = refl
+pub table-empty : (limit : ℕ) → is_table limit [] ≡ true
+table-empty limit = table_empty limit
 
 -- ---- read groups
 

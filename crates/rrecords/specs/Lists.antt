@@ -3,6 +3,7 @@ use Rattle.std.specs.Prelude.{◌≡◌, ℕ, true, false, Bool, not, ◌&&◌, 
 use Rattle.std.specs.List.{AllZip, list_all}
 use Rattle.std.specs.FinSet.{len}
 use Rattle.rset.specs.Names.{is_table}
+use Rattle.rset.specs.declared.TheConstants.{RESOURCES, SEATS}
 use Rattle.rset.specs.Sets.{Set}
 use Rattle.rexpand.specs.declared.TheConstants.{GROUPS}
 use Rattle.rclaim.specs.declared.event.Event.{Event}
@@ -72,8 +73,8 @@ pub record IsEventList (rows : List Row) (list : Listed) : Type 0 where
   pub groups : SpellGroups list.head.resources group_rows list.head.groups
   pub cap : SpellCap list.head.tasks cap_rows list.head.cap
   pub events : SpellEvents list.head event_rows list.events
-  pub resources_named : is_table list.head.resources ≡ true
-  pub tasks_named : is_table list.head.tasks ≡ true
+  pub resources_named : is_table RESOURCES list.head.resources ≡ true
+  pub tasks_named : is_table SEATS list.head.tasks ≡ true
   pub grouped : are_read_groups list.head.groups ≡ true
   pub some_resource : is_nil list.head.resources ≡ false
   pub some_task : is_nil list.head.tasks ≡ false

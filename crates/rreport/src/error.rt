@@ -40,7 +40,7 @@ fn refusal_number(refusal: Refusal) -> u64
     ensures { result ≡ refusal_number refusal }
 {
     match refusal {
-        Refusal::Step(cause) => cause as u64,
-        Refusal::Request(cause) => 6 + cause as u64,
+        Refusal::Step(cause) => u64::from(cause.number()),
+        Refusal::Request(cause) => 6 + u64::from(cause.number()),
     }
 }

@@ -3,6 +3,7 @@ use Rattle.std.proofs.Common.{◌≡◌, ℕ, Bool, true, false, ◌||◌, List,
 use Rattle.std.specs.List.{filter_map}
 use Rattle.std.proofs.lemmas.List.{append-nil}
 use Rattle.rset.specs.Names.{is_table}
+use Rattle.rset.specs.declared.TheConstants.{RESOURCES, SEATS}
 use Rattle.rset.specs.Sets.{Set}
 use Rattle.rclaim.specs.declared.event.Event.{Event}
 use Rattle.rmodel.specs.Steps.{after, AreAccepted}
@@ -30,8 +31,8 @@ pub record IsBegun (before : List Row) (head : Head) (grs crs rows : List Row) (
   pub groups : SpellGroups head.resources grs head.groups
   pub cap : SpellCap head.tasks crs head.cap
   pub spelled : SpellEvents head rows events
-  pub resources_named : is_table head.resources ≡ true
-  pub tasks_named : is_table head.tasks ≡ true
+  pub resources_named : is_table RESOURCES head.resources ≡ true
+  pub tasks_named : is_table SEATS head.tasks ≡ true
   pub grouped : are_read_groups head.groups ≡ true
   pub accepted : AreAccepted (opening_of head) events
   -- tasks stand behind resources, and the cap and events behind tasks
@@ -160,7 +161,7 @@ module _ {before : List Row} {head : Head} {grs crs rows : List Row} {events : L
         cap = refl;
         spelled = tt;
         resources_named = h.resources_named;
-        tasks_named = table-empty;
+        tasks_named = table-empty SEATS;
         grouped = h.grouped;
         accepted = tt;
         first = λ _. refl;
@@ -177,7 +178,7 @@ module _ {before : List Row} {head : Head} {grs crs rows : List Row} {events : L
         cap = refl;
         spelled = tt;
         resources_named = h.resources_named;
-        tasks_named = table-empty;
+        tasks_named = table-empty SEATS;
         grouped = refl;
         accepted = tt;
         first = λ _. refl;

@@ -1,5 +1,5 @@
 -- A head and events behind it, with one record more.
-use Rattle.rset.specs.declared.TheConstants.{RESOURCES}
+use Rattle.rset.specs.declared.TheConstants.{RESOURCES, SEATS}
 use Rattle.std.proofs.Common.{◌≡◌, ℕ, true, false, List, [], ◌∷◌, ◌++◌, map, Some, refl, sym, ap, ◌∙◌, append_assoc, true≢false}
 use Rattle.std.proofs.lemmas.List.{append-nil, map-append}
 use Rattle.rset.specs.Sets.{Set}
@@ -41,7 +41,7 @@ grow_resource before resources name h fits = record {
   groups = tt;
   cap = refl;
   spelled = tt;
-  resources_named = table-push resources name h.resources_named fits;
+  resources_named = table-push RESOURCES resources name h.resources_named fits;
   tasks_named = h.tasks_named;
   grouped = refl;
   accepted = tt;
@@ -67,7 +67,7 @@ grow_group before resources groups grs fields group h is fits = record {
 }
 
 pub grow_task : (before : List Row) (resources : List (List ℕ)) (groups : List Set) (tasks : List (List ℕ)) (grs : List Row) (name : List ℕ) → IsBegun before (plain_head resources groups tasks) grs [] [] []
-    → is_nil resources ≡ false → is_bad_name RESOURCES tasks name ≡ false
+    → is_nil resources ≡ false → is_bad_name SEATS tasks name ≡ false
     → IsBegun (before ++ task_row name ∷ []) (plain_head resources groups (tasks ++ name ∷ [])) grs [] [] []
 grow_task before resources groups tasks grs name h some fits = record {
   are = ap (λ rows. rows ++ task_row name ∷ []) (h.are ∙ tasks_behind ((version_row ∷ map resource_row resources) ++ grs) tasks)
@@ -78,7 +78,7 @@ grow_task before resources groups tasks grs name h some fits = record {
   cap = refl;
   spelled = tt;
   resources_named = h.resources_named;
-  tasks_named = table-push tasks name h.tasks_named fits;
+  tasks_named = table-push SEATS tasks name h.tasks_named fits;
   grouped = h.grouped;
   accepted = tt;
   first = λ none. absurd (true≢false (sym none ∙ some));

@@ -1,5 +1,5 @@
 -- The records of a list have no fault.
-use Rattle.rset.specs.declared.TheConstants.{RESOURCES}
+use Rattle.rset.specs.declared.TheConstants.{RESOURCES, SEATS}
 use Rattle.std.proofs.Common.{◌≡◌, ℕ, Bool, true, false, not, ◌||◌, List, [], ◌∷◌, ◌++◌, map, Some, None, refl, sym, ap, subst, ◌∙◌, append_assoc, true≢false}
 use Rattle.std.specs.Prelude.{is_none, option_map, option_and_then}
 use Rattle.std.proofs.lemmas.List.{append-nil}
@@ -49,11 +49,11 @@ group_passes before resources groups grs fields group h some is fits =
     (not_refused before fields (ap is_event is.0))
 
 task_passes : (before : List Row) (resources : List (List ℕ)) (groups : List Set) (tasks : List (List ℕ)) (grs : List Row) (name : List ℕ) → IsBegun before (plain_head resources groups tasks) grs [] [] []
-    → is_nil resources ≡ false → is_bad_name RESOURCES tasks name ≡ false → code_of before (task_row name) ≡ None
+    → is_nil resources ≡ false → is_bad_name SEATS tasks name ≡ false → code_of before (task_row name) ≡ None
 unfolding has_word
 task_passes before resources groups tasks grs name h some fits =
     no_code before (task_row name) Task (word-task name)
-    (ap (λ names. is_bad_name RESOURCES names name) (begun-tasks h) ∙ fits) refl
+    (ap (λ names. is_bad_name SEATS names name) (begun-tasks h) ∙ fits) refl
     (or_false _ _ (or_false _ _ (or_false _ _ (ap is_nil (begun-resources h) ∙ some) (begun-capped h)) (begun-event h)) (begun-end h))
     (not_refused before (task_row name) (ap is_event (word-task name)))
 
@@ -102,12 +102,12 @@ record IsPassed (before : List Row) (more rest : List Row) (head : Head) (grs cr
   begun : IsBegun now head grs crs rows events
   same : fault_from before (more ++ rest) ≡ fault_from now rest
 
-take_resources : (names front : List (List ℕ)) (before rest : List Row) → IsBegun before (plain_head front [] []) [] [] [] [] → is_table (front ++ names) ≡ true
+take_resources : (names front : List (List ℕ)) (before rest : List Row) → IsBegun before (plain_head front [] []) [] [] [] [] → is_table RESOURCES (front ++ names) ≡ true
     → IsPassed before (map resource_row names) rest (plain_head (front ++ names) [] []) [] [] [] []
 take_resources [] front before rest h table = record { now = before; begun = subst (λ names. IsBegun before (plain_head names [] []) [] [] [] []) (sym (append-nil front)) h; same = refl }
 take_resources (name ∷ names) front before rest h table =
-    let fits = table-front front names name table in
-    let more = take_resources names (front ++ name ∷ []) (before ++ resource_row name ∷ []) rest (grow_resource before front name h fits) (ap is_table (append_assoc front (name ∷ []) names) ∙ table) in
+    let fits = table-front RESOURCES front names name table in
+    let more = take_resources names (front ++ name ∷ []) (before ++ resource_row name ∷ []) rest (grow_resource before front name h fits) (ap (is_table RESOURCES) (append_assoc front (name ∷ []) names) ∙ table) in
     record {
       now = more.now;
       begun = subst (λ all. IsBegun more.now (plain_head all [] []) [] [] [] []) (append_assoc front (name ∷ []) names) more.begun;
@@ -132,12 +132,12 @@ take_groups resources (fields ∷ more) (group ∷ others) before grs rest group
       same = passed before fields (more ++ rest) (group_passes before resources groups grs fields group h some spelled.0 fits) ∙ later.same;
     }
 
-take_tasks : (names front resources : List (List ℕ)) (groups : List Set) (before grs rest : List Row) → IsBegun before (plain_head resources groups front) grs [] [] [] → is_nil resources ≡ false → is_table (front ++ names) ≡ true
+take_tasks : (names front resources : List (List ℕ)) (groups : List Set) (before grs rest : List Row) → IsBegun before (plain_head resources groups front) grs [] [] [] → is_nil resources ≡ false → is_table SEATS (front ++ names) ≡ true
     → IsPassed before (map task_row names) rest (plain_head resources groups (front ++ names)) grs [] [] []
 take_tasks [] front resources groups before grs rest h some table = record { now = before; begun = subst (λ names. IsBegun before (plain_head resources groups names) grs [] [] []) (sym (append-nil front)) h; same = refl }
 take_tasks (name ∷ names) front resources groups before grs rest h some table =
-    let fits = table-front front names name table in
-    let more = take_tasks names (front ++ name ∷ []) resources groups (before ++ task_row name ∷ []) grs rest (grow_task before resources groups front grs name h some fits) some (ap is_table (append_assoc front (name ∷ []) names) ∙ table) in
+    let fits = table-front SEATS front names name table in
+    let more = take_tasks names (front ++ name ∷ []) resources groups (before ++ task_row name ∷ []) grs rest (grow_task before resources groups front grs name h some fits) some (ap (is_table SEATS) (append_assoc front (name ∷ []) names) ∙ table) in
     record {
       now = more.now;
       begun = subst (λ all. IsBegun more.now (plain_head resources groups all) grs [] [] []) (append_assoc front (name ∷ []) names) more.begun;
@@ -192,8 +192,8 @@ first_begun = record {
   groups = tt;
   cap = refl;
   spelled = tt;
-  resources_named = table-empty;
-  tasks_named = table-empty;
+  resources_named = table-empty RESOURCES;
+  tasks_named = table-empty SEATS;
   grouped = refl;
   accepted = tt;
   first = λ _. refl;

@@ -1,5 +1,5 @@
 -- Records without a fault are those of a list.
-use Rattle.rset.specs.declared.TheConstants.{RESOURCES}
+use Rattle.rset.specs.declared.TheConstants.{RESOURCES, SEATS}
 use Rattle.std.proofs.Common.{◌≡◌, ℕ, ◌+◌, ◌^◌, ◌<◌, Bool, true, false, not, ◌||◌, cond, List, [], ◌∷◌, ◌++◌, length, map, Option, Some, None, refl, sym, ap, subst, ◌∙◌, arith, append_assoc, length-append, true≢false}
 use Rattle.std.specs.Prelude.{is_none, option_map, option_and_then}
 use Rattle.std.proofs.lemmas.List.{append-nil}
@@ -224,7 +224,7 @@ next_is before head grs crs rows events fields rest Task is look h few field nam
     let uncapped : crs ≡ [] = all-none is_cap Cap refl crs (of_cap h) (sym (begun-capped h) ∙ tests.1) in
     let empty = some_event head rows events h.spelled (sym (begun-event h) ∙ tests.2) in
     let some : is_nil head.resources ≡ false = ap is_nil (sym (begun-resources h)) ∙ tests.0 in
-    let fits : is_bad_name RESOURCES head.tasks (second_of fields) ≡ false = ap (λ names. is_bad_name RESOURCES names (second_of fields)) (sym (begun-tasks h)) ∙ field in
+    let fits : is_bad_name SEATS head.tasks (second_of fields) ≡ false = ap (λ names. is_bad_name SEATS names (second_of fields)) (sym (begun-tasks h)) ∙ field in
     later (plain_head head.resources head.groups (head.tasks ++ second_of fields ∷ [])) grs [] [] []
     (subst (λ r. IsBegun (before ++ r ∷ []) (plain_head head.resources head.groups (head.tasks ++ second_of fields ∷ [])) grs [] [] []) (sym look)
     (grow_task before head.resources head.groups head.tasks grs (second_of fields) (bare_tasks h uncapped empty.0) some fits)) more
