@@ -2,3 +2,4 @@
 pub mod ChangeSteps
 pub mod ChangesTold
 pub mod GrantsTold
+pub mod ToldSteps

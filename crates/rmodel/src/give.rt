@@ -1,13 +1,16 @@
 // What is asked for is granted, where it comes to a claim.
 ghost use Rattle.std.specs.FinSet.{len};
-ghost use Rattle.std.specs.Prelude.{◌≡◌, ◌<◌, ◌&&◌, false, nat_lt, length, slice_index_or, slice_set};
+ghost use Rattle.std.specs.Prelude.{◌≡◌, ◌<◌, ◌≤◌, ◌&&◌, false, nat_lt, length, slice_index_or, slice_set};
 ghost use Rattle.std.specs.List.{list_any};
+ghost use Rattle.rclaim.specs.declared.TheConstants.{STATUS_ROOM, GRANT_ROOM};
+ghost use Rattle.rmodel.specs.Changes.{status_changes, grant_changes, with_change};
 ghost use Rattle.rmodel.specs.Claims.{is_active};
 ghost use Rattle.rmodel.specs.declared.claimed.Claimed.{Claimed};
 ghost use Rattle.rmodel.specs.Steps.{some_asks, is_kept_from, gets_asked, gets, with_asked, given};
 
 use crate::claimed::{Claimed, conflicts_on};
-use rclaim::Claim;
+use crate::tell::tell_claim;
+use rclaim::{Changes, Claim};
 use rset::ResourceSet;
 
 /// Whether some claim asks for something. Where nothing was ever asked for, nothing is looked at.
@@ -79,22 +82,31 @@ pub(crate) fn some_gets(claims: &[Claimed]) -> bool
     claims.iter().any(|x| gets(claims, x))
 }
 
-/// Grants what the claim at a place asks for, if it comes to it.
-fn give_at(claims: &mut [Claimed], i: usize)
-    requires { i < length claims.old }
-    ensures { (d : Claimed) → claims.new ≡ slice_set claims.old i (with_asked claims.old (slice_index_or claims.old i d)) }
+/// Grants what the claim at a place asks for, if it comes to it, and tells what changes of it.
+fn give_at(claims: &mut [Claimed], i: usize, changes: &mut Changes)
+    requires place { i < length claims.old }
+    requires statuses_room { length changes.old.statuses < STATUS_ROOM }
+    requires grants_room { length changes.old.grants < GRANT_ROOM }
+    ensures claims { (d : Claimed) → claims.new ≡ slice_set claims.old i (with_asked claims.old (slice_index_or claims.old i d)) }
+    ensures changes { (d : Claimed) → let x = slice_index_or claims.old i d in changes.new ≡ with_change changes.old x (with_asked claims.old x) }
 {
     let x = claims[i];
-    if x.asked.len() > 0 {
-        claims[i] = with_asked(claims, &x);
+    if may_get(&x) {
+        let now = with_asked(claims, &x);
+        tell_claim(&x, &now, changes);
+        claims[i] = now;
     }
 }
 
-/// Grants what is asked for, where it comes to a claim.
-pub(crate) fn give(claims: &mut [Claimed])
-    ensures { claims.new ≡ given claims.old }
+/// Grants what is asked for, where it comes to a claim, and makes the changes those from the claims before.
+pub(crate) fn give(claims: &mut [Claimed], changes: &mut Changes)
+    requires { length claims.old ≤ GRANT_ROOM }
+    ensures claims { claims.new ≡ given claims.old }
+    ensures statuses { changes.new.statuses ≡ status_changes claims.old claims.new }
+    ensures grants { changes.new.grants ≡ grant_changes claims.old claims.new }
 {
+    changes.clear();
     for i in 0..claims.len() {
-        give_at(claims, i);
+        give_at(claims, i, changes);
     }
 }

@@ -155,14 +155,16 @@ pub(crate) fn remove_seat(claims: &mut Vec<Claimed>, seat: u8)
     claims.retain(|x| x.claim.seat != seat);
 }
 
-/// Makes `to` a copy of the claims, in the room that it has. The room stays.
+/// Makes `to` a copy of the claims, in the room that it has. The room stays. It is made as long as they are, and then
+/// copied at one go: from copy to copy the length hardly differs.
 pub(crate) fn copy_into(to: &mut Vec<Claimed>, claims: &[Claimed])
     requires { length claims.now ≤ vec_capacity to.old }
     ensures items { to.new.items ≡ claims.now }
     ensures capacity { vec_capacity to.new ≡ vec_capacity to.old }
 {
-    to.clear();
-    for x in claims {
-        to.push_reserved(*x);
+    to.truncate(claims.len());
+    for i in to.len()..claims.len() {
+        to.push_reserved(claims[i]);
     }
+    to.copy_from_slice(claims);
 }

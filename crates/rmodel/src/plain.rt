@@ -235,6 +235,6 @@ impl Plain {
     {
         self.asked = true;
         ask(&mut self.claims, seat, set);
-        give_once(&mut self.claims, &mut self.before, &mut self.changes);
+        give_once(&mut self.claims, &mut self.changes);
     }
 }

@@ -40,7 +40,7 @@ fn settle_once(
         copy_into(before, claims);
         let seen = sweep(claims, left, changes);
         if some_gets(claims) {
-            give(claims);
+            give(claims, changes);
             tell_changes(before, claims, changes);
         }
         seen
@@ -73,29 +73,13 @@ pub(crate) fn settle(
     settle_once(claims, left, asked, before, changes)
 }
 
-/// Grants what is asked for, and makes the changes those from the claims before. `before` is room.
-fn give_told(claims: &mut [Claimed], before: &mut Vec<Claimed>, changes: &mut Changes)
-    requires room { length claims.old ≤ GRANT_ROOM }
-    requires before_room { length claims.old ≤ vec_capacity before.old }
-    ensures given { claims.new ≡ given claims.old }
-    ensures capacity { vec_capacity before.new ≡ vec_capacity before.old }
-    ensures statuses { changes.new.statuses ≡ status_changes claims.old claims.new }
-    ensures grants { changes.new.grants ≡ grant_changes claims.old claims.new }
-{
-    copy_into(before, claims);
-    give(claims);
-    tell_changes(before, claims, changes);
-}
-
-/// Grants what is asked for in the claims of a list, and makes the changes those from the list before. `before` is room.
-pub(crate) fn give_once(claims: &mut Vec<Claimed>, before: &mut Vec<Claimed>, changes: &mut Changes)
-    requires room { length claims.old.items ≤ GRANT_ROOM }
-    requires before_room { length claims.old.items ≤ vec_capacity before.old }
+/// Grants what is asked for in the claims of a list, and makes the changes those from the list before.
+pub(crate) fn give_once(claims: &mut Vec<Claimed>, changes: &mut Changes)
+    requires { length claims.old.items ≤ GRANT_ROOM }
     ensures items { claims.new.items ≡ given claims.old.items }
     ensures capacity { vec_capacity claims.new ≡ vec_capacity claims.old }
-    ensures before_capacity { vec_capacity before.new ≡ vec_capacity before.old }
     ensures statuses { changes.new.statuses ≡ status_changes claims.old.items claims.new.items }
     ensures grants { changes.new.grants ≡ grant_changes claims.old.items claims.new.items }
 {
-    give_told(claims, before, changes);
+    give(claims, changes);
 }

@@ -1,9 +1,7 @@
 -- The pass that grants what is asked for, claim by claim.
-use Rattle.std.proofs.Common.{◌≡◌, ℕ, ◌+◌, ◌<◌, ◌≤◌, Bool, true, false, nat_lt, ◌&&◌, ◌||◌, not, cond, List, [], ◌∷◌, ◌++◌, map, take, drop, length, get_or, append-nil, refl, sym, ap, subst, ◌∙◌, arith}
-use Rattle.std.proofs.Math.ListN.{set}
+use Rattle.std.proofs.Common.{◌≡◌, ℕ, ◌<◌, ◌≤◌, Bool, true, false, nat_lt, ◌&&◌, ◌||◌, not, cond, List, [], ◌∷◌, ◌++◌, map, take, drop, length, get_or, refl, sym, ap, subst, ◌∙◌, arith}
 use Rattle.std.proofs.lemmas.Bool.{or_parts, ltb-false}
-use Rattle.std.proofs.lemmas.List.{take_all, drop_all, take-append-drop, get_or_default}
-use Rattle.std.proofs.lemmas.List.Edits.{map_over_more}
+use Rattle.std.proofs.lemmas.List.{take-append-drop, take-map, get_or-map, length-map}
 use Rattle.std.specs.List.{AllZip, list_any}
 use Rattle.std.specs.FinSet.{empty, union, len, empty_of_len}
 use Rattle.rset.specs.Sets.{Set}
@@ -47,29 +45,30 @@ given_none xs none = each xs xs none
     each all [] h = refl
     each all (y ∷ ys) h = let parts = or_parts (nat_lt 0 (len y.asked)) (some_asks ys) h in (λ i. asks_nothing all y (no_members y.asked parts.0) i ∷ each all ys parts.1 i)
 
--- what claims settle to asks for as much
+-- nothing is given to a claim for which nothing comes
+pub given_nothing : (all : List Claimed) (y : Claimed) → gets all y ≡ false → with_asked all y ≡ y
+given_nothing all y h = at (nat_lt 0 (len y.asked)) (is_active y) refl refl h
+  where
+    left : gets_asked all y ≡ false → with_asked all y ≡ y
+    left none = ap (λ g. cond g (record y { asked = empty; granted = union y.granted y.asked }) y) none
+
+    at : (a b : Bool) → nat_lt 0 (len y.asked) ≡ a → is_active y ≡ b → ((a && b) && gets_asked all y) ≡ false → with_asked all y ≡ y
+    at true true some active h = left h
+    at true false some waits h =
+        let unsat : is_satisfied y ≡ false = false_from (is_satisfied y) (λ sat. contrary (is_active y) (active_of_satisfied y.status sat) waits) in
+        left (λ i. unsat i || (waits i && not (is_kept_from all y.claim y.asked)))
+    at false b none active h = asks_nothing all y (no_members y.asked none)
+
 -- where nothing that is asked for comes to a claim, nothing is given
 pub given_unless : (xs : List Claimed) → list_any (gets xs) xs ≡ false → given xs ≡ xs
 unfolding given
 given_unless xs none = each xs xs none
   where
-    stays : (all : List Claimed) (y : Claimed) → gets all y ≡ false → with_asked all y ≡ y
-    stays all y h = at (nat_lt 0 (len y.asked)) (is_active y) refl refl h
-      where
-        left : gets_asked all y ≡ false → with_asked all y ≡ y
-        left none = ap (λ g. cond g (record y { asked = empty; granted = union y.granted y.asked }) y) none
-
-        at : (a b : Bool) → nat_lt 0 (len y.asked) ≡ a → is_active y ≡ b → ((a && b) && gets_asked all y) ≡ false → with_asked all y ≡ y
-        at true true some active h = left h
-        at true false some waits h =
-            let unsat : is_satisfied y ≡ false = false_from (is_satisfied y) (λ sat. contrary (is_active y) (active_of_satisfied y.status sat) waits) in
-            left (λ i. unsat i || (waits i && not (is_kept_from all y.claim y.asked)))
-        at false b none active h = asks_nothing all y (no_members y.asked none)
-
     each : (all ys : List Claimed) → list_any (gets all) ys ≡ false → map (with_asked all) ys ≡ ys
     each all [] h = refl
-    each all (y ∷ ys) h = let parts = or_parts (gets all y) (list_any (gets all) ys) h in (λ i. stays all y parts.0 i ∷ each all ys parts.1 i)
+    each all (y ∷ ys) h = let parts = or_parts (gets all y) (list_any (gets all) ys) h in (λ i. given_nothing all y parts.0 i ∷ each all ys parts.1 i)
 
+-- what claims settle to asks for as much
 pub settled_asks : (xs : List Claimed) → AreWellFormed xs → some_asks (settled xs) ≡ some_asks xs
 settled_asks xs well = sym (any_zip (SettlesAt xs (settled xs)) _ _ (λ x y h. ap (λ s. nat_lt 0 (len s)) (sym h.asked)) xs (settled xs) (settles_settled xs well))
 
@@ -118,17 +117,17 @@ so_far xs i =
     front (y ∷ ys) = (at y (gets_asked xs y), front ys)
 
 -- the pass goes on by one claim
-pub give_step : (xs ys : List Claimed) (i : ℕ) (d : Claimed) → i < length xs → i < length ys → ys ≡ map (with_asked xs) (take i xs) ++ drop i xs
-    → set ys i (with_asked ys (get_or ys i d)) ≡ map (with_asked xs) (take (i + 1) xs) ++ drop (i + 1) xs
-give_step xs ys i d in_xs in_ys is =
-    let x = get_or ys i d in
-    ap (set ys i) (same_with_asked xs ys (subst (λ (zs : List Claimed). AllZip SameStanding xs zs) (sym is) (so_far xs i)) x)
-    ∙ map_over_more (with_asked xs) xs ys i x in_xs is (get_or_default ys i d x in_ys)
-
--- at its end it has gone through the whole list
-pub give_end : (xs ys : List Claimed) (i : ℕ) → length xs ≤ i → ys ≡ map (with_asked xs) (take i xs) ++ drop i xs → ys ≡ given xs
+pub give_step : (xs ys : List Claimed) (i : ℕ) (d : Claimed) → i < length xs → take i ys ≡ take i (given xs) → drop i ys ≡ drop i xs
+    → with_asked ys (get_or xs i d) ≡ get_or (given xs) i d
 unfolding given
-give_end xs ys i done is = is ∙ (λ k. map (with_asked xs) (take_all i xs done k) ++ drop_all i xs done k) ∙ append-nil (map (with_asked xs) xs)
+give_step xs ys i d within done rest =
+    let is : ys ≡ map (with_asked xs) (take i xs) ++ drop i xs = sym (take-append-drop i ys) ∙ (λ k. (done ∙ take-map (with_asked xs) i xs) k ++ rest k) in
+    same_with_asked xs ys (subst (λ (zs : List Claimed). AllZip SameStanding xs zs) (sym is) (so_far xs i)) (get_or xs i d)
+    ∙ sym (get_or-map (with_asked xs) xs i d d within)
+
+pub as_many_given : (xs : List Claimed) → length (given xs) ≡ length xs
+unfolding given
+as_many_given xs = length-map xs (with_asked xs)
 
 -- a list with a place has a claim
 pub some_claim : (xs : List Claimed) (i : ℕ) → i < length xs → Claimed

@@ -1,8 +1,8 @@
-use Rattle.std.proofs.Common.{◌≡◌, take, vec_capacity}
+use Rattle.std.proofs.Common.{◌≡◌, length, vec_capacity}
 use Rattle.rmodel.proofs.list.copy_into.Given as goal
 
-abbrev pub invariant-loop-x : goal.invariant-loop-x
-invariant-loop-x l = record {
-  items : l.to.items ≡ take l.x-index l.claims;
+abbrev pub invariant-loop-i : goal.invariant-loop-i
+invariant-loop-i l = record {
+  as_long : length l.to.items ≡ l.i;
   capacity : vec_capacity l.to ≡ vec_capacity l.initial.to;
 }

@@ -17,25 +17,14 @@ use Rattle.rmodel.proofs.stepping.SoFar.{within_next, within_asking}
 use Rattle.rmodel.proofs.reaching.Soundness.{sound_changed}
 use Rattle.rmodel.proofs.plain.Plain.ask.Goals as goal
 
-pub give_once-requires-clause-room : goal.give_once-requires-clause-room
-give_once-requires-clause-room c =
+pub give_once-requires : goal.give_once-requires
+give_once-requires c =
     let a = c.self.inside in
     let e = Ask c.args.seat c.args.set in
     let comes = kept_comes a c.args.self.now e c.self.view_is c.requires.fits c.requires.accepted tt in
     let few = few_claims (changed (state_of a) e) (sound_changed (state_of a) e c.self.invariant.reached.sound comes) in
     let same = ap length c.ask.ensures.items in
     let seats = c.self.invariant.seats in
-    omega arith
-
-pub give_once-requires-clause-before_room : goal.give_once-requires-clause-before_room
-give_once-requires-clause-before_room c =
-    let a = c.self.inside in
-    let e = Ask c.args.seat c.args.set in
-    let comes = kept_comes a c.args.self.now e c.self.view_is c.requires.fits c.requires.accepted tt in
-    let few = few_claims (changed (state_of a) e) (sound_changed (state_of a) e c.self.invariant.reached.sound comes) in
-    let same = ap length c.ask.ensures.items in
-    let seats = c.self.invariant.seats in
-    let room = c.self.invariant.before_room in
     omega arith
 
 pub invariant_of-self : goal.invariant_of-self
@@ -57,7 +46,7 @@ invariant_of-self c =
       some_seats = c.self.invariant.some_seats;
       seats = c.self.invariant.seats;
       claims_room = c.give_once.ensures.capacity ∙ c.ask.ensures.capacity ∙ c.self.invariant.claims_room;
-      before_room = c.give_once.ensures.before_capacity ∙ c.self.invariant.before_room;
+      before_room = c.self.invariant.before_room;
     }
 
 pub returns : goal.returns
