@@ -51,9 +51,13 @@ pub record IsLone (p : Claimed → Bool) (xs : List Claimed) (i : ℕ) : Type 0 
 abbrev pub stands : Left → Claimed → Bool
 stands left x = is_satisfied x || (not x.claim.write_half && meets left.written x.claim.reads)
 
--- these resources, and what a claim reads if it is a read near others that goes on waiting
+-- a claim is a read near these resources that goes on waiting
+abbrev pub is_near : Left → Set → Claimed → Bool
+is_near left s x = not x.claim.write_half && not (stands left x) && meets x.claim.reads s
+
+-- these resources, and what a claim reads if it is such a read
 abbrev pub with_near : Left → Set → Set → Claimed → Set
-with_near left s all x = if not x.claim.write_half && not (stands left x) && meets x.claim.reads s then union all x.claim.reads else all
+with_near left s all x = if is_near left s x then union all x.claim.reads else all
 
 -- what is read near these resources by reads that go on waiting
 unfoldable pub still_near : Left → List Claimed → Set → Set

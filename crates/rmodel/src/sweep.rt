@@ -1,16 +1,17 @@
 // Settles the claims that a removal leaves, in one pass by rising stamp. Nearly all are seen at once to stay as they are.
 ghost use Rattle.std.specs.Prelude.{◌≡◌, ◌<◌, ◌≤◌, false, length, slice_index_or, slice_set};
+ghost use Rattle.std.specs.List.{list_any};
 ghost use Rattle.rclaim.specs.declared.TheConstants.{STATUS_ROOM, GRANT_ROOM};
 ghost use Rattle.rclaim.specs.Changes.{no_changes};
 ghost use Rattle.rmodel.specs.Changes.{status_changes, grant_changes, with_change};
 ghost use Rattle.rmodel.specs.NewClaim.{seen_of};
 ghost use Rattle.rmodel.specs.Settling.{settled};
-ghost use Rattle.rmodel.specs.Sweep.{stands, with_near, still_near, reads_of, is_read_still, is_held_still, is_past_still, remains, read_swept, write_swept, swept_status, swept, IsLeft};
+ghost use Rattle.rmodel.specs.Sweep.{stands, is_near, with_near, still_near, reads_of, is_read_still, is_held_still, is_past_still, remains, read_swept, write_swept, swept_status, swept, IsLeft};
 ghost use Rattle.rmodel.specs.declared.claimed.Claimed.{Claimed};
 
 use crate::claimed::Claimed;
 use crate::left::Left;
-use crate::seen::{Seen, and_where, no_seen, with_seen};
+use crate::seen::{Seen, no_seen, with_seen};
 use crate::tell::tell_claim;
 use crate::way::{is_earlier_write, is_past};
 use rclaim::{Changes, Claim, Status};
@@ -23,12 +24,30 @@ fn stands(left: &Left, x: &Claimed) -> bool
     x.is_satisfied() | (!x.claim.write_half & left.written.meets(x.claim.reads))
 }
 
-/// These resources, and what a claim reads if it is a read near others that goes on waiting. It makes no branch.
+/// Whether a claim is a read near these resources that goes on waiting. Few claims read what another touches, which is
+/// looked at first.
+fn is_near(left: &Left, resources: ResourceSet, x: &Claimed) -> bool
+    ensures { result ≡ is_near left.now resources x.now }
+{
+    x.claim.reads.meets(resources) && !x.claim.write_half && !stands(left, x)
+}
+
+/// Whether a read near these resources goes on waiting.
+fn some_near(left: &Left, claims: &[Claimed], resources: ResourceSet) -> bool
+    ensures { result ≡ list_any (is_near left.now resources) claims.now }
+{
+    claims.iter().any(|x| is_near(left, resources, x))
+}
+
+/// These resources, and what a claim reads if it is a read near others that goes on waiting.
 fn with_near(left: &Left, resources: ResourceSet, all: ResourceSet, x: &Claimed) -> ResourceSet
     ensures { result ≡ with_near left.now resources all x.now }
 {
-    let waits = !x.claim.write_half & !stands(left, x);
-    and_where(all, waits & x.claim.reads.meets(resources), x.claim.reads)
+    if is_near(left, resources, x) {
+        all.union(x.claim.reads)
+    } else {
+        all
+    }
 }
 
 /// What is read near these resources by reads that go on waiting.
@@ -41,13 +60,13 @@ fn still_near(left: &Left, claims: &[Claimed], resources: ResourceSet) -> Resour
     })
 }
 
-/// Whether a claim is a satisfied read, or a satisfied write of smaller stamp, and reads what another writes. It makes no
-/// branch.
+/// Whether a claim is a satisfied read, or a satisfied write of smaller stamp, and reads what another writes. Few claims
+/// read that, which is looked at first.
 fn reads_of(left: &Left, v: &Claimed, claim: &Claim) -> bool
     ensures { result ≡ reads_of left.now claim.now v.now }
 {
     let counts = !v.claim.write_half | is_earlier_write(claim, &v.claim);
-    stands(left, v) & counts & v.claim.reads.meets(claim.writes)
+    v.claim.reads.meets(claim.writes) && stands(left, v) & counts
 }
 
 /// Whether a satisfied read, or a satisfied write of smaller stamp, reads what the claim writes.
@@ -68,11 +87,13 @@ fn is_held_still(left: &Left, seen: &Seen, claims: &[Claimed], claim: &Claim) ->
 }
 
 /// Whether each earlier write that shares a place with the claim writes nothing of what the reads near it read that go on
-/// waiting. Where nobody reads a place of it, nothing is looked at.
+/// waiting. Where nobody reads a place of it, nothing is looked at, and where no read near it waits, no write is.
 fn is_past_still(left: &Left, claims: &[Claimed], claim: &Claim) -> bool
     ensures { result ≡ is_past_still left.now claims.now claim.now }
 {
-    !left.read.meets(claim.places) || is_past(claims, claim, still_near(left, claims, claim.places))
+    !left.read.meets(claim.places)
+        || !some_near(left, claims, claim.places)
+        || is_past(claims, claim, still_near(left, claims, claim.places))
 }
 
 /// Whether it is seen at once that a claim stays as it is. It makes no branch, as nothing foretells what a claim is; so it
