@@ -8,7 +8,7 @@ use Rattle.rmodel.specs.declared.claimed.Claimed.{Claimed}
 use Rattle.rmodel.specs.declared.left.Left.{Left}
 use Rattle.rmodel.specs.NewClaim.{is_past}
 use Rattle.rmodel.specs.Settling.{is_clear}
-use Rattle.rmodel.specs.Sweep.{is_near, with_near, still_near, is_past_still}
+use Rattle.rmodel.specs.Sweep.{is_near, with_near, still_near}
 use Rattle.rmodel.proofs.sweep.is_past_still.Goals as goal
 use Rattle.rmodel.proofs.sweep.is_past_still.Goals.{then-not-meets, else-not-meets}
 
@@ -39,6 +39,6 @@ returns-then-not-some_near c =
     let xs = c.args.claims.now in
     c.if-not-some_near.true
     ∙ sym (elim c.if-not-meets.branch [
-      then-not-meets w ↦ or_left (not (meets left.read x.places)) (is_past xs x (still_near left xs x.places)) (ap not (sym c.meets.ensures ∙ w.if-not-meets.true))
-    | else-not-meets w ↦ or_right (not (meets left.read x.places)) (is_past xs x (still_near left xs x.places)) (past left xs x (sym w.some_near.ensures ∙ not_so w.some_near.result (sym w.value-is ∙ c.if-not-some_near.true)))
+      | then-not-meets w ↦ or_left (not (meets left.read x.places)) (is_past xs x (still_near left xs x.places)) (ap not (sym c.meets.ensures ∙ w.if-not-meets.true))
+      | else-not-meets w ↦ or_right (not (meets left.read x.places)) (is_past xs x (still_near left xs x.places)) (past left xs x (sym w.some_near.ensures ∙ not_so w.some_near.result (sym w.value-is ∙ c.if-not-some_near.true)))
     ])
