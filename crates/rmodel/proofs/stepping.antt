@@ -2,6 +2,7 @@
 pub mod Barred
 pub mod IssueSteps
 pub mod Issued
+pub mod Marked
 pub mod NewSettled
 pub mod Own
 pub mod PlainSteps

@@ -1,10 +1,13 @@
 -- How the plain machine keeps its lock state, and what it keeps true.
-use Rattle.std.specs.Prelude.{◌≡◌, ◌≤◌, ◌+◌, false, vec_capacity}
+use Rattle.std.specs.Prelude.{◌≡◌, ◌≤◌, ◌+◌, Bool, true, false, List, slice_index_or, vec_capacity}
+use Rattle.std.specs.List.{count_by, AllByRecursion}
 use Rattle.rset.specs.declared.TheConstants.{SEATS}
 use Rattle.rclaim.specs.declared.TheConstants.{STATUS_ROOM}
 use Rattle.rmodel.specs.declared.plain.Plain.TheInside.{Inside}
 use Rattle.rclaim.specs.Events.{IsNormalEvent}
 use Rattle.rclaim.specs.declared.event.Event.{Event}
+use Rattle.rmodel.specs.declared.claimed.Claimed.{Claimed}
+use Rattle.rmodel.specs.Claims.{is_read_half}
 use Rattle.rmodel.specs.Changes.{status_changes, grant_changes, AreActive}
 use Rattle.rmodel.specs.Steps.{changed, next, some_asks}
 use Rattle.rmodel.specs.Sweep.{AreReadWithin}
@@ -22,12 +25,19 @@ state_of a = record { groups = a.groups; seats = a.seats; cap = a.cap; issued = 
 abbrev pub standing_of : Inside → Standing
 standing_of a = record { state = state_of a; last = a.changes }
 
+-- the seat of each claim is marked
+abbrev pub AreMarked : List Bool → List Claimed → Type 0
+AreMarked marks xs = AllByRecursion (λ x. slice_index_or marks x.claim.seat false ≡ true) xs
+
 -- its state is one that accepted events lead to, as far as its claims go, with the room for the claims of all seats that was made at first
 pub record IsKept (a : Inside) : Type 0 where
   pub reached : IsReached (state_of a)
   -- what is seen of the claims is kept beside them
   pub seen : a.seen ≡ seen_of a.claims.items
   pub some_cap : 1 ≤ a.cap
+  -- the seat of each claim is marked, and this many claims are read halves of upgrades
+  pub marks : AreMarked a.marks a.claims.items
+  pub halves : a.halves ≡ count_by (λ x. is_read_half x.claim) a.claims.items
   -- what they read was read so far, and where nothing was asked for so far, they ask for nothing
   pub within : AreReadWithin a.read a.claims.items
   pub unasked : a.asked ≡ false → some_asks a.claims.items ≡ false

@@ -1,6 +1,6 @@
 // A claim of the lock state, with how far it has come.
 ghost use Rattle.std.specs.Prelude.{◌≡◌};
-ghost use Rattle.rmodel.specs.Claims.{is_active, is_entitled, is_satisfied, is_nested, is_read_half, conflicts_on, touches, share_place, waiting};
+ghost use Rattle.rmodel.specs.Claims.{is_active, is_entitled, is_satisfied, is_nested, is_upgrade, is_read_half, conflicts_on, touches, share_place, waiting};
 ghost use Rattle.rmodel.specs.Holds.{held_by};
 
 use crate::Granted;
@@ -77,11 +77,18 @@ pub(crate) fn is_nested(kind: Kind) -> bool
     matches!(kind, Kind::Nested)
 }
 
+/// Whether a request of this kind is an upgrade.
+pub(crate) fn is_upgrade(kind: Kind) -> bool
+    ensures { result ≡ is_upgrade kind }
+{
+    matches!(kind, Kind::Upgrade)
+}
+
 /// Whether the claim is the read half of an upgrade.
 pub(crate) fn is_read_half(claim: &Claim) -> bool
     ensures { result ≡ is_read_half claim.now }
 {
-    matches!(claim.kind, Kind::Upgrade) && !claim.write_half
+    is_upgrade(claim.kind) && !claim.write_half
 }
 
 /// Whether the claim reads or writes one of these resources.

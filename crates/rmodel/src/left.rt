@@ -74,33 +74,33 @@ fn left_by_read_half(claims: &[Claimed], seat: u8, read: ResourceSet) -> Left
     })
 }
 
-/// The place of the first claim of a seat.
-fn place_of(claims: &[Claimed], seat: u8) -> Option<usize>
-    ensures { result ≡ position (is_of seat) claims.now }
-{
-    claims.iter().position(|x| x.claim.seat == seat)
-}
-
-/// The place of the claim of a seat, if it has one that is no read half: it has no other.
-fn lone_place(claims: &[Claimed], seat: u8) -> Option<usize>
+/// The place of the first claim of a seat, if that is no read half: the seat has no other then.
+fn lone_place(claims: &[Claimed], seat: u8, place: Option<usize>) -> Option<usize>
+    requires { place ≡ position (is_of seat) claims.now }
     ensures { IfSome result (IsLone (is_of seat) claims.now) }
 {
-    let i = place_of(claims, seat)?;
+    let i = place?;
     if is_read_half(&claims[i].claim) {
         return None;
     }
     Some(i)
 }
 
-/// Takes the claims of a seat out, and answers what they leave. Only an upgrade that has not risen has two. What the
-/// claims read lies within `read`.
-pub(crate) fn take_seat(claims: &mut Vec<Claimed>, seat: u8, read: ResourceSet) -> Left
-    requires { EachPair Distinct claims.old.items }
+/// Takes the claims of a seat out, and answers what they leave. Only an upgrade that has not risen has two. `place` is
+/// that of the first, and what the claims read lies within `read`.
+pub(crate) fn take_seat(
+    claims: &mut Vec<Claimed>,
+    seat: u8,
+    place: Option<usize>,
+    read: ResourceSet,
+) -> Left
+    requires distinct { EachPair Distinct claims.old.items }
+    requires place { place ≡ position (is_of seat) claims.old.items }
     ensures items { claims.new.items ≡ filter (λ x. not (is_of seat x)) claims.old.items }
     ensures left { result ≡ left_by (is_of seat) read claims.old.items }
     ensures capacity { vec_capacity claims.new ≡ vec_capacity claims.old }
 {
-    if let Some(i) = lone_place(claims, seat) {
+    if let Some(i) = lone_place(claims, seat, place) {
         let gone = claims.remove(i);
         return with_left(none_gone(read), &gone);
     }

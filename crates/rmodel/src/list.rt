@@ -1,12 +1,12 @@
 // What a list of claims tells, and changes of one.
-ghost use Rattle.std.specs.Prelude.{◌≡◌, ◌==◌, ◌≤◌, ◌&&◌, not, length, find, map, vec_capacity, vec_len, filter};
+ghost use Rattle.std.specs.Prelude.{◌≡◌, ◌==◌, ◌≤◌, ◌&&◌, not, length, position, map, vec_capacity, vec_len, filter};
 ghost use Rattle.std.specs.List.{count_by};
-ghost use Rattle.std.specs.Option.{option_map};
 ghost use Rattle.rmodel.specs.Claims.{is_read_half};
 ghost use Rattle.rmodel.specs.Holds.{Alone, lacks, holds_of, has_request, may_rise, may_ask, is_part_of};
 ghost use Rattle.rmodel.specs.Steps.{asking, is_not_holding};
 ghost use Rattle.rmodel.specs.Changes.{status_in};
-ghost use Rattle.rmodel.specs.WellFormed.{EachPair};
+ghost use Rattle.rmodel.specs.Sweep.{is_of};
+ghost use Rattle.rmodel.specs.WellFormed.{EachPair, Distinct};
 
 use crate::Granted;
 use crate::claimed::{Claimed, is_nested, is_read_half};
@@ -44,18 +44,12 @@ pub(crate) fn status_in(claims: &[Claimed], seat: u8, write_half: bool) -> Optio
         .map(|x| x.status)
 }
 
-/// The number of incomplete requests: each has one claim that is no read half.
-pub(crate) fn incomplete(claims: &[Claimed]) -> usize
+/// The number of incomplete requests: each has one claim that is no read half. `halves` is the number of read halves.
+pub(crate) fn incomplete(claims: &[Claimed], halves: usize) -> usize
+    requires { halves ≡ count_by (λ x. is_read_half x.claim) claims.now }
     ensures { result ≡ count_by (λ x. not (is_read_half x.claim)) claims.now }
 {
-    claims.iter().filter(|x| !is_read_half(&x.claim)).count()
-}
-
-/// Whether there are as many incomplete requests as this. A request has a claim, so that few claims are seen at once.
-pub(crate) fn is_full(claims: &[Claimed], cap: usize) -> bool
-    ensures { result ≡ (count_by (λ x. not (is_read_half x.claim)) claims.now == cap) }
-{
-    claims.len() >= cap && incomplete(claims) == cap
+    claims.len() - halves
 }
 
 /// Whether a claim holds nothing, or asks for something.
@@ -65,32 +59,36 @@ fn lacks(x: &Claimed) -> bool
     x.held().is_nothing() || x.asked.len() > 0
 }
 
-/// Whether the first claim of the seat does; None where there is none.
-fn first_lacks(claims: &[Claimed], seat: u8) -> Option<bool>
-    ensures { result ≡ option_map lacks (find (λ x. x.claim.seat == seat) claims.now) }
+/// The place of the first claim of the seat.
+pub(crate) fn place_of(claims: &[Claimed], seat: u8) -> Option<usize>
+    ensures { result ≡ position (is_of seat) claims.now }
 {
-    claims
-        .iter()
-        .find(|x| x.claim.seat == seat)
-        .map(|x| lacks(x))
+    claims.iter().position(|x| x.claim.seat == seat)
 }
 
-/// Whether the seat holds nothing, or an ask of it is pending. The first claim of a seat tells it: a second one holds
+/// Whether the seat holds nothing, or an ask of it is pending. Its first claim, at `place`, tells it: a second one holds
 /// nothing and asks for nothing.
-pub(crate) fn is_not_holding(claims: &[Claimed], seat: u8) -> bool
-    requires { EachPair Alone claims.now }
+pub(crate) fn is_not_holding(claims: &[Claimed], seat: u8, place: Option<usize>) -> bool
+    requires alone { EachPair Alone claims.now }
+    requires place { place ≡ position (is_of seat) claims.now }
     ensures { result ≡ is_not_holding claims.now seat }
 {
-    first_lacks(claims, seat).unwrap_or(true)
+    match place {
+        Some(i) => lacks(&claims[i]),
+        None => true,
+    }
 }
 
-/// Whether the seat's request is an upgrade that has not risen.
-pub(crate) fn may_rise(claims: &[Claimed], seat: u8) -> bool
+/// Whether the seat's request is an upgrade that has not risen. Its first claim, at `place`, tells it.
+pub(crate) fn may_rise(claims: &[Claimed], seat: u8, place: Option<usize>) -> bool
+    requires distinct { EachPair Distinct claims.now }
+    requires place { place ≡ position (is_of seat) claims.now }
     ensures { result ≡ may_rise claims.now seat }
 {
-    claims
-        .iter()
-        .any(|x| x.claim.seat == seat && is_read_half(&x.claim))
+    match place {
+        Some(i) => is_read_half(&claims[i].claim),
+        None => false,
+    }
 }
 
 /// Whether the seat's request is nested.

@@ -1,33 +1,41 @@
 // The machine over a plain list of claims.
-ghost use Rattle.std.specs.Prelude.{◌≡◌};
-ghost use Rattle.rclaim.specs.Events.{IsNormalEvent};
+ghost use Rattle.std.specs.Prelude.{◌≡◌, ◌<◌, position};
+ghost use Rattle.rclaim.specs.Events.{IsNormalEvent, seat_of};
 ghost use Rattle.rclaim.specs.declared.event.Event.TheVariants.{Issue, Finish, Rise, Ask};
 ghost use Rattle.rmodel.specs.Plain.{IsTaken};
 ghost use Rattle.rmodel.specs.Steps.{Fits, Accepts, refusal};
+ghost use Rattle.rmodel.specs.Sweep.{is_of};
 
-use crate::claimed::Claimed;
+use crate::claimed::{Claimed, is_upgrade};
 use crate::claims::push_claims;
 use crate::left::{take_read_half, take_seat};
 use crate::list::{
-    ask, has_request, holds_of, incomplete, is_full, is_not_holding, is_part_of, may_ask, may_rise,
-    status_in,
+    ask, has_request, holds_of, incomplete, is_not_holding, is_part_of, may_ask, may_rise,
+    place_of, status_in,
 };
 use crate::seen::{Seen, no_seen};
 use crate::settle::{give_once, settle};
 use crate::{Granted, Machine, Refused};
 use rclaim::{Changes, Event, Request, STATUS_ROOM, Status};
 use rexpand::Groups;
-use rset::ResourceSet;
+use rset::{ResourceSet, SEATS};
 use std::alloc::{AllocError, Global};
 use std::marker::Model;
 
 // Room for the claims of all seats, two for each, and for those of a request more.
 const CLAIMS: usize = STATUS_ROOM + 2;
 
+// A mark for each seat.
+const MARKS: usize = SEATS as usize;
+
 /// A machine over a plain list of claims. All its room is made when it is made.
 #[derive(Drop)]
 pub struct Plain {
     claims: Vec<Claimed>,
+    // Where there is no mark, the seat has no claim.
+    marks: [bool; MARKS],
+    // How many of the claims are read halves of upgrades.
+    halves: usize,
     seen: Seen,
     // What requests have read so far.
     read: ResourceSet,
@@ -63,6 +71,8 @@ impl Machine for Plain {
     fn new(alloc: Global, groups: Groups, seats: u8, cap: u8) -> Result<Plain, AllocError> {
         Ok(Plain {
             claims: Vec::with_capacity(alloc, CLAIMS)?,
+            marks: [false; MARKS],
+            halves: 0,
             seen: no_seen(),
             read: ResourceSet::empty(),
             asked: false,
@@ -76,10 +86,11 @@ impl Machine for Plain {
     }
 
     fn step(&mut self, event: Event) -> Result<(), Refused> {
-        if let Some(cause) = self.refusal(&event) {
+        let place = self.place(event.seat());
+        if let Some(cause) = self.refusal(&event, place) {
             return Err(cause);
         }
-        self.take(&event);
+        self.take(&event, place);
         Ok(())
     }
 
@@ -92,7 +103,8 @@ impl Machine for Plain {
     }
 
     fn pending(&self, seat: u8) -> bool {
-        has_request(&self.claims, seat) && is_not_holding(&self.claims, seat)
+        has_request(&self.claims, seat)
+            && is_not_holding(&self.claims, seat, place_of(&self.claims, seat))
     }
 
     fn idle(&self, seat: u8) -> bool {
@@ -104,7 +116,7 @@ impl Machine for Plain {
     }
 
     fn incomplete(&self) -> u8 {
-        incomplete(&self.claims) as u8
+        incomplete(&self.claims, self.halves) as u8
     }
 
     fn issued(&self) -> u64 {
@@ -125,28 +137,41 @@ impl Machine for Plain {
 }
 
 impl Plain {
-    // Why the event is refused, if it is.
-    fn refusal(&self, event: &Event) -> Option<Refused>
+    // The place of the first claim of a seat. Only where there is a mark it is looked for.
+    fn place(&self, seat: u8) -> Option<usize>
+        requires { seat < self.now.state.seats }
+        ensures { result ≡ position (is_of seat) self.now.state.claims }
+    {
+        if !self.marks[seat as usize] {
+            return None;
+        }
+        place_of(&self.claims, seat)
+    }
+
+    // Why the event is refused, if it is. `place` is that of the first claim of its seat.
+    fn refusal(&self, event: &Event, place: Option<usize>) -> Option<Refused>
+        requires { place ≡ position (is_of (seat_of event.now)) self.now.state.claims }
         ensures { result ≡ refusal self.now.state event.now }
     {
         match event {
-            Event::Issue { seat, .. } => {
-                if has_request(&self.claims, *seat) {
+            Event::Issue { .. } => {
+                if place.is_some() {
                     return Some(Refused::SeatBusy);
                 }
-                is_full(&self.claims, self.cap as usize).then_some(Refused::Full)
+                let incomplete = incomplete(&self.claims, self.halves);
+                (incomplete == self.cap as usize).then_some(Refused::Full)
             }
             Event::Finish { seat } => {
-                is_not_holding(&self.claims, *seat).then_some(Refused::NotHolding)
+                is_not_holding(&self.claims, *seat, place).then_some(Refused::NotHolding)
             }
             Event::Rise { seat } => {
-                if is_not_holding(&self.claims, *seat) {
+                if is_not_holding(&self.claims, *seat, place) {
                     return Some(Refused::NotHolding);
                 }
-                (!may_rise(&self.claims, *seat)).then_some(Refused::NotUpgradeable)
+                (!may_rise(&self.claims, *seat, place)).then_some(Refused::NotUpgradeable)
             }
             Event::Ask { seat, set } => {
-                if is_not_holding(&self.claims, *seat) {
+                if is_not_holding(&self.claims, *seat, place) {
                     return Some(Refused::NotHolding);
                 }
                 if !may_ask(&self.claims, *seat) {
@@ -158,14 +183,16 @@ impl Plain {
     }
 
     // Takes an accepted event: it changes the claims, and they are settled once, with what is asked for granted.
-    fn take(&mut self, event: &Event)
+    // `place` is that of the first claim of its seat.
+    fn take(&mut self, event: &Event, place: Option<usize>)
+        requires place { place ≡ position (is_of (seat_of event.now)) self.old.state.claims }
         requires fits { Fits self.old.state event.now }
         requires accepted { Accepts self.old.state event.now }
         ensures { IsTaken self.old event.now self.new }
     {
         match event {
             Event::Issue { seat, request } => self.issue(*seat, request),
-            Event::Finish { seat } => self.finish(*seat),
+            Event::Finish { seat } => self.finish(*seat, place),
             Event::Rise { seat } => self.rise(*seat),
             Event::Ask { seat, set } => self.ask(*seat, *set),
         }
@@ -190,16 +217,21 @@ impl Plain {
             &mut self.changes,
         );
         self.asked = self.asked | (request.first().len() > 0);
+        self.marks[seat as usize] = true;
+        self.halves += is_upgrade(request.kind()) as usize;
         self.issued += 1;
     }
 
-    // Takes a finish.
-    fn finish(&mut self, seat: u8)
+    // Takes a finish. `place` is that of the first claim of the seat.
+    fn finish(&mut self, seat: u8, place: Option<usize>)
+        requires place { place ≡ position (is_of seat) self.old.state.claims }
         requires fits { Fits self.old.state (Finish seat) }
         requires accepted { Accepts self.old.state (Finish seat) }
         ensures { IsTaken self.old (Finish seat) self.new }
     {
-        let left = take_seat(&mut self.claims, seat, self.read);
+        self.halves -= may_rise(&self.claims, seat, place) as usize;
+        self.marks[seat as usize] = false;
+        let left = take_seat(&mut self.claims, seat, place, self.read);
         let seen = settle(
             &mut self.claims,
             &left,
@@ -216,6 +248,7 @@ impl Plain {
         requires accepted { Accepts self.old.state (Rise seat) }
         ensures { IsTaken self.old (Rise seat) self.new }
     {
+        self.halves -= 1;
         let left = take_read_half(&mut self.claims, seat, self.read);
         let seen = settle(
             &mut self.claims,

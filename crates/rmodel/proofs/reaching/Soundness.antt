@@ -46,7 +46,7 @@ read_of_half c h = from_test c.write_half (and_parts _ (not c.write_half) h).1
 
 -- ---- what is known of an accepted event
 
-passed : (b : Bool) (cause : Refused) (rest : Option Refused) → cond b (Some cause) rest ≡ None → (b ≡ false) × (rest ≡ None)
+pub passed : (b : Bool) (cause : Refused) (rest : Option Refused) → cond b (Some cause) rest ≡ None → (b ≡ false) × (rest ≡ None)
 passed true cause rest none = cc
 passed false cause rest none = (refl, none)
 

@@ -1,11 +1,16 @@
-use Rattle.std.proofs.Common.{List, length, sym, ap, subst, ◌∙◌, arith}
+use Rattle.std.proofs.Common.{List, map, get_or, true, false, ◌≡◌, length, sym, ap, subst, ◌∙◌, arith}
 use Rattle.rclaim.specs.declared.event.Event.TheVariants.{Ask}
 use Rattle.rmodel.specs.declared.claimed.Claimed.{Claimed}
-use Rattle.rmodel.specs.Changes.{status_changes, grant_changes}
+use Rattle.std.specs.List.{count_by}
+use Rattle.rclaim.specs.declared.claim.Claim.{Claim}
+use Rattle.rmodel.specs.Claims.{is_read_half}
+use Rattle.rmodel.proofs.stepping.Marked.{marked_next, halves_next, same_halves}
+use Rattle.rmodel.proofs.ListFacts.{all_of_zip}
+use Rattle.rmodel.specs.Changes.{SameClaim, status_changes, grant_changes}
 use Rattle.rmodel.specs.State.{LockState}
-use Rattle.rmodel.specs.Plain.{state_of}
+use Rattle.rmodel.specs.Plain.{state_of, AreMarked}
 use Rattle.rmodel.specs.Reached.{IsReached}
-use Rattle.rmodel.specs.Steps.{changed, given}
+use Rattle.rmodel.specs.Steps.{changed, given, asking}
 use Rattle.rmodel.proofs.stepping.PlainSteps.{kept_comes, taken, ask_settled, few_claims}
 use Rattle.rmodel.proofs.reaching.Reached.{reached_next}
 use Rattle.rmodel.specs.NewClaim.{seen_of}
@@ -14,7 +19,7 @@ use Rattle.rmodel.proofs.settling.Standing.{asking_standing, given_standing}
 use Rattle.std.proofs.lemmas.Bool.{true≢false}
 use Rattle.rmodel.specs.Sweep.{AreReadWithin}
 use Rattle.rmodel.proofs.stepping.SoFar.{within_next, within_asking}
-use Rattle.rmodel.proofs.reaching.Soundness.{sound_changed}
+use Rattle.rmodel.proofs.reaching.Soundness.{sound_changed, asking_same}
 use Rattle.rmodel.proofs.plain.Plain.ask.Goals as goal
 
 pub give_once-requires : goal.give_once-requires
@@ -38,6 +43,12 @@ invariant_of-self c =
           (reached_next (state_of a) e c.self.invariant.reached comes);
       seen = c.self.invariant.seen ∙ seen_standing a.claims.items _ (asking_standing c.args.seat c.args.set a.claims.items)
           ∙ ap seen_of (sym c.ask.ensures.items) ∙ seen_standing c.ask.new.claims.items _ (given_standing c.ask.new.claims.items) ∙ ap seen_of (sym c.give_once.ensures.items);
+      marks = subst (λ (xs : List Claimed). AreMarked a.marks xs) (sym (c.give_once.ensures.items ∙ ap given (c.ask.ensures.items ∙ sym same)))
+          (marked_next (state_of a) e c.self.invariant.reached.sound comes a.marks
+          (all_of_zip (λ x. get_or a.marks x.claim.seat false ≡ true) SameClaim (λ y. get_or a.marks y.claim.seat false ≡ true) (λ x y h same. ap (λ (k : Claim). get_or a.marks k.seat false) same ∙ h)
+          a.claims.items (map (asking c.args.seat c.args.set) a.claims.items) c.self.invariant.marks (asking_same c.args.seat c.args.set a.claims.items)));
+      halves = c.self.invariant.halves ∙ same_halves a.claims.items (map (asking c.args.seat c.args.set) a.claims.items) (asking_same c.args.seat c.args.set a.claims.items)
+          ∙ halves_next (state_of a) e c.self.invariant.reached.sound comes ∙ ap (count_by (λ x. is_read_half x.claim)) (sym (c.give_once.ensures.items ∙ ap given (c.ask.ensures.items ∙ sym same)));
       some_cap = c.self.invariant.some_cap;
       within = subst (λ (xs : List Claimed). AreReadWithin a.read xs) (sym (c.give_once.ensures.items ∙ ap given (c.ask.ensures.items ∙ sym same)))
           (within_next (state_of a) e c.self.invariant.reached.sound comes a.read (within_asking a.read c.args.set c.args.seat a.claims.items c.self.invariant.within));

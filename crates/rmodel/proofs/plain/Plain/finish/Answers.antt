@@ -1,8 +1,13 @@
-use Rattle.std.proofs.Common.{List, length, refl, sym, ap, subst, ◌∙◌, arith, not}
+use Rattle.std.proofs.Common.{List, length, refl, sym, ap, subst, ◌∙◌, arith, not, cond, false, ◌-◌, ◌≤◌, ℕ}
+use Rattle.std.proofs.Math.ListN.{set}
 use Rattle.rclaim.specs.declared.event.Event.TheVariants.{Finish}
 use Rattle.rmodel.specs.declared.claimed.Claimed.{Claimed}
+use Rattle.std.specs.List.{count_by}
+use Rattle.rmodel.specs.Claims.{is_read_half}
+use Rattle.rmodel.specs.Holds.{may_rise}
+use Rattle.rmodel.proofs.stepping.Marked.{marked_next, halves_next, finished_marked, finished_halves, as_number}
 use Rattle.rmodel.specs.Changes.{status_changes, grant_changes}
-use Rattle.rmodel.specs.Plain.{state_of}
+use Rattle.rmodel.specs.Plain.{state_of, AreMarked}
 use Rattle.rmodel.specs.Reached.{IsReached}
 use Rattle.rmodel.specs.Settling.{settled}
 use Rattle.rmodel.specs.State.{LockState}
@@ -17,6 +22,13 @@ use Rattle.rmodel.proofs.stepping.SoFar.{within_next, unasked_left, unasked_next
 use Rattle.rmodel.proofs.reaching.Soundness.{sound_changed}
 use Rattle.rmodel.proofs.plain.Plain.finish.Goals as goal
 
+pub overflow_sub-self : goal.overflow_sub-self
+overflow_sub-self c =
+    let a = c.self.inside in
+    let were = c.self.invariant.halves in
+    let gone = finished_halves c.args.seat a.claims.items c.self.invariant.reached.sound.one_each in
+    subst (λ (n : ℕ). n ≤ a.halves) (sym (as_number c.may_rise.result ∙ ap (λ b. cond b 1 0) (c.may_rise.ensures ∙ ap (λ (xs : List Claimed). may_rise xs c.args.seat) c.deref.ensures.value))) (omega (arith, were, gone))
+
 pub settle-seen-requires-clause-left : goal.settle-seen-requires-clause-left
 settle-seen-requires-clause-left c =
     let a = c.self.inside in
@@ -25,8 +37,8 @@ settle-seen-requires-clause-left c =
     subst (λ (p : List Claimed × Left). IsLeft p.0 p.1) (λ k. (sym c.take_seat-left.ensures.items k, sym c.take_seat-left.ensures.left k))
     (is_left_by (state_of a) e (is_of c.args.seat) a.read c.self.invariant.reached c.self.invariant.within comes refl)
 
-pub take_seat-left-requires : goal.take_seat-left-requires
-take_seat-left-requires c = c.self.invariant.reached.sound.one_each
+pub take_seat-left-requires-clause-distinct : goal.take_seat-left-requires-clause-distinct
+take_seat-left-requires-clause-distinct c = c.self.invariant.reached.sound.one_each
 
 pub settle-seen-requires-clause-asked : goal.settle-seen-requires-clause-asked
 settle-seen-requires-clause-asked c = λ unasked.
@@ -63,6 +75,13 @@ invariant_of-self c =
       reached = subst (λ (xs : List Claimed). IsReached (record (state_of a) { claims = xs })) (sym (c.settle-seen.ensures.items ∙ ap (λ xs. given (settled xs)) c.take_seat-left.ensures.items))
           (reached_next (state_of a) e c.self.invariant.reached comes);
       seen = c.settle-seen.ensures.seen;
+      marks = subst (λ (xs : List Claimed). AreMarked (set a.marks c.args.seat false) xs) (sym (c.settle-seen.ensures.items ∙ ap (λ xs. given (settled xs)) c.take_seat-left.ensures.items))
+          (marked_next (state_of a) e c.self.invariant.reached.sound comes (set a.marks c.args.seat false) (finished_marked a.marks a.claims.items c.args.seat c.self.invariant.marks));
+      halves =
+          let gone = finished_halves c.args.seat a.claims.items c.self.invariant.reached.sound.one_each in
+          let next = halves_next (state_of a) e c.self.invariant.reached.sound comes in
+          let are = ap (count_by (λ x. is_read_half x.claim)) (c.settle-seen.ensures.items ∙ ap (λ xs. given (settled xs)) c.take_seat-left.ensures.items) in
+          (λ i. c.self.invariant.halves i - (as_number c.may_rise.result ∙ ap (λ b. cond b 1 0) (c.may_rise.ensures ∙ ap (λ (xs : List Claimed). may_rise xs c.args.seat) c.deref.ensures.value)) i) ∙ omega (arith, gone, next, are);
       some_cap = c.self.invariant.some_cap;
       within = subst (λ (xs : List Claimed). AreReadWithin a.read xs) (sym (c.settle-seen.ensures.items ∙ ap (λ xs. given (settled xs)) c.take_seat-left.ensures.items))
           (within_next (state_of a) e c.self.invariant.reached.sound comes a.read (all_filter _ (λ x. not (is_of c.args.seat x)) a.claims.items c.self.invariant.within));

@@ -1,9 +1,13 @@
-use Rattle.std.proofs.Common.{◌+◌, List, ◌++◌, map, sym, ap, subst, ◌∙◌, arith, ◌≡◌, nat_lt}
+use Rattle.std.proofs.Common.{◌+◌, List, ◌++◌, map, sym, ap, subst, ◌∙◌, arith, ◌≡◌, nat_lt, true, cond}
 use Rattle.rclaim.specs.declared.event.Event.TheVariants.{Issue}
 use Rattle.rmodel.specs.declared.claimed.Claimed.{Claimed}
 use Rattle.rclaim.specs.Changes.{ChangeLists}
+use Rattle.std.proofs.Math.ListN.{set}
+use Rattle.std.specs.List.{count_by}
+use Rattle.rmodel.specs.Plain.{AreMarked}
+use Rattle.rmodel.proofs.stepping.Marked.{issued_marked, marked_next, issued_halves, halves_next, as_number}
 use Rattle.rmodel.specs.Changes.{status_changes, grant_changes}
-use Rattle.rmodel.specs.Claims.{waiting, claims_of}
+use Rattle.rmodel.specs.Claims.{waiting, claims_of, is_upgrade, is_read_half}
 use Rattle.rmodel.specs.State.{LockState}
 use Rattle.rmodel.specs.Plain.{state_of}
 use Rattle.rmodel.specs.Reached.{IsReached}
@@ -50,6 +54,11 @@ invariant_of-self c =
       reached = subst (λ (xs : List Claimed). IsReached (record (state_of a) { issued = a.issued + 1; claims = xs })) (sym is)
           (reached_next (state_of a) e c.self.invariant.reached comes);
       seen = c.push_claims.ensures.seen;
+      marks = subst (λ (xs : List Claimed). AreMarked (set a.marks c.args.seat true) xs) (sym is)
+          (marked_next (state_of a) e sound comes (set a.marks c.args.seat true)
+          (issued_marked a.marks a.claims.items a.groups.groups a.issued c.args.seat r (let there = comes.fits.seat_there in let seats = c.self.invariant.seats in omega arith) c.self.invariant.marks));
+      halves = (λ i. c.self.invariant.halves i + (as_number c.is_upgrade.result ∙ ap (λ b. cond b 1 0) (c.is_upgrade.ensures ∙ ap is_upgrade c.kind.ensures.value)) i)
+          ∙ sym (issued_halves a.claims.items a.groups.groups a.issued c.args.seat r) ∙ halves_next (state_of a) e sound comes ∙ ap (count_by (λ x. is_read_half x.claim)) (sym is);
       some_cap = c.self.invariant.some_cap;
       within = subst (λ (p : Set × List Claimed). AreReadWithin p.0 p.1) (λ k. (sym (c.union-self-inside.ensures ∙ ap (union a.read) c.reads.ensures.value) k, sym is k))
           (within_next (state_of a) e sound comes (union a.read r.reads) (within_issued a.read a.claims.items a.groups.groups a.issued c.args.seat r c.self.invariant.within));

@@ -1,8 +1,11 @@
-use Rattle.std.proofs.Common.{List, length, refl, sym, ap, subst, ◌∙◌, arith, not}
+use Rattle.std.proofs.Common.{List, length, refl, sym, ap, subst, ◌∙◌, arith, not, ◌≡◌, true, false, get_or}
 use Rattle.rclaim.specs.declared.event.Event.TheVariants.{Rise}
 use Rattle.rmodel.specs.declared.claimed.Claimed.{Claimed}
+use Rattle.std.specs.List.{count_by}
+use Rattle.rmodel.specs.Claims.{is_read_half}
+use Rattle.rmodel.proofs.stepping.Marked.{marked_next, halves_next, risen_halves, rises}
 use Rattle.rmodel.specs.Changes.{status_changes, grant_changes}
-use Rattle.rmodel.specs.Plain.{state_of}
+use Rattle.rmodel.specs.Plain.{state_of, AreMarked}
 use Rattle.rmodel.specs.Reached.{IsReached}
 use Rattle.rmodel.specs.Settling.{settled}
 use Rattle.rmodel.specs.State.{LockState}
@@ -16,6 +19,14 @@ use Rattle.rmodel.proofs.ListFacts.{all_filter}
 use Rattle.rmodel.proofs.stepping.SoFar.{within_next, unasked_left, unasked_next}
 use Rattle.rmodel.proofs.reaching.Soundness.{sound_changed}
 use Rattle.rmodel.proofs.plain.Plain.rise.Goals as goal
+
+pub overflow_sub-self : goal.overflow_sub-self
+overflow_sub-self c =
+    let a = c.self.inside in
+    let comes = kept_comes a c.args.self.now (Rise c.args.seat) c.self.view_is c.requires.fits c.requires.accepted tt in
+    let were = c.self.invariant.halves in
+    let gone = risen_halves c.args.seat a.claims.items c.self.invariant.reached.sound.one_each (rises (state_of a) c.args.seat comes.accepted) in
+    omega (arith, were, gone)
 
 pub settle-seen-requires-clause-left : goal.settle-seen-requires-clause-left
 settle-seen-requires-clause-left c =
@@ -60,6 +71,14 @@ invariant_of-self c =
       reached = subst (λ (xs : List Claimed). IsReached (record (state_of a) { claims = xs })) (sym (c.settle-seen.ensures.items ∙ ap (λ xs. given (settled xs)) c.take_read_half-left.ensures.items))
           (reached_next (state_of a) e c.self.invariant.reached comes);
       seen = c.settle-seen.ensures.seen;
+      marks = subst (λ (xs : List Claimed). AreMarked (a.marks) xs) (sym (c.settle-seen.ensures.items ∙ ap (λ xs. given (settled xs)) c.take_read_half-left.ensures.items))
+          (marked_next (state_of a) e c.self.invariant.reached.sound comes (a.marks) (all_filter (λ x. get_or a.marks x.claim.seat false ≡ true) (λ x. not (is_read_of c.args.seat x)) a.claims.items c.self.invariant.marks));
+      halves =
+          let were = c.self.invariant.halves in
+          let gone = risen_halves c.args.seat a.claims.items c.self.invariant.reached.sound.one_each (rises (state_of a) c.args.seat comes.accepted) in
+          let next = halves_next (state_of a) e c.self.invariant.reached.sound comes in
+          let are = ap (count_by (λ x. is_read_half x.claim)) (c.settle-seen.ensures.items ∙ ap (λ xs. given (settled xs)) c.take_read_half-left.ensures.items) in
+          omega arith;
       some_cap = c.self.invariant.some_cap;
       within = subst (λ (xs : List Claimed). AreReadWithin a.read xs) (sym (c.settle-seen.ensures.items ∙ ap (λ xs. given (settled xs)) c.take_read_half-left.ensures.items))
           (within_next (state_of a) e c.self.invariant.reached.sound comes a.read (all_filter _ (λ x. not (is_read_of c.args.seat x)) a.claims.items c.self.invariant.within));

@@ -1,5 +1,10 @@
-use Rattle.std.proofs.Common.{List, sym, ap, subst, ◌∙◌}
+use Rattle.std.proofs.Math.ListN.{replicate}
+use Rattle.std.proofs.Common.{false, List, sym, ap, subst, ◌∙◌}
 use Rattle.rmodel.specs.declared.claimed.Claimed.{Claimed}
+use Rattle.std.specs.List.{count_by}
+use Rattle.rmodel.specs.Claims.{is_read_half}
+use Rattle.rmodel.proofs.stepping.Marked.{none_marked}
+use Rattle.rset.specs.declared.TheConstants.{SEATS}
 use Rattle.rmodel.specs.NewClaim.{seen_of}
 use Rattle.rmodel.proofs.stepping.SweepSteps.{seen_none}
 use Rattle.rmodel.specs.Reached.{IsReached}
@@ -14,6 +19,8 @@ invariant_of-result c = record {
   reached = subst (λ (xs : List Claimed). IsReached (record (opening c.args.groups c.args.seats c.args.cap) { claims = xs })) (sym (c.in_ok-with_capacity.ensures.items))
       (reached_opening c.args.groups c.args.seats c.args.cap);
   seen = c.no_seen.ensures ∙ seen_none ∙ ap seen_of (sym c.in_ok-with_capacity.ensures.items);
+  marks = none_marked (replicate SEATS false) _ c.in_ok-with_capacity.ensures.items;
+  halves = sym (ap (count_by (λ x. is_read_half x.claim)) c.in_ok-with_capacity.ensures.items);
   some_cap = c.requires.cap.0;
   within = within_none _ _ c.in_ok-with_capacity.ensures.items;
   unasked = λ _. ap some_asks c.in_ok-with_capacity.ensures.items;

@@ -6,6 +6,6 @@ use Rattle.rmodel.specs.WellFormed.{EachPair}
 use Rattle.rmodel.proofs.stepping.Own.{each_alone}
 use Rattle.rmodel.proofs.plain.PlainMachine.pending.Goals as goal
 
-pub is_not_holding-requires : goal.is_not_holding-requires
-is_not_holding-requires c =
+pub is_not_holding-requires-clause-alone : goal.is_not_holding-requires-clause-alone
+is_not_holding-requires-clause-alone c =
     subst (λ (xs : List Claimed). EachPair Alone xs) (sym c.deref-then-has_request.ensures.value) (each_alone (state_of c.self.inside) c.self.invariant.reached)
