@@ -1,5 +1,6 @@
 // Settles new claims. They stand behind settled ones, which stay as they are: one look at those tells nearly all.
-ghost use Rattle.std.specs.Prelude.{◌≡◌, ◌<◌, ◌∷◌, ◌++◌, [], length, vec_capacity};
+ghost use Rattle.std.specs.Prelude.{◌≡◌, ◌<◌, ◌∷◌, ◌++◌, [], false, length, vec_capacity};
+ghost use Rattle.std.specs.FinSet.{empty};
 ghost use Rattle.rclaim.specs.declared.TheConstants.{STATUS_ROOM, GRANT_ROOM};
 ghost use Rattle.rmodel.specs.Changes.{with_change};
 ghost use Rattle.rmodel.specs.Settling.{read_near};
@@ -110,6 +111,7 @@ pub(crate) fn push_new(
     requires seen { seen.old ≡ seen_of claims.old.items }
     requires within { AreReadWithin read claims.old.items }
     requires room { length claims.old.items < vec_capacity claims.old }
+    requires read_only { x.now.claim.write_half ≡ false → x.now.claim.writes ≡ empty }
     requires statuses_room { length changes.old.statuses < STATUS_ROOM }
     requires grants_room { length changes.old.grants < GRANT_ROOM }
     ensures items { claims.new.items ≡ claims.old.items ++ new_claim claims.old.items x.now ∷ [] }

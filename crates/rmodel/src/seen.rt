@@ -1,6 +1,6 @@
 // What one look at settled claims tells of those to come.
 ghost use Rattle.std.specs.FinSet.{empty, union};
-ghost use Rattle.std.specs.Prelude.{if◌then◌else◌, ◌≡◌};
+ghost use Rattle.std.specs.Prelude.{if◌then◌else◌, ◌≡◌, false};
 ghost use Rattle.rmodel.specs.NewClaim.{no_seen, with_seen};
 ghost use Rattle.rmodel.specs.Settling.{with_bars};
 
@@ -58,18 +58,18 @@ fn with_bars(all: ResourceSet, x: &Claimed) -> ResourceSet
 }
 
 /// What was seen of claims, and a claim more. It makes no branch, as nothing foretells which claims are reads, and how far
-/// they are.
+/// they are. A read claim writes nothing, so that what it writes may be added.
 #[inline]
 pub(crate) fn with_seen(all: Seen, x: &Claimed) -> Seen
+    requires { x.now.claim.write_half ≡ false → x.now.claim.writes ≡ empty }
     ensures { result ≡ with_seen all x.now }
 {
-    let write = x.claim.write_half;
     let active = x.is_active();
     let satisfied = x.is_satisfied();
     let writes = x.claim.writes;
     Seen {
-        active: and_where(all.active, write & active, writes),
-        kept: and_where(all.kept, write & satisfied, writes),
+        active: and_where(all.active, active, writes),
+        kept: and_where(all.kept, satisfied, writes),
         bars: with_bars(all.bars, x),
     }
 }

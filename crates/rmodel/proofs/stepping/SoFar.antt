@@ -22,7 +22,7 @@ use Rattle.rmodel.specs.Sweep.{AreReadWithin}
 use Rattle.rmodel.specs.WellFormed.{IsSound}
 use Rattle.rmodel.proofs.settling.Giving.{given_none, settled_asks, same_given}
 use Rattle.rmodel.proofs.ListFacts.{all_append, all_of_zip}
-use Rattle.rmodel.proofs.settling.Settlement.{settles_settled}
+use Rattle.rmodel.proofs.settling.Settlement.{ReadsOnly, settles_settled}
 use Rattle.rmodel.proofs.reaching.Soundness.{same_claims, sound_changed}
 use Rattle.rmodel.proofs.stepping.Sweeping.{none_near}
 
@@ -89,6 +89,14 @@ within_pushed read xs x within here =
         → let z = with_status x (new_status xs (seen_of xs) x) in is_subset (cond b (record z { asked = empty; granted = union z.granted z.asked }) z).claim.reads read ≡ true
     at true = here
     at false = here
+
+pub read_only_pushed : (xs : List Claimed) (x : Claimed) → ReadsOnly x → ReadsOnly (new_claim xs x)
+unfolding new_claim
+read_only_pushed xs x only = let z = with_status x (new_status xs (seen_of xs) x) in at (gets_asked xs z)
+  where
+    at : (b : Bool) → let z = with_status x (new_status xs (seen_of xs) x) in ReadsOnly (cond b (record z { asked = empty; granted = union z.granted z.asked }) z)
+    at true = only
+    at false = only
 
 -- ---- where nobody has read these resources
 

@@ -3,7 +3,8 @@ use Rattle.std.proofs.Common.{◌≡◌, ℕ, ◌+◌, ◌<◌, ◌≤◌, true,
 use Rattle.std.proofs.Math.ListN.{set}
 use Rattle.std.proofs.lemmas.List.{take_more, take-append-drop}
 use Rattle.std.proofs.lemmas.List.Sums.{fold-append}
-use Rattle.std.specs.List.{AllZip}
+use Rattle.std.specs.List.{AllZip, AllByRecursion}
+use Rattle.std.specs.Option.{option_to_list}
 use Rattle.rclaim.specs.Changes.{ChangeLists, no_changes}
 use Rattle.rmodel.specs.declared.claimed.Claimed.{Claimed}
 use Rattle.rmodel.specs.declared.seen.Seen.{Seen}
@@ -14,7 +15,10 @@ use Rattle.rmodel.specs.Settling.{with_status, settled}
 use Rattle.rmodel.specs.Sweep.{remains, swept_status, swept, IsLeft}
 use Rattle.rmodel.proofs.telling.ToldSteps.{ToldTo, told_begins, in_first, as_at_first, told_on, all_last, ends_made, told_statuses, told_grants}
 use Rattle.rmodel.proofs.settling.Standing.{SameStanding}
-use Rattle.rmodel.proofs.stepping.Sweeping.{fold_zip, swept_at, as_long}
+use Rattle.rmodel.proofs.ListFacts.{behind}
+use Rattle.rmodel.proofs.settling.Settlement.{ReadsOnly}
+use Rattle.rmodel.proofs.stepping.Barred.{between}
+use Rattle.rmodel.proofs.stepping.Sweeping.{fold_zip, swept_at, reads_only, as_long}
 
 -- the pass over the claims `first` has come to the place i: those before are settled, and this is seen of them and was told
 pub record SweptTo (first xs : List Claimed) (i : ℕ) (seen : Seen) (told : ChangeLists) : Type 0 where
@@ -49,6 +53,11 @@ module _ (first : List Claimed) (left : Left) (is_left : IsLeft first left) (xs 
   made =
       ap (swept left seen xs) (as_at_first first t long xs i told d h to)
       ∙ swept_at first left is_left i d xs seen inside (sym (take-append-drop i xs) ∙ (λ k. to.done k ++ to.rest k)) so_far.is_seen
+
+  pub made_reads_only : ReadsOnly (swept left seen xs (get_or xs i d))
+  made_reads_only =
+      subst ReadsOnly (sym made)
+      (behind ReadsOnly (take i t) (get_or t i d ∷ drop (i + 1) t) (subst (λ (l : List Claimed). AllByRecursion ReadsOnly l) (sym (between t i d in_t)) (reads_only first left is_left))).0
 
   pub goes_on : let x = get_or xs i d in let y = swept left seen xs x in SweptTo first (set xs i y) (i + 1) (with_seen seen y) (with_change told x y)
   unfolding seen_of

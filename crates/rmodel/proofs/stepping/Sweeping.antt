@@ -269,7 +269,7 @@ module _ (xs : List Claimed) (left : Left) (is_left : IsLeft xs left) where
   well : AreWellFormed t
   well = same_claims_well_formed xs t is_left.well_formed (same_claims xs t settles)
 
-  reads_only : AllByRecursion ReadsOnly t
+  pub reads_only : AllByRecursion ReadsOnly t
   reads_only = all_from ReadsOnly t (λ x there r. (all_at (λ x. IsClaim x.claim) t x well.claims there).read_only r)
 
   -- what is known of a claim before

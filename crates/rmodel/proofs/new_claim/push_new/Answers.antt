@@ -1,7 +1,12 @@
-use Rattle.std.proofs.Common.{sym, ap, ◌∙◌}
+use Rattle.std.proofs.Common.{sym, ap, subst, ◌∙◌}
 use Rattle.rmodel.specs.NewClaim.{with_seen, seen_of}
+use Rattle.rmodel.proofs.settling.Settlement.{ReadsOnly}
+use Rattle.rmodel.proofs.stepping.SoFar.{read_only_pushed}
 use Rattle.rmodel.proofs.stepping.SweepSteps.{seen_more}
 use Rattle.rmodel.proofs.new_claim.push_new.Goals as goal
+
+pub with_seen-requires : goal.with_seen-requires
+with_seen-requires c = subst ReadsOnly (sym c.new_claim-now.ensures) (read_only_pushed c.deref.result.now c.args.x.now c.requires.read_only)
 
 pub returns-clause-seen : goal.returns-clause-seen
 returns-clause-seen c =

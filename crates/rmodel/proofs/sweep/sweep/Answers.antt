@@ -6,13 +6,25 @@ use Rattle.rmodel.specs.declared.claimed.Claimed.{Claimed}
 use Rattle.rmodel.specs.declared.seen.Seen.{Seen}
 use Rattle.rmodel.specs.NewClaim.{with_seen}
 use Rattle.rmodel.specs.Sweep.{swept}
-use Rattle.rmodel.proofs.stepping.SweepSteps.{SweptTo, begins, goes_on, ends_settled, ends_seen, ends_statuses, ends_grants}
+use Rattle.rmodel.proofs.settling.Settlement.{ReadsOnly}
+use Rattle.rmodel.proofs.stepping.SweepSteps.{SweptTo, begins, goes_on, made_reads_only, ends_settled, ends_seen, ends_statuses, ends_grants}
 use Rattle.rmodel.proofs.sweep.sweep.Goals as goal
 
 pub loop-i-init : goal.loop-i-init
 loop-i-init c =
     subst (λ (s : Seen). SweptTo c.args.claims.now c.args.claims.now 0 s c.args.changes.now) (sym c.no_seen-seen.ensures)
     (begins c.args.claims.now c.args.changes.now c.requires.none)
+
+pub with_seen-seen-requires : goal.with_seen-seen-requires
+with_seen-seen-requires c =
+    let xs = c.loop-i.claims in
+    let i = c.loop-i.i in
+    let d = c.index-claims-i.result in
+    let left = c.args.left.now in
+    let y = swept left c.loop-i.seen xs (get_or xs i d) in
+    subst ReadsOnly
+    (sym (ap (λ (zs : List Claimed). get_or zs i d) (c.sweep_at.ensures.claims d) ∙ get_or-set_same xs i y d (omega arith)))
+    (made_reads_only c.args.claims.now left c.requires.left xs i c.loop-i.seen c.loop-i.changes d (omega arith) c.loop-i.invariant)
 
 pub loop-i-preserved : goal.loop-i-preserved
 loop-i-preserved c =
