@@ -1,5 +1,5 @@
 -- The pass over the claims that a removal leaves, claim by claim: what holds of the list when the pass has come to a place.
-use Rattle.std.proofs.Common.{◌≡◌, ℕ, ◌+◌, ◌<◌, ◌≤◌, true, cond, List, [], ◌∷◌, ◌++◌, length, get_or, take, refl, sym, ap, ◌∙◌, arith}
+use Rattle.std.proofs.Common.{◌≡◌, ℕ, ◌+◌, ◌<◌, ◌≤◌, true, cond, List, [], ◌∷◌, ◌++◌, length, get_or, take, drop, refl, sym, ap, subst, ◌∙◌, arith}
 use Rattle.std.proofs.Math.ListN.{set}
 use Rattle.std.proofs.lemmas.List.{take_more, take-append-drop}
 use Rattle.std.proofs.lemmas.List.Sums.{fold-append}
@@ -48,6 +48,9 @@ module _ (first : List Claimed) (left : Left) (is_left : IsLeft first left) (xs 
   inside : i < length first
   inside = in_first first t long xs i told d h to
 
+  in_t : i < length t
+  in_t = let same = long in let there = inside in omega arith
+
   -- what the pass makes of the claim at the place is what it settles to
   pub made : swept left seen xs (get_or xs i d) ≡ get_or t i d
   made =
@@ -63,8 +66,7 @@ module _ (first : List Claimed) (left : Left) (is_left : IsLeft first left) (xs 
   unfolding seen_of
   goes_on =
       let y = swept left seen xs (get_or xs i d) in
-      let inside_t : i < length t = (let same = long in let there = inside in omega arith) in
-      let front_t : take (i + 1) t ≡ take i t ++ y ∷ [] = take_more t i d inside_t ∙ ap (λ z. take i t ++ z ∷ []) (sym made) in
+      let front_t : take (i + 1) t ≡ take i t ++ y ∷ [] = take_more t i d in_t ∙ ap (λ z. take i t ++ z ∷ []) (sym made) in
       record {
         told_to = told_on first t long xs i told d h to y made;
         is_seen = ap (λ (s : Seen). with_seen s y) so_far.is_seen ∙ sym (ap seen_of front_t ∙ fold-append with_seen no_seen (take i t) (y ∷ []));
