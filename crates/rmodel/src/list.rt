@@ -109,23 +109,14 @@ pub(crate) fn is_part_of(claims: &[Claimed], seat: u8, part: ResourceSet) -> boo
     })
 }
 
-/// The claim, which asks for the part if it is of the seat.
-fn asking(seat: u8, part: ResourceSet, x: &Claimed) -> Claimed
-    ensures { result ≡ asking seat part x.now }
-{
-    if x.claim.seat == seat {
-        Claimed { asked: part, ..*x }
-    } else {
-        *x
-    }
-}
-
 /// Lets the claims of the seat ask for a part.
 fn ask_each(claims: &mut [Claimed], seat: u8, part: ResourceSet)
     ensures { claims.new ≡ map (asking seat part) claims.old }
 {
     for x in claims.iter_mut() {
-        *x = asking(seat, part, x);
+        if x.claim.seat == seat {
+            x.asked = part;
+        }
     }
 }
 
