@@ -39,7 +39,7 @@ fn only_where(holds: bool, set: ResourceSet) -> ResourceSet
 
 /// These resources, and the set where this holds.
 #[inline]
-pub(crate) fn and_where(all: ResourceSet, holds: bool, set: ResourceSet) -> ResourceSet
+fn and_where(all: ResourceSet, holds: bool, set: ResourceSet) -> ResourceSet
     ensures { result ≡ if holds then union all set else all }
 {
     all.union(only_where(holds, set))

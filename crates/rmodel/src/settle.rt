@@ -38,14 +38,14 @@ fn settle_once(
     changes.clear();
     if some_asks(claims, asked) {
         copy_into(before, claims);
-        let seen = sweep(claims, left, changes);
+        let seen = sweep(claims, *left, changes);
         if some_gets(claims) {
             give(claims, changes);
             tell_changes(before, claims, changes);
         }
         seen
     } else {
-        sweep(claims, left, changes)
+        sweep(claims, *left, changes)
     }
 }
 

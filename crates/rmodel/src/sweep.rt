@@ -194,8 +194,8 @@ fn sweep_at(claims: &mut [Claimed], i: usize, left: &Left, seen: &Seen, changes:
 }
 
 /// Settles the claims that a removal leaves, tells what changes, and answers what is seen of them then.
-pub(crate) fn sweep(claims: &mut [Claimed], left: &Left, changes: &mut Changes) -> Seen
-    requires left { IsLeft claims.old left.now }
+pub(crate) fn sweep(claims: &mut [Claimed], left: Left, changes: &mut Changes) -> Seen
+    requires left { IsLeft claims.old left }
     requires room { length claims.old ≤ GRANT_ROOM }
     requires none { changes.old ≡ no_changes }
     ensures claims { claims.new ≡ settled claims.old }
@@ -205,7 +205,7 @@ pub(crate) fn sweep(claims: &mut [Claimed], left: &Left, changes: &mut Changes) 
 {
     let mut seen = no_seen();
     for i in 0..claims.len() {
-        sweep_at(claims, i, left, &seen, changes);
+        sweep_at(claims, i, &left, &seen, changes);
         seen = with_seen(seen, &claims[i]);
     }
     seen

@@ -25,8 +25,10 @@ loop-i-preserved c =
     let made : with_asked ys (get_or ys i d) ≡ get_or (given xs) i d
     = ap (with_asked ys) (as_at_first xs (given xs) many ys i told d in_ys so_far) ∙ give_step xs ys i d within so_far.done so_far.rest in
     let y = with_asked ys (get_or ys i d) in
+    let claims : c.give_at.new.claims ≡ set ys i y = c.give_at.ensures.claims d in
+    let changes : c.give_at.new.changes ≡ with_change told (get_or ys i d) y = c.give_at.ensures.changes d in
     subst (λ (p : List Claimed × ChangeLists). ToldTo xs (given xs) p.0 (i + 1) p.1) {x = (set ys i y, with_change told (get_or ys i d) y)}
-    (λ k. (sym (c.give_at.ensures.claims d) k, sym (c.give_at.ensures.changes d) k))
+    (λ k. (sym claims k, sym changes k))
     (told_on xs (given xs) many ys i told d in_ys so_far y made)
 
 pub returns-clause-claims : goal.returns-clause-claims

@@ -20,7 +20,7 @@ with_seen-seen-requires c =
     let xs = c.loop-i.claims in
     let i = c.loop-i.i in
     let d = c.index-claims-i.result in
-    let left = c.args.left.now in
+    let left = c.args.left in
     let y = swept left c.loop-i.seen xs (get_or xs i d) in
     subst ReadsOnly
     (sym (ap (λ (zs : List Claimed). get_or zs i d) (c.sweep_at.ensures.claims d) ∙ get_or-set_same xs i y d (omega arith)))
@@ -31,7 +31,7 @@ loop-i-preserved c =
     let xs = c.loop-i.claims in
     let i = c.loop-i.i in
     let d = c.index-claims-i.result in
-    let left = c.args.left.now in
+    let left = c.args.left in
     let y = swept left c.loop-i.seen xs (get_or xs i d) in
     let claims : c.sweep_at.new.claims ≡ set xs i y = c.sweep_at.ensures.claims d in
     let seen : c.with_seen-seen.result ≡ with_seen c.loop-i.seen y
@@ -41,13 +41,13 @@ loop-i-preserved c =
     (goes_on c.args.claims.now left c.requires.left xs i c.loop-i.seen c.loop-i.changes d (omega arith) c.loop-i.invariant)
 
 pub returns-clause-claims : goal.returns-clause-claims
-returns-clause-claims c = ends_settled c.args.claims.now c.args.left.now c.requires.left c.loop-i.claims c.loop-i.i c.loop-i.seen c.loop-i.changes (omega arith) c.loop-i.invariant
+returns-clause-claims c = ends_settled c.args.claims.now c.args.left c.requires.left c.loop-i.claims c.loop-i.i c.loop-i.seen c.loop-i.changes (omega arith) c.loop-i.invariant
 
 pub returns-clause-seen : goal.returns-clause-seen
-returns-clause-seen c = ends_seen c.args.claims.now c.args.left.now c.requires.left c.loop-i.claims c.loop-i.i c.loop-i.seen c.loop-i.changes (omega arith) c.loop-i.invariant
+returns-clause-seen c = ends_seen c.args.claims.now c.args.left c.requires.left c.loop-i.claims c.loop-i.i c.loop-i.seen c.loop-i.changes (omega arith) c.loop-i.invariant
 
 pub returns-clause-statuses : goal.returns-clause-statuses
-returns-clause-statuses c = ends_statuses c.args.claims.now c.args.left.now c.requires.left c.loop-i.claims c.loop-i.i c.loop-i.seen c.loop-i.changes (omega arith) c.loop-i.invariant
+returns-clause-statuses c = ends_statuses c.args.claims.now c.args.left c.requires.left c.loop-i.claims c.loop-i.i c.loop-i.seen c.loop-i.changes (omega arith) c.loop-i.invariant
 
 pub returns-clause-grants : goal.returns-clause-grants
-returns-clause-grants c = ends_grants c.args.claims.now c.args.left.now c.requires.left c.loop-i.claims c.loop-i.i c.loop-i.seen c.loop-i.changes (omega arith) c.loop-i.invariant
+returns-clause-grants c = ends_grants c.args.claims.now c.args.left c.requires.left c.loop-i.claims c.loop-i.i c.loop-i.seen c.loop-i.changes (omega arith) c.loop-i.invariant
