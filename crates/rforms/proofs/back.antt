@@ -1,0 +1,6 @@
+pub mod Runs
+pub mod FineLines
+pub mod HeadRuns
+pub mod EntryRuns
+pub mod EndRuns
+pub mod Rows

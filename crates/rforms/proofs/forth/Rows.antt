@@ -1,0 +1,101 @@
+-- Records without a fault spell what they have said together.
+use Rattle.std.proofs.Common.{◌≡◌, suc, ◌≤◌, ◌<◌, ◌^◌, Bool, List, [], ◌∷◌, length, fold, Some, None, refl, sym, ap, subst, ◌∙◌, arith}
+use Rattle.std.specs.List.{AllZip}
+use Rattle.std.proofs.lemmas.Bool.{eqb-true}
+use Rattle.rforms.specs.Records.{Row}
+use Rattle.rforms.specs.Words.{fields_of}
+use Rattle.rforms.specs.Lines.{Line, meaning}
+use Rattle.rforms.specs.Reports.{Spells}
+use Rattle.rforms.specs.SoFar.{SoFar, nothing_yet, names_in, head_in, entries_in, lock_in, told_in, with_line, with_meaning, with_row}
+use Rattle.rforms.specs.Walks.{AllClean}
+use Rattle.rforms.specs.Faults.{code_of, is_ended, first_fault, read_all}
+use Rattle.rforms.specs.declared.fault.Code.TheVariants.{NoEnd}
+use Rattle.rforms.proofs.facts.Walks.{no_fault}
+use Rattle.rforms.proofs.facts.Said.{says, clean, IsClean}
+use Rattle.rforms.proofs.facts.ReadGood.{read_good}
+use Rattle.rforms.proofs.facts.Coming.{MayCome, may_come}
+use Rattle.rforms.proofs.lists.Histories.{lock-resources, lock-tasks}
+use Rattle.rforms.proofs.forth.Stands.{IsNext, AllNext}
+use Rattle.rforms.proofs.forth.Lines.{AreLines, lines_spell}
+use Rattle.rforms.proofs.forth.Names.{means_same, own_place, resources_kept, tasks_kept, resources_same, tasks_same}
+
+-- each record says the line at its place, by the names that were declared before it
+abbrev pub SayInTurn : Bool → SoFar → List Row → List Line → Type 0
+SayInTurn whole s [] [] = Unit {0}
+SayInTurn whole s [] (line ∷ lines) = ⊥
+SayInTurn whole s (row ∷ rows) [] = ⊥
+SayInTurn whole s (row ∷ rows) (line ∷ lines) = (meaning whole (names_in s) row ≡ Some line) × SayInTurn whole (with_line whole s line) rows lines
+
+-- what records without a fault have said
+pub record HaveSaid (whole : Bool) (s : SoFar) (rows : List Row) : Type 0 where
+  pub lines : List Line
+  pub said : SayInTurn whole s rows lines
+  pub next : AllNext whole s lines
+  pub leads : fold (with_row whole) s rows ≡ fold (with_line whole) s lines
+  pub many : length lines ≡ length rows
+
+row_leads : (whole : Bool) (s : SoFar) (row : Row) (line : Line) → meaning whole (names_in s) row ≡ Some line → with_row whole s row ≡ with_line whole s line
+unfolding with_row
+row_leads whole s row line means = ap (with_meaning whole s) means
+
+-- the line of a record without a fault may come next
+line_next : (whole : Bool) (s : SoFar) (row : Row) (c : IsClean whole s row) → IsNext whole s c.line
+line_next whole s row c =
+    let told = says whole (names_in s) row c.line c.means in
+    record {
+      room = c.room;
+      fine = c.fine;
+      comes = λ stamps. subst (λ (line : Line). MayCome (lock_in s) line) told.tells
+          (may_come (lock_in s) (names_in s) (lock-resources (head_in s) (entries_in s)) (lock-tasks (head_in s) (entries_in s)) stamps told.of told.values
+          (read_good (names_in s) (fields_of told.of) row told.values told.reads));
+    }
+
+rows_said : (whole : Bool) (s : SoFar) (rows : List Row) → AllClean (code_of whole) (with_row whole) s rows → HaveSaid whole s rows
+rows_said whole s [] all = record { lines = []; said = tt; next = tt; leads = refl; many = refl }
+rows_said whole s (row ∷ rows) all =
+    let c = clean whole s row all.0 in
+    let leads = row_leads whole s row c.line c.means in
+    let rest = rows_said whole (with_line whole s c.line) rows (subst (λ (t : SoFar). AllClean (code_of whole) (with_row whole) t rows) leads all.1) in
+    record {
+      lines = c.line ∷ rest.lines;
+      said = (c.means, rest.said);
+      next = (line_next whole s row c, rest.next);
+      leads = ap (λ (t : SoFar). fold (with_row whole) t rows) leads ∙ rest.leads;
+      many = ap (λ n. suc n) rest.many;
+    }
+
+-- and by all names in the end
+said_by_all : (whole : Bool) (s : SoFar) (rows : List Row) (lines : List Line) → SayInTurn whole s rows lines → AllNext whole s lines
+    → AllZip (λ row line. meaning whole (names_in (fold (with_line whole) s lines)) row ≡ Some line) rows lines
+said_by_all whole s [] [] said next = tt
+said_by_all whole s [] (line ∷ lines) said next = absurd said
+said_by_all whole s (row ∷ rows) [] said next = absurd said
+said_by_all whole s (row ∷ rows) (line ∷ lines) said next =
+    let then = with_line whole s line in
+    let place = own_place whole s line in
+    let all = fold (with_line whole) then lines in (
+      means_same whole (names_in s) (names_in all) row line
+          (λ far. sym (resources_kept whole then lines (subst (λ n. 3 ≤ n) (sym place) far) next.1 ∙ resources_same whole s line far))
+          (λ far. sym (tasks_kept whole then lines (subst (λ n. 5 ≤ n) (sym place) far) next.1 ∙ tasks_same whole s line far))
+          said.0,
+      said_by_all whole then rows lines said.1 next.1,
+    )
+
+spell_of : (whole : Bool) (rows : List Row) (said : HaveSaid whole nothing_yet rows) → AreLines whole (fold (with_line whole) nothing_yet said.lines) said.lines
+    → Spells whole rows (told_in (fold (with_line whole) nothing_yet said.lines))
+spell_of whole rows said are =
+    let s = fold (with_line whole) nothing_yet said.lines in
+    record {
+      told = s.cap;
+      said = subst (λ (lines : List Line). AllZip (λ row line. meaning whole (names_in s) row ≡ Some line) rows lines) are.are (said_by_all whole nothing_yet rows said.lines said.said said.next);
+      head = are.head;
+      lawful = are.lawful;
+    }
+
+pub spells : (whole : Bool) (rows : List Row) → length rows < 2 ^ 63 → first_fault whole rows ≡ None → Spells whole rows (told_in (read_all whole rows))
+spells whole rows short h =
+    let parts = no_fault (code_of whole) (with_row whole) is_ended NoEnd 1 nothing_yet rows h in
+    let said = rows_said whole nothing_yet rows parts.0 in
+    let nine : (fold (with_line whole) nothing_yet said.lines).last ≡ 9 = ap (λ (s : SoFar). s.last) (sym said.leads) ∙ eqb-true (read_all whole rows).last 9 parts.1 in
+    let are = lines_spell whole said.lines (omega (arith, said.many, short)) said.next nine in
+    subst (λ (s : SoFar). Spells whole rows (told_in s)) (sym said.leads) (spell_of whole rows said are)

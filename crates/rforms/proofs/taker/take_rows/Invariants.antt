@@ -1,0 +1,9 @@
+use Rattle.std.proofs.Common.{List, ℕ}
+use Rattle.rforms.specs.Records.{Row}
+use Rattle.rforms.specs.Takers.{IsFresh}
+use Rattle.rforms.proofs.texts.Place.{IsAt}
+use Rattle.rforms.proofs.taker.take_rows.Given as goal
+
+abbrev pub invariant-loop-line : goal.invariant-loop-line
+invariant-loop-line g l =
+    (bytes : List ℕ) → IsFresh bytes l.fn.reader → (before : List Row) × (left : List ℕ) × IsAt g.T.Records.whole g.T.Records.knows bytes l.reader l.taker l.line before left

@@ -1,0 +1,5 @@
+pub mod Plain
+pub mod Rows
+pub mod Records
+pub mod Place
+pub mod OneReport

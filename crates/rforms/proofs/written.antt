@@ -1,0 +1,6 @@
+pub mod Back
+pub mod Limits
+pub mod Reaching
+pub mod GoodLines
+pub mod GoodEntries
+pub mod Told

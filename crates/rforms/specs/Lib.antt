@@ -1,0 +1,16 @@
+pub mod Records
+pub mod Numbers
+pub mod SetFields
+pub mod Fields
+pub mod Heads
+pub mod Words
+pub mod Lines
+pub mod Reports
+pub mod Events
+pub mod Walks
+pub mod SoFar
+pub mod Faults
+pub mod Written
+pub mod Texts
+pub mod Takers
+pub mod Decided
