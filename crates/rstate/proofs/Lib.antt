@@ -1,0 +1,3 @@
+pub mod histories
+pub mod homes
+pub mod keeping

@@ -1,0 +1,143 @@
+// What is lent to a seat, outside of the state.
+ghost use Rattle.std.specs.Prelude.{◌≡◌, ◌<◌, IfOk, IsSome, Some, [], length, option_copied, option_map};
+ghost use Rattle.rstate.specs.Lent.{at_place, index_of, replaced, lent_value};
+
+use crate::Shares;
+use std::alloc::{AllocError, Global};
+use std::marker::Model;
+use std::sync::Arc;
+
+/// A share of the value of a resource.
+#[derive(Drop)]
+pub struct Loan<T> {
+    pub(crate) place: u8,
+    pub(crate) share: Arc<T, Global>,
+}
+
+impl<T> Model for Loan<T> {
+    ghost use Rattle.std.specs.Prelude.{ℕ};
+    ghost use Rattle.std.specs.Arc.{arc_value};
+    ghost use Rattle.std.specs.Coded.{coded_ℕ, coded×};
+
+    ghost Value = { ℕ × T };
+
+    ghost coded = { coded× coded_ℕ T.code };
+
+    ghost view = { λ a. (a.place, arc_value a.share) };
+}
+
+/// All shares of the value of a resource: there is one at least.
+#[derive(Drop)]
+pub struct Whole<T> {
+    pub(crate) place: u8,
+    pub(crate) shares: Shares<T>,
+}
+
+impl<T> Model for Whole<T> {
+    ghost use Rattle.std.specs.Prelude.{ℕ, ◌<◌};
+    ghost use Rattle.std.specs.Coded.{coded_ℕ, coded×};
+    ghost use Rattle.rstate.specs.Shares.{ShareFields, share_code};
+
+    ghost Value = { ℕ × ShareFields T };
+
+    ghost coded = { coded× coded_ℕ (share_code T.code) };
+
+    ghost view = { λ a. (a.place, a.shares) };
+
+    ghost invariant = { λ a. 0 < a.shares.count };
+}
+
+/// What is lent to a seat: of each resource that it has taken for reading one share, and of each that it has taken for writing
+/// all shares. They go home by a finish or a rise.
+#[derive(Drop)]
+pub struct Lent<T> {
+    pub(crate) reads: Vec<Loan<T>>,
+    pub(crate) writes: Vec<Whole<T>>,
+}
+
+impl<T> Model for Lent<T> {
+    ghost use Rattle.std.specs.Prelude.{vec_capacity};
+    ghost use Rattle.rstate.specs.Lent.{LentFields, lent_code};
+
+    ghost Value = { LentFields T };
+
+    ghost coded = { lent_code T.code };
+
+    ghost view = { λ a. record { reads = a.reads.items; writes = a.writes.items; reads_room = vec_capacity a.reads; writes_room = vec_capacity a.writes } };
+}
+
+impl<T: Drop> Lent<T> {
+    /// Nothing is lent, and there is room for `n` resources of each kind.
+    ///
+    /// # Errors
+    ///
+    /// Want of memory.
+    pub fn new(alloc: Global, n: usize) -> Result<Lent<T>, AllocError>
+        ensures { IfOk result (λ lent. lent ≡ record { reads = []; writes = []; reads_room = n; writes_room = n }) }
+    {
+        let reads = Vec::with_capacity(alloc, n)?;
+        let writes = Vec::with_capacity(alloc, n)?;
+        Ok(Lent { reads, writes })
+    }
+
+    /// Puts other shares in the place of those of a resource of which all are lent. No memory is taken.
+    pub fn replace(&mut self, place: u8, shares: Shares<T>)
+        requires lent { IsSome (at_place self.old.writes place) }
+        requires some { 0 < shares.count }
+        ensures { self.new ≡ record self.old { writes = replaced self.old.writes place shares } }
+    {
+        let at = find_whole(&self.writes, place);
+        self.writes[at] = Whole { place, shares };
+    }
+}
+
+impl<T> Lent<T> {
+    /// Lends the value of a resource that is lent. No memory is taken.
+    pub fn get(&self, place: u8) -> &T
+        requires { IsSome (lent_value self.now place) }
+        ensures { lent_value self.now place ≡ Some result.now }
+    {
+        match share_at(&self.reads, place) {
+            Some(value) => value,
+            None => whole_at(&self.writes, place).unwrap(),
+        }
+    }
+}
+
+// The value of the resource, if a share of it is lent.
+fn share_at<T>(loans: &[Loan<T>], place: u8) -> Option<&T>
+    ensures { option_copied result ≡ at_place loans.now place }
+{
+    for loan in loans {
+        if loan.place == place {
+            return Some(&loan.share);
+        }
+    }
+    None
+}
+
+// The value of the resource, if all shares of it are lent.
+fn whole_at<T>(wholes: &[Whole<T>], place: u8) -> Option<&T>
+    ensures { option_copied result ≡ option_map (λ shares. shares.value) (at_place wholes.now place) }
+{
+    for whole in wholes {
+        if whole.place == place {
+            return Some(whole.shares.get());
+        }
+    }
+    None
+}
+
+// Where all shares of the resource stand.
+fn find_whole<T>(wholes: &[Whole<T>], place: u8) -> usize
+    requires { IsSome (at_place wholes.now place) }
+    ensures index { result ≡ index_of wholes.now place }
+    ensures within { result < length wholes.now }
+{
+    for (i, whole) in wholes.iter().enumerate() {
+        if whole.place == place {
+            return i;
+        }
+    }
+    unreachable!()
+}

@@ -1,0 +1,112 @@
+// Shares of one value, made beforehand, so that readers can be lent it without memory.
+ghost use Rattle.std.specs.Prelude.{◌≡◌, ◌<◌, IfOk};
+ghost use Rattle.std.specs.Arc.{arc_value};
+ghost use Rattle.rstate.specs.Shares.{whole, less, more, absent};
+
+use rvalue::Editable;
+use std::alloc::{AllocError, Global};
+use std::marker::Model;
+use std::mem;
+use std::snapshot::Snapshot;
+use std::sync::Arc;
+
+/// Shares of one value, of which some may be out with readers, or all with a writer.
+///
+/// A contract sees how many shares are there (`count`), of how many that were made (`full`), and the `value`, which stays
+/// known where no share is there.
+#[derive(Drop)]
+pub struct Shares<T> {
+    list: Vec<Arc<T, Global>>,
+    full: u16,
+    value: Snapshot<T>,
+}
+
+impl<T> Model for Shares<T> {
+    ghost use Rattle.std.specs.Prelude.{◌≡◌, ◌≤◌, All, length, vec_capacity};
+    ghost use Rattle.std.specs.Arc.{arc_value};
+    ghost use Rattle.rstate.specs.Shares.{ShareFields, share_code};
+
+    ghost Value = { ShareFields T };
+
+    ghost coded = { share_code T.code };
+
+    ghost view = { λ a. record { count = length a.list.items; full = a.full; value = a.value.value } };
+
+    ghost invariant = { λ a. All (λ share. arc_value share ≡ a.value.value) a.list.items × (a.full ≤ vec_capacity a.list) };
+}
+
+impl<T> Shares<T> {
+    /// Takes one share. No memory is taken.
+    pub(crate) fn take_read(&mut self) -> Arc<T, Global>
+        requires { 0 < self.old.count }
+        ensures value { arc_value result ≡ self.old.value }
+        ensures rest { self.new ≡ less self.old }
+    {
+        self.list.pop().unwrap()
+    }
+
+    /// Puts back a share of the value, for which there is room where one is out. No memory is taken.
+    pub(crate) fn give_read(&mut self, share: Arc<T, Global>)
+        requires out { self.old.count < self.old.full }
+        requires same { arc_value share ≡ self.old.value }
+        ensures { self.new ≡ more self.old }
+    {
+        self.list.push_reserved(share);
+    }
+
+    /// Takes all shares away; what is left tells the value still. No memory is taken.
+    pub(crate) fn take_all(&mut self, alloc: Global) -> Shares<T>
+        requires { 0 < self.old.count }
+        ensures taken { result ≡ self.old }
+        ensures left { self.new ≡ absent self.old }
+    {
+        let value = Snapshot::of(self.get());
+        let left = Shares {
+            list: Vec::new(alloc),
+            full: 0,
+            value,
+        };
+        mem::replace(self, left)
+    }
+
+    /// Lends the value, of which a share is there.
+    pub fn get(&self) -> &T
+        requires { 0 < self.now.count }
+        ensures { result.now ≡ self.now.value }
+    {
+        &self.list[0]
+    }
+}
+
+impl<T: Drop> Shares<T> {
+    /// One share, and the others are let go. No memory is taken.
+    pub(crate) fn into_one(self) -> Arc<T, Global>
+        requires { 0 < self.count }
+        ensures { arc_value result ≡ self.value }
+    {
+        let mut shares = self;
+        shares.take_read()
+    }
+}
+
+impl<T: Editable> Shares<T> {
+    /// Makes `n` shares of a copy of the value.
+    ///
+    /// # Errors
+    ///
+    /// Want of memory.
+    pub fn of(alloc: Global, n: u16, value: &T) -> Result<Shares<T>, AllocError>
+        ensures { IfOk result (λ shares. shares ≡ whole n value.now) }
+    {
+        let first = Arc::new(alloc, value.copy(alloc)?)?;
+        let mut list = Vec::with_capacity(alloc, n as usize)?;
+        for _ in 0..n {
+            list.push_reserved(Arc::try_clone(&first)?);
+        }
+        Ok(Shares {
+            list,
+            full: n,
+            value: Snapshot::of(value),
+        })
+    }
+}

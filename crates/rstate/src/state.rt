@@ -1,0 +1,246 @@
+// The locked state: a machine, its history, and the home values.
+ghost use Rattle.std.specs.Prelude.{◌≡◌, ℕ, ◌-◌, ◌<◌, ◌≤◌, ◌++◌, ◌∷◌, [], map, IfOk, OnOk, OnErr, false, length, replicate, slice_set, Some, slice_get};
+ghost use Rattle.std.specs.Arc.{arc_value};
+ghost use Rattle.rclaim.specs.Events.{IsNormalEvent};
+ghost use Rattle.rclaim.specs.declared.event.Event.TheVariants.{Issue, Finish, Rise, Ask};
+ghost use Rattle.rmodel.specs.Holds.{nothing, holds_of, has_request};
+ghost use Rattle.rmodel.specs.StateLaws.{gives_back};
+ghost use Rattle.rmodel.specs.declared.granted.Granted.{Granted};
+ghost use Rattle.rmodel.specs.Steps.{Fits, Accepts, next};
+ghost use Rattle.rstate.specs.Histories.{IsLawfulFrom, MayFollow};
+ghost use Rattle.rstate.specs.Contents.{lock_of, value_now, is_ready, AreTaken, MayIssue, IsLentNow, ComesHome, GivesBackAll};
+ghost use Rattle.rstate.specs.Moves.{HasRoomFor};
+
+use crate::keep::{keep, nothing};
+use crate::moves::{give_reads, give_writes, homes_of, one_of_each, take_reads, take_writes};
+use crate::{Lent, Opening, Shares};
+use rclaim::{Event, Request};
+use rmodel::{Granted, Machine};
+use rset::ResourceSet;
+use rvalue::{Act, Editable, Entry, History};
+use std::alloc::{AllocError, Global};
+use std::marker::Model;
+use std::snapshot::Snapshot;
+use std::sync::Arc;
+
+/// A machine, the history of what was done at it, and the values of the resources, of which some are lent to seats.
+///
+/// A contract sees how the lock began (`beginning`), the `entries` of the history, and what each seat has `taken`. The entries
+/// tell the state of the machine, and what each value has become.
+#[derive(Drop)]
+pub struct State<T: Editable, M: Machine> {
+    machine: M,
+    opening: Opening<T>,
+    history: History<T::Edit>,
+    taken: Vec<Granted>,
+    homes: Vec<Shares<T>>,
+    // no share, and room for one of each value
+    closing: Vec<Arc<T, Global>>,
+    alloc: Global,
+}
+
+impl<T: Editable, M: Machine> Model for State<T, M> {
+    ghost use Rattle.std.specs.Prelude.{length, vec_capacity};
+    ghost use Rattle.rstate.specs.Contents.{Contents, contents_code, IsState};
+
+    ghost Value = { Contents T T.Edit };
+
+    ghost coded = { contents_code T.code T.Edit.code };
+
+    ghost view = { λ a. record { beginning = a.opening; entries = a.history.entries; taken = a.taken.items } };
+
+    ghost invariant = { λ a. IsState T.after T.taken T.number (M.state a.machine) a.history.spare (record { beginning = a.opening; entries = a.history.entries; taken = a.taken.items }) a.homes.items (length a.closing.items) (vec_capacity a.closing) };
+}
+
+impl<T: Editable, M: Machine> State<T, M> {
+    /// A lock that begins with this machine, at which nothing was done, and with these values. Nobody has taken anything.
+    ///
+    /// # Errors
+    ///
+    /// Want of memory.
+    pub fn new(alloc: Global, machine: M, values: Vec<T>) -> Result<State<T, M>, AllocError>
+        requires claims { (M.state machine).claims ≡ [] }
+        requires issued { (M.state machine).issued ≡ 0 }
+        requires values { length values.items ≡ (M.state machine).groups.q }
+        ensures beginning { IfOk result (λ s. s.beginning ≡ record { groups = (M.state machine).groups; seats = (M.state machine).seats; cap = (M.state machine).cap; values = values.items }) }
+        ensures entries { IfOk result (λ s. s.entries ≡ []) }
+        ensures taken { IfOk result (λ s. s.taken ≡ replicate (M.state machine).seats nothing) }
+    {
+        let seats = machine.seats();
+        let opening = Opening {
+            groups: Snapshot::of(machine.groups()),
+            seats,
+            cap: machine.cap(),
+            values: Snapshot::of(&values),
+        };
+        let taken = vec![in alloc; nothing(); usize::from(seats)]?;
+        let homes = homes_of(alloc, u16::from(seats) + 1, &values)?;
+        let closing = Vec::with_capacity(alloc, homes.len())?;
+        Ok(State {
+            machine,
+            opening,
+            history: History::new(alloc),
+            taken,
+            homes,
+            closing,
+            alloc,
+        })
+    }
+
+    /// Lends the machine, which is in the state that the entries tell. What each seat has taken lies within what it holds there.
+    pub fn machine(&self) -> &M
+        ensures state { M.state result.now ≡ lock_of self.now }
+        ensures taken { AreTaken (lock_of self.now).claims self.now.beginning.seats self.now.taken }
+    {
+        &self.machine
+    }
+
+    /// Lends the history, which is lawful from the beginning. The beginning has a value for each resource.
+    pub fn history(&self) -> &History<T::Edit>
+        ensures entries { result.now.entries ≡ self.now.entries }
+        ensures lawful { IsLawfulFrom T.after T.taken T.number self.now.beginning self.now.entries }
+        ensures values { length self.now.beginning.values ≡ self.now.beginning.groups.q }
+    {
+        &self.history
+    }
+
+    /// Whether nothing of the seat is pending: it has no request, or that holds something and no ask of it is pending.
+    pub fn ready(&self, seat: u8) -> bool
+        ensures { result ≡ is_ready (lock_of self.now) seat }
+    {
+        !self.machine.pending(seat)
+    }
+
+    /// A seat issues a request. The history gets room for all that follows of it but asks.
+    ///
+    /// # Errors
+    ///
+    /// Want of memory. Nothing changes then.
+    pub fn issue(&mut self, seat: u8, request: Request) -> Result<(), AllocError>
+        requires { MayIssue (lock_of self.old) seat request }
+        ensures beginning { self.new.beginning ≡ self.old.beginning }
+        ensures taken { self.new.taken ≡ self.old.taken }
+        ensures ok { OnOk result (self.new.entries ≡ self.old.entries ++ record { event = Issue seat request; acts = [] } ∷ []) }
+        ensures err { OnErr result (self.new ≡ self.old) }
+    {
+        if self.machine.issued() >= MOST_ISSUES {
+            return Err(AllocError);
+        }
+        self.add(Event::Issue { seat, request })
+    }
+
+    /// A nested request asks for a further part.
+    ///
+    /// # Errors
+    ///
+    /// Want of memory. Nothing changes then.
+    pub fn ask(&mut self, seat: u8, set: ResourceSet) -> Result<(), AllocError>
+        requires fits { Fits (lock_of self.old) (Ask seat set) }
+        requires accepted { Accepts (lock_of self.old) (Ask seat set) }
+        ensures beginning { self.new.beginning ≡ self.old.beginning }
+        ensures taken { self.new.taken ≡ self.old.taken }
+        ensures ok { OnOk result (self.new.entries ≡ self.old.entries ++ record { event = Ask seat set; acts = [] } ∷ []) }
+        ensures err { OnErr result (self.new ≡ self.old) }
+    {
+        self.add(Event::Ask { seat, set })
+    }
+
+    // One more entry without acts, of an event that gives nothing back. The room for it is made first.
+    fn add(&mut self, event: Event) -> Result<(), AllocError>
+        requires fits { Fits (lock_of self.old) event }
+        requires accepted { Accepts (lock_of self.old) event }
+        requires gives { (seat : ℕ) → gives_back seat event ≡ false }
+        ensures beginning { self.new.beginning ≡ self.old.beginning }
+        ensures taken { self.new.taken ≡ self.old.taken }
+        ensures ok { OnOk result (self.new.entries ≡ self.old.entries ++ record { event = event; acts = [] } ∷ []) }
+        ensures err { OnErr result (self.new ≡ self.old) }
+    {
+        self.history
+            .reserve(2 * usize::from(self.machine.seats()) + 1)?;
+        let acts = Vec::new(self.alloc);
+        keep(&mut self.machine, &mut self.history, &event, acts);
+        Ok(())
+    }
+
+    /// Takes all that the seat holds and has not taken yet, and lends it to the seat. No memory is taken.
+    pub fn take(&mut self, seat: u8, into: &mut Lent<T>)
+        requires seat { seat < self.old.beginning.seats }
+        requires lent { (g : Granted) → slice_get self.old.taken seat ≡ Some g → IsLentNow T.after self.old g into.old }
+        requires room { (g : Granted) → slice_get self.old.taken seat ≡ Some g → HasRoomFor g (holds_of (lock_of self.old).claims seat) into.old }
+        ensures beginning { self.new.beginning ≡ self.old.beginning }
+        ensures entries { self.new.entries ≡ self.old.entries }
+        ensures taken { self.new.taken ≡ slice_set self.old.taken seat (holds_of (lock_of self.old).claims seat) }
+        ensures lent { IsLentNow T.after self.old (holds_of (lock_of self.old).claims seat) into.new }
+    {
+        let granted = self.machine.granted(seat);
+        let before = self.taken[usize::from(seat)];
+        let reads = granted.reads.minus(before.reads);
+        let writes = granted.writes.minus(before.writes);
+        take_reads(&mut self.homes, &mut into.reads, reads);
+        take_writes(&mut self.homes, &mut into.writes, writes, self.alloc);
+        self.taken[usize::from(seat)] = granted;
+    }
+
+    /// Ends the section of the seat: the history keeps its acts, and what it has taken comes home, what it has edited with the
+    /// edits. No memory is taken.
+    pub fn finish(&mut self, seat: u8, back: Lent<T>, acts: Vec<Act<T::Edit>>)
+        requires right { MayFollow T.after T.taken T.number self.old.beginning self.old.entries (record { event = Finish seat; acts = acts.items }) }
+        requires back { (g : Granted) → slice_get self.old.taken seat ≡ Some g → ComesHome T.after self.old (record { event = Finish seat; acts = acts.items }) g back }
+        ensures beginning { self.new.beginning ≡ self.old.beginning }
+        ensures entries { self.new.entries ≡ self.old.entries ++ record { event = Finish seat; acts = acts.items } ∷ [] }
+        ensures taken { self.new.taken ≡ slice_set self.old.taken seat nothing }
+    {
+        self.give_back(seat, Event::Finish { seat }, back, acts);
+    }
+
+    /// The upgrade of the seat rises: the history keeps the shows among its acts so far, and what it has taken comes home.
+    /// No memory is taken.
+    pub fn rise(&mut self, seat: u8, back: Lent<T>, acts: Vec<Act<T::Edit>>)
+        requires right { MayFollow T.after T.taken T.number self.old.beginning self.old.entries (record { event = Rise seat; acts = acts.items }) }
+        requires back { (g : Granted) → slice_get self.old.taken seat ≡ Some g → ComesHome T.after self.old (record { event = Rise seat; acts = acts.items }) g back }
+        ensures beginning { self.new.beginning ≡ self.old.beginning }
+        ensures entries { self.new.entries ≡ self.old.entries ++ record { event = Rise seat; acts = acts.items } ∷ [] }
+        ensures taken { self.new.taken ≡ slice_set self.old.taken seat nothing }
+    {
+        self.give_back(seat, Event::Rise { seat }, back, acts);
+    }
+
+    // The history keeps an event that gives back what the seat holds, with its acts, and what the seat has taken comes home.
+    fn give_back(&mut self, seat: u8, event: Event, back: Lent<T>, acts: Vec<Act<T::Edit>>)
+        requires gives { GivesBackAll seat event }
+        requires right { MayFollow T.after T.taken T.number self.old.beginning self.old.entries (record { event = event; acts = acts.items }) }
+        requires back { (g : Granted) → slice_get self.old.taken seat ≡ Some g → ComesHome T.after self.old (record { event = event; acts = acts.items }) g back }
+        ensures beginning { self.new.beginning ≡ self.old.beginning }
+        ensures entries { self.new.entries ≡ self.old.entries ++ record { event = event; acts = acts.items } ∷ [] }
+        ensures taken { self.new.taken ≡ slice_set self.old.taken seat nothing }
+    {
+        keep(&mut self.machine, &mut self.history, &event, acts);
+        let Lent { reads, writes } = back;
+        give_reads(&mut self.homes, reads);
+        give_writes(&mut self.homes, writes);
+        self.taken[usize::from(seat)] = nothing();
+    }
+
+    /// Takes the state apart while no request is incomplete: the history, and a share of each value. No memory is taken.
+    pub fn into_parts(self) -> (History<T::Edit>, Vec<Arc<T, Global>>)
+        requires { (seat : ℕ) → has_request (lock_of self).claims seat ≡ false }
+        ensures entries { result.0.entries ≡ self.entries }
+        ensures lawful { IsLawfulFrom T.after T.taken T.number self.beginning self.entries }
+        ensures count { length result.1.items ≡ self.beginning.groups.q }
+        ensures values { (l : ℕ) (opening : T) → slice_get self.beginning.values l ≡ Some opening → slice_get (map arc_value result.1.items) l ≡ Some (value_now T.after self l opening) }
+    {
+        let State {
+            machine: _,
+            opening: _,
+            history,
+            taken: _,
+            homes,
+            closing,
+            alloc: _,
+        } = self;
+        (history, one_of_each(homes, closing))
+    }
+}
+
+// The most requests that may be issued. After these there is no stamp for another.
+const MOST_ISSUES: u64 = 1 << 63;
