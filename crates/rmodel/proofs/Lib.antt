@@ -1,6 +1,5 @@
 pub mod ListFacts
 pub mod settling
 pub mod reaching
-pub mod stepping
 pub mod telling
 pub mod theorems

@@ -5,14 +5,10 @@ pub mod State
 pub mod Holds
 pub mod Settling
 pub mod Steps
-pub mod NewClaim
 pub mod Changes
 pub mod WellFormed
 pub mod Reached
-pub mod Sweep
 pub mod Codes
-pub mod Machine
 pub mod Laws
 pub mod Telling
 pub mod StateLaws
-pub mod Plain

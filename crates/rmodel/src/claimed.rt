@@ -9,16 +9,16 @@ use rset::ResourceSet;
 
 /// A claim, its status, and for a nested request what it asks for and what it was granted.
 #[derive(Clone, Copy)]
-pub(crate) struct Claimed {
-    pub(crate) claim: Claim,
-    pub(crate) status: Status,
-    pub(crate) asked: ResourceSet,
-    pub(crate) granted: ResourceSet,
+pub struct Claimed {
+    pub claim: Claim,
+    pub status: Status,
+    pub asked: ResourceSet,
+    pub granted: ResourceSet,
 }
 
 impl Claimed {
     /// A claim that waits, asks for this part, and was granted nothing.
-    pub(crate) fn waiting(first: ResourceSet, claim: Claim) -> Claimed
+    pub fn waiting(first: ResourceSet, claim: Claim) -> Claimed
         ensures { result ≡ waiting first claim }
     {
         Claimed {
@@ -30,7 +30,7 @@ impl Claimed {
     }
 
     /// What the claim holds.
-    pub(crate) fn held(&self) -> Granted
+    pub fn held(&self) -> Granted
         ensures { result ≡ held_by self.now }
     {
         if is_nested(self.claim.kind) {
@@ -49,21 +49,21 @@ impl Claimed {
     }
 
     /// Whether it holds what it asks for.
-    pub(crate) fn is_satisfied(&self) -> bool
+    pub fn is_satisfied(&self) -> bool
         ensures { result ≡ is_satisfied self.now }
     {
         matches!(self.status, Status::Satisfied)
     }
 
     /// Whether it is entitled.
-    pub(crate) fn is_entitled(&self) -> bool
+    pub fn is_entitled(&self) -> bool
         ensures { result ≡ is_entitled self.now }
     {
         matches!(self.status, Status::Entitled)
     }
 
     /// Whether it is entitled or satisfied.
-    pub(crate) fn is_active(&self) -> bool
+    pub fn is_active(&self) -> bool
         ensures { result ≡ is_active self.now }
     {
         !matches!(self.status, Status::Waiting)
@@ -71,21 +71,21 @@ impl Claimed {
 }
 
 /// Whether a request of this kind is nested.
-pub(crate) fn is_nested(kind: Kind) -> bool
+pub fn is_nested(kind: Kind) -> bool
     ensures { result ≡ is_nested kind }
 {
     matches!(kind, Kind::Nested)
 }
 
 /// Whether a request of this kind is an upgrade.
-pub(crate) fn is_upgrade(kind: Kind) -> bool
+pub fn is_upgrade(kind: Kind) -> bool
     ensures { result ≡ is_upgrade kind }
 {
     matches!(kind, Kind::Upgrade)
 }
 
 /// Whether the claim is the read half of an upgrade.
-pub(crate) fn is_read_half(claim: &Claim) -> bool
+pub fn is_read_half(claim: &Claim) -> bool
     ensures { result ≡ is_read_half claim.now }
 {
     is_upgrade(claim.kind) && !claim.write_half
@@ -100,14 +100,14 @@ fn touches(claim: &Claim, resources: ResourceSet) -> bool
 }
 
 /// Whether the claim conflicts with an asker on a part of what that reads and writes.
-pub(crate) fn conflicts_on(claim: &Claim, asker: &Claim, part: ResourceSet) -> bool
+pub fn conflicts_on(claim: &Claim, asker: &Claim, part: ResourceSet) -> bool
     ensures { result ≡ conflicts_on claim.now asker.now part }
 {
     claim.writes.meets(part) || touches(claim, part.meet(asker.writes))
 }
 
 /// Whether the claims share a place.
-pub(crate) fn share_place(a: &Claim, b: &Claim) -> bool
+pub fn share_place(a: &Claim, b: &Claim) -> bool
     ensures { result ≡ share_place a.now b.now }
 {
     a.places.meets(b.places)

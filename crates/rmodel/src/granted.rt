@@ -15,7 +15,7 @@ pub struct Granted {
 
 impl Granted {
     /// Nothing is held.
-    pub(crate) fn nothing() -> Granted
+    pub fn nothing() -> Granted
         ensures { result ≡ nothing }
     {
         Granted {
@@ -25,14 +25,14 @@ impl Granted {
     }
 
     /// Whether nothing is held.
-    pub(crate) fn is_nothing(&self) -> bool
+    pub fn is_nothing(&self) -> bool
         ensures { result ≡ is_nothing self.now }
     {
         self.reads.len() == 0 && self.writes.len() == 0
     }
 
     /// What is held here or there.
-    pub(crate) fn both(&self, other: &Granted) -> Granted
+    pub fn both(&self, other: &Granted) -> Granted
         ensures { result ≡ both self.now other.now }
     {
         Granted {
@@ -42,7 +42,7 @@ impl Granted {
     }
 
     /// Whether each resource that is held here in a way is held there in that way.
-    pub(crate) fn is_within(&self, other: &Granted) -> bool
+    pub fn is_within(&self, other: &Granted) -> bool
         ensures { result ≡ is_within self.now other.now }
     {
         self.reads.within(other.reads) && self.writes.within(other.writes)

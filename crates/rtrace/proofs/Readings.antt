@@ -7,7 +7,7 @@ use Rattle.std.specs.List.{cons_option, filter_map}
 use Rattle.rset.specs.Sets.{Set}
 use Rattle.rexpand.specs.Groups.{ReadGroups}
 use Rattle.rclaim.specs.declared.event.Event.{Event}
-use Rattle.rmodel.specs.Machine.{Standing}
+use Rattle.rplain.specs.Machine.{Standing}
 use Rattle.rmodel.specs.State.{LockState}
 use Rattle.rmodel.specs.Steps.{after, next}
 use Rattle.std.proofs.lemmas.Grind.{flat_map-append}

@@ -4,7 +4,7 @@ use Rattle.rset.specs.Sets.{Set}
 use Rattle.rexpand.specs.Groups.{ReadGroups, no_groups}
 use Rattle.rmodel.specs.State.{LockState}
 use Rattle.rset.specs.declared.TheConstants.{RESOURCES, SEATS}
-use Rattle.rmodel.specs.Machine.{Standing}
+use Rattle.rplain.specs.Machine.{Standing}
 use Rattle.rmodel.specs.Steps.{refusal, next}
 use Rattle.rmodel.specs.declared.refused.Refused.{Refused}
 use Rattle.rclaim.specs.declared.event.Event.{Event}

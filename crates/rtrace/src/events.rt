@@ -17,7 +17,8 @@ use crate::reading::Reading;
 use csv::ByteRecord;
 use rclaim::{Changes, Event, Kind, LENGTH_LIMIT, Request, RequestErr};
 use rexpand::Groups;
-use rmodel::{Machine, Plain, Refused, admit};
+use rmodel::{Machine, Refused, admit};
+use rplain::Plain;
 use rrecords::{
     Code, Refusal, RequestLengths, RequestSets, Word, field_of, lengths_of, set_of, sets_of,
 };

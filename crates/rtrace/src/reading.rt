@@ -16,7 +16,7 @@ ghost use Rattle.rtrace.specs.Reading.{HasRead, IsReady, HasGroups, Takes, Refus
 use crate::errors::{ListErr, RowErr};
 use csv::ByteRecord;
 use rexpand::{GROUPS, GroupErr, Groups};
-use rmodel::Plain;
+use rplain::Plain;
 use rrecords::{Code, Fault, Word, cap_of, field_of, set_of, word_of};
 use rreport::EventList;
 use rset::{NameErr, NameTable, ResourceSet};

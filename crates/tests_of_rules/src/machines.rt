@@ -3,7 +3,8 @@ ghost use Rattle.std.specs.Prelude.{◌≡◌};
 
 use rclaim::{Event, Kind, Request, Status};
 use rexpand::Groups;
-use rmodel::{Machine, Plain, Refused, admit};
+use rmodel::{Machine, Refused, admit};
+use rplain::Plain;
 use rset::{RESOURCES, ResourceSet};
 use std::alloc::Global;
 use std::test::Fail;

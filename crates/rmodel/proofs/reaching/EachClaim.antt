@@ -23,7 +23,7 @@ use Rattle.rmodel.specs.WellFormed.{Among}
 use Rattle.rmodel.proofs.reaching.Came.{came, among_map}
 use Rattle.rmodel.proofs.reaching.HeldBySeat.{held_within, HeldBy, holding}
 use Rattle.rmodel.proofs.ListFacts.{all_at, all_from, all_of_zip, among_append, among_filter}
-use Rattle.rmodel.proofs.stepping.Own.{each_alone}
+use Rattle.rmodel.proofs.reaching.OneOfSeat.{each_alone}
 use Rattle.rmodel.proofs.reaching.Reached.{reached_next, reached_opening}
 use Rattle.rmodel.proofs.settling.Standing.{SameStanding, asking_standing}
 

@@ -20,7 +20,7 @@ use Rattle.rmodel.proofs.reaching.Going.{satisfied_stays}
 use Rattle.rmodel.proofs.reaching.HeldBySeat.{all_of, held_of_plain, held_of_unsatisfied, held_of_nested, nothing_of, is_nothing_of, within_nothing, within_itself, within_all, nothing_within, holds_here, HeldBy, holding}
 use Rattle.rmodel.proofs.ListFacts.{contrary, false_from}
 use Rattle.rmodel.proofs.settling.OneSettlement.{both_cases}
-use Rattle.rmodel.proofs.stepping.Own.{each_alone}
+use Rattle.rmodel.proofs.reaching.OneOfSeat.{each_alone}
 use Rattle.rmodel.proofs.reaching.Reached.{reached_next}
 
 -- a claim, and the same claim no less far, with no less granted

@@ -13,7 +13,7 @@ use Rattle.rmodel.specs.Holds.{nothing, both, held_by, holds_of, is_nothing, is_
 use Rattle.rmodel.specs.WellFormed.{EachPair, Among}
 use Rattle.rmodel.proofs.ListFacts.{contrary, passing, none_among, all_at, all_from, false_from}
 use Rattle.rmodel.proofs.settling.OneSettlement.{both_cases}
-use Rattle.rmodel.proofs.stepping.Own.{nothing_both, rest_holds}
+use Rattle.rmodel.proofs.reaching.OneOfSeat.{nothing_both, rest_holds}
 
 -- ---- what is held, compared
 

@@ -22,7 +22,7 @@ use Rattle.rmodel.proofs.telling.ChangesTold.{absent, was_there}
 use Rattle.rmodel.proofs.reaching.HeldBySeat.{nothing_of, is_nothing_of, within_itself, nothing_within, within_nothing, within_all, all_of, held_of_plain, held_of_unsatisfied, held_within, new_holds_nothing, holds_here, idle_holds_nothing, HeldBy, holding}
 use Rattle.rmodel.proofs.ListFacts.{contrary, false_from, all_at, pair_among, pairs_both}
 use Rattle.rmodel.proofs.settling.OneSettlement.{both_cases}
-use Rattle.rmodel.proofs.stepping.Own.{not_nested, each_alone}
+use Rattle.rmodel.proofs.reaching.OneOfSeat.{not_nested, each_alone}
 use Rattle.rmodel.proofs.reaching.Reached.{reached_next}
 use Rattle.rmodel.proofs.reaching.Soundness.{read_of_half}
 

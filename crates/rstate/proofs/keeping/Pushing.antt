@@ -12,7 +12,7 @@ use Rattle.rmodel.proofs.reaching.Growing.{held_next}
 use Rattle.rmodel.proofs.reaching.HeldBySeat.{within_all}
 use Rattle.rmodel.proofs.reaching.Histories.{sizes_next}
 use Rattle.rmodel.proofs.reaching.Reached.{reached_next}
-use Rattle.rmodel.proofs.stepping.PlainSteps.{few_claims}
+use Rattle.rmodel.proofs.reaching.FewClaims.{few_claims}
 use Rattle.rvalue.specs.Acts.{edits_in}
 use Rattle.rvalue.specs.Entries.{EntryFields, edits_of, is_finish}
 use Rattle.rvalue.specs.Histories.{value_of}

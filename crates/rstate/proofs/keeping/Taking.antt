@@ -18,7 +18,7 @@ use Rattle.rmodel.specs.StateLaws.{IsBelow, HoldsOneWay}
 use Rattle.rmodel.specs.Steps.{after}
 use Rattle.rmodel.proofs.ListFacts.{Among, contrary, false_from, all_at}
 use Rattle.rmodel.proofs.reaching.HeldBySeat.{HeldBy, holding, held_within, within_itself}
-use Rattle.rmodel.proofs.stepping.Own.{each_alone}
+use Rattle.rmodel.proofs.reaching.OneOfSeat.{each_alone}
 use Rattle.rmodel.proofs.theorems.Exclusive.{exclusive}
 use Rattle.rmodel.proofs.theorems.HistoryLaws.{claims_are_below, held_one_way}
 use Rattle.rvalue.specs.Entries.{EntryFields}

@@ -1,5 +1,0 @@
-use Rattle.rmodel.proofs.stepping.SweepSteps.{SweptTo}
-use Rattle.rmodel.proofs.sweep.sweep.Given as goal
-
-abbrev pub invariant-loop-i : goal.invariant-loop-i
-invariant-loop-i l = SweptTo l.initial.claims l.claims l.i l.seen l.changes

@@ -1,0 +1,4 @@
+pub mod Machine
+pub mod NewClaim
+pub mod Sweep
+pub mod Plain
