@@ -2,8 +2,10 @@
 //!
 //! `lists NAME N list` and `lists NAME N report` write the list NAME of N events, and its report. Each seat that may act
 //! is as likely to act next as any other; where it holds something it finishes, or rises or asks if it can.
+//! `lists NAME N replay` reads such a list, and writes its report: the same work as `rnlp replay`, with nothing proved.
+use std::collections::HashMap;
 use std::env;
-use std::io::{BufWriter, Result, Write, stdout};
+use std::io::{BufWriter, Read, Result, Write, stdin, stdout};
 
 #[derive(Clone, Copy, PartialEq)]
 enum Kind {
@@ -268,33 +270,92 @@ fn shape_of(name: &str) -> Shape {
     Shape { resources, groups, tasks: 64, kinds, most }
 }
 
-fn main() -> Result<()> {
-    let words: Vec<_> = env::args().collect();
-    let (count, report): (usize, _) = (words[2].parse().expect("a number"), words[3] == "report");
-    let mut lock = Lock { claims: Vec::new(), issued: 0, shape: shape_of(&words[1]) };
-    let (mut dice, mut out) = (Dice(88172645463325252), BufWriter::new(stdout().lock()));
-    let (resources, tasks) = (lock.shape.resources, lock.shape.tasks);
-    writeln!(out, "rnlp,1")?;
-    (0..resources).try_for_each(|l| writeln!(out, "resource,r{l}"))?;
-    (1..resources).filter(|_| lock.shape.groups).try_for_each(|l| writeln!(out, "group,r{}+r{l}", l - 1))?;
-    (0..tasks).try_for_each(|t| writeln!(out, "task,t{t}"))?;
-    if report {
-        writeln!(out, "cap,{tasks}")?;
+/// The numbers of the names that a list declares, and its events as they stand.
+struct Names<'a> {
+    resources: HashMap<&'a str, usize>,
+    tasks: HashMap<&'a str, usize>,
+}
+
+impl<'a> Names<'a> {
+    fn set(&self, field: &str) -> u64 {
+        if field == "-" { 0 } else { field.split('+').fold(0, |all, name| all | 1 << self.resources[name]) }
     }
+
+    fn event(&self, fields: &[&str]) -> Event {
+        let (seat, set) = (self.tasks[fields[1]], |i: usize| self.set(fields[i]));
+        match (fields[0], fields.get(2)) {
+            ("issue", Some(&"read")) => Event::Issue(seat, Kind::Read, set(3), 0, 0),
+            ("issue", Some(&"write")) => Event::Issue(seat, Kind::Write, 0, set(3), 0),
+            ("issue", Some(&"mixed")) => Event::Issue(seat, Kind::Mixed, set(3) & !set(4), set(4), 0),
+            ("issue", Some(&"upgrade")) => Event::Issue(seat, Kind::Upgrade, set(3), 0, 0),
+            ("issue", _) => Event::Issue(seat, Kind::Nested, set(3) & !set(4), set(4), set(5)),
+            ("finish", _) => Event::Finish(seat),
+            ("rise", _) => Event::Rise(seat),
+            _ => Event::Ask(seat, set(2)),
+        }
+    }
+}
+
+fn write_head(out: &mut impl Write, shape: &Shape, report: bool) -> Result<()> {
+    writeln!(out, "rnlp,1")?;
+    (0..shape.resources).try_for_each(|l| writeln!(out, "resource,r{l}"))?;
+    (1..shape.resources).filter(|_| shape.groups).try_for_each(|l| writeln!(out, "group,r{}+r{l}", l - 1))?;
+    (0..shape.tasks).try_for_each(|t| writeln!(out, "task,t{t}"))?;
+    if report { writeln!(out, "cap,{}", shape.tasks) } else { Ok(()) }
+}
+
+fn write_tail(out: &mut impl Write, shape: &Shape, report: bool) -> Result<()> {
+    if report {
+        (0..shape.resources).try_for_each(|l| writeln!(out, "ledger,r{l},0,0"))?;
+    }
+    writeln!(out, "end")
+}
+
+fn take(lock: &mut Lock, out: &mut impl Write, event: Event, report: bool) -> Result<()> {
+    let before = lock.claims.clone();
+    lock.change(event);
+    lock.settle();
+    lock.give();
+    write_event(out, event)?;
+    if report { write_changes(out, &before, &lock.claims) } else { Ok(()) }
+}
+
+fn generate(mut lock: Lock, out: &mut impl Write, count: usize, report: bool) -> Result<()> {
+    let (mut dice, tasks) = (Dice(88172645463325252), lock.shape.tasks);
+    write_head(out, &lock.shape, report)?;
     for _ in 0..count {
         let start = dice.below(tasks);
         let event = (0..tasks).find_map(|d| lock.choose((start + d) % tasks, &mut dice)).expect("somebody holds");
-        let before = lock.claims.clone();
-        lock.change(event);
-        lock.settle();
-        lock.give();
-        write_event(&mut out, event)?;
-        if report {
-            write_changes(&mut out, &before, &lock.claims)?;
+        take(&mut lock, out, event, report)?;
+    }
+    write_tail(out, &lock.shape, report)
+}
+
+fn replay(mut lock: Lock, out: &mut impl Write) -> Result<()> {
+    let mut text = String::new();
+    stdin().read_to_string(&mut text)?;
+    let mut names = Names { resources: HashMap::new(), tasks: HashMap::new() };
+    write_head(out, &lock.shape, true)?;
+    for line in text.lines() {
+        let mut all = [""; 8];
+        let count = line.split(',').zip(all.iter_mut()).map(|(field, place)| *place = field).count();
+        let fields = &all[..count];
+        match fields[0] {
+            "resource" => drop(names.resources.insert(fields[1], names.resources.len())),
+            "task" => drop(names.tasks.insert(fields[1], names.tasks.len())),
+            "rnlp" | "group" | "end" => {}
+            _ => take(&mut lock, out, names.event(fields), true)?,
         }
     }
-    if report {
-        (0..resources).try_for_each(|l| writeln!(out, "ledger,r{l},0,0"))?;
+    write_tail(out, &lock.shape, true)
+}
+
+fn main() -> Result<()> {
+    let words: Vec<_> = env::args().collect();
+    let lock = Lock { claims: Vec::new(), issued: 0, shape: shape_of(&words[1]) };
+    let mut out = BufWriter::new(stdout().lock());
+    if words[3] == "replay" {
+        return replay(lock, &mut out);
     }
-    writeln!(out, "end")
+    generate(lock, &mut out, words[2].parse().expect("a number"), words[3] == "report")
 }
