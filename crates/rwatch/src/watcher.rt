@@ -1,0 +1,38 @@
+// What a watcher is.
+ghost use Rattle.std.specs.Prelude.{◌≡◌, List, map};
+ghost use Rattle.rwatch.specs.Seen.{Seen, told, event_at};
+
+use crate::WatchKind;
+use rclaim::{Changes, Event};
+
+/// What is told each step of a lock. It may be dropped at any time.
+pub trait Watcher: Drop {
+    // what it counts, how much it counted, how much room it has for events, and those it keeps
+    ghost seen: { Self → Seen };
+
+    /// What it counts.
+    fn kind(&self) -> WatchKind
+        ensures { result ≡ (seen self.now).kind };
+
+    /// How much it has counted. The count ends at the greatest value of its type.
+    fn count(&self) -> u64
+        ensures { result ≡ (seen self.now).count };
+
+    /// The event number `i`, counted from 0, of those that it was told; None where it does not keep so many, or does not keep them all.
+    fn event(&self, i: usize) -> Option<Event>
+        ensures { result ≡ event_at (seen self.now).kept i };
+
+    /// Tells it a step: the event and what it changed. No memory is taken.
+    fn told(&mut self, event: &Event, changes: &Changes)
+        ensures { seen self.new ≡ told event.now changes.now (seen self.old) };
+}
+
+/// All that are told the steps of a lock together.
+pub trait Audience {
+    // what each of them has been told, in order
+    ghost all: { Self → List Seen };
+
+    /// Tells each of them a step, in order. No memory is taken.
+    fn tell(&mut self, event: &Event, changes: &Changes)
+        ensures { all self.new ≡ map (told event.now changes.now) (all self.old) };
+}
