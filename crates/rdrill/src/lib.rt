@@ -7,5 +7,7 @@
 mod dice;
 mod drawing;
 mod requests;
+mod summary;
 
 pub use drawing::{MOST_EVENTS, drill, drill_machine};
+pub use summary::{push_summary, summary_room};

@@ -1,6 +1,6 @@
 // What a watcher is.
-ghost use Rattle.std.specs.Prelude.{◌≡◌, List, map};
-ghost use Rattle.rwatch.specs.Seen.{Seen, told, event_at};
+ghost use Rattle.std.specs.Prelude.{◌≡◌, ◌<◌, List, map, length};
+ghost use Rattle.rwatch.specs.Seen.{Seen, told, event_at, watcher_at};
 
 use crate::WatchKind;
 use rclaim::{Changes, Event};
@@ -35,4 +35,18 @@ pub trait Audience {
     /// Tells each of them a step, in order. No memory is taken.
     fn tell(&mut self, event: &Event, changes: &Changes)
         ensures { all self.new ≡ map (told event.now changes.now) (all self.old) };
+
+    /// How many there are.
+    fn count(&self) -> usize
+        ensures { result ≡ length (all self.now) };
+
+    /// What the watcher at a place counts.
+    fn kind_of(&self, i: usize) -> WatchKind
+        requires { i < length (all self.now) }
+        ensures { result ≡ (watcher_at (all self.now) i).kind };
+
+    /// How much the watcher at a place has counted.
+    fn count_of(&self, i: usize) -> u64
+        requires { i < length (all self.now) }
+        ensures { result ≡ (watcher_at (all self.now) i).count };
 }

@@ -105,4 +105,16 @@ impl Audience for Watchers {
     fn tell(&mut self, event: &Event, changes: &Changes) {
         self.tell_all(event, changes);
     }
+
+    fn count(&self) -> usize {
+        self.len()
+    }
+
+    fn kind_of(&self, i: usize) -> WatchKind {
+        self.kind_of(i)
+    }
+
+    fn count_of(&self, i: usize) -> u64 {
+        self.count_of(i)
+    }
 }

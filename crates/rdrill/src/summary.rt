@@ -1,0 +1,116 @@
+// What is written of a drill.
+ghost use Rattle.std.specs.Prelude.{not, ◌≡◌, ◌≤◌, ◌+◌, ◌*◌, ◌++◌, [], IfOk, length, vec_capacity, flat_map};
+ghost use Rattle.rmodel.specs.Holds.{is_nothing, holds_of};
+ghost use Rattle.rdrill.specs.Summary.{count_line, kind_word, watcher_line, holding_of, summary_text};
+
+use itoa::Buffer;
+use rmodel::Machine;
+use rwatch::{Audience, WatchKind};
+use std::alloc::{AllocError, Global};
+
+/// The most bytes of a line: a word of ten letters, a comma, twenty digits, and the end of the line.
+const LINE_ROOM: usize = 32;
+
+/// Room for the summary of a drill that so many watchers watch.
+///
+/// # Errors
+///
+/// Want of memory.
+pub fn summary_room(alloc: Global, watchers: usize) -> Result<Vec<u8>, AllocError>
+    ensures { IfOk result (λ text. (text.items ≡ []) × (LINE_ROOM * (watchers + 4) ≤ vec_capacity text)) }
+{
+    if watchers > usize::MAX / LINE_ROOM - 4 {
+        return Err(AllocError);
+    }
+    Vec::with_capacity(alloc, LINE_ROOM * (watchers + 4))
+}
+
+/// Writes the summary of a drill of `count` events, after which the machine is in this state, into the room that was made for it. No
+/// memory is taken.
+pub fn push_summary<M: Machine, A: Audience>(
+    text: &mut Vec<u8>,
+    count: u32,
+    audience: &A,
+    machine: &M,
+)
+    requires empty { text.old.items ≡ [] }
+    requires room { LINE_ROOM * (length (A.all audience.now) + 4) ≤ vec_capacity text.old }
+    ensures { text.new.items ≡ summary_text count (A.all audience.now) (M.state machine.now) }
+{
+    push_count(text, b"drill", u64::from(count));
+    push_watchers(text, audience);
+    push_count(text, b"incomplete", u64::from(machine.incomplete()));
+    push_count(text, b"holding", holding(machine));
+    push_piece(text, b"end\n");
+}
+
+// Appends a piece in room that is there.
+fn push_piece(text: &mut Vec<u8>, piece: &[u8])
+    requires { length text.old.items + length piece.now ≤ vec_capacity text.old }
+    ensures items { text.new.items ≡ text.old.items ++ piece.now }
+    ensures room { vec_capacity text.old ≤ vec_capacity text.new }
+{
+    let Ok(()) = text.extend_from_slice(piece) else {
+        unreachable!()
+    };
+}
+
+// Appends the line of a count in room that is there.
+#[tactic(auto, unfolding(crate::specs::Summary::count_line))]
+fn push_count(text: &mut Vec<u8>, word: &[u8], count: u64)
+    requires word { length word.now ≤ 10 }
+    requires room { length text.old.items + LINE_ROOM ≤ vec_capacity text.old }
+    ensures items { text.new.items ≡ text.old.items ++ count_line word.now count }
+    ensures room { vec_capacity text.old ≤ vec_capacity text.new }
+    ensures long { length text.new.items ≤ length text.old.items + LINE_ROOM }
+{
+    let mut buffer = Buffer::new();
+    let digits = buffer.format(count).as_bytes();
+    push_piece(text, word);
+    push_piece(text, b",");
+    push_piece(text, digits);
+    push_piece(text, b"\n");
+}
+
+// Appends the line of each watcher.
+fn push_watchers<A: Audience>(text: &mut Vec<u8>, audience: &A)
+    requires room { length text.old.items + LINE_ROOM * length (A.all audience.now) ≤ vec_capacity text.old }
+    ensures items { text.new.items ≡ text.old.items ++ flat_map watcher_line (A.all audience.now) }
+    ensures room { vec_capacity text.old ≤ vec_capacity text.new }
+    ensures long { length text.new.items ≤ length text.old.items + LINE_ROOM * length (A.all audience.now) }
+{
+    for i in 0..audience.count() {
+        push_count(text, kind_word(audience.kind_of(i)), audience.count_of(i));
+    }
+}
+
+// How a kind is named.
+fn kind_word(kind: WatchKind) -> &'static [u8]
+    ensures word { result.now ≡ kind_word kind }
+    ensures short { length result.now ≤ 10 }
+{
+    match kind {
+        WatchKind::Issues => b"issues",
+        WatchKind::Finishes => b"finishes",
+        WatchKind::Rises => b"rises",
+        WatchKind::Asks => b"asks",
+        WatchKind::Entitled => b"entitled",
+        WatchKind::Satisfied => b"satisfied",
+        WatchKind::Grants => b"grants",
+    }
+}
+
+// How many seats hold something.
+fn holding<M: Machine>(machine: &M) -> u64
+    ensures { result ≡ holding_of (M.state machine.now) }
+{
+    (0u8..8).filter(|seat| holds(machine, *seat)).count() as u64
+}
+
+// Whether a seat holds something.
+fn holds<M: Machine>(machine: &M, seat: u8) -> bool
+    ensures { result ≡ not (is_nothing (holds_of (M.state machine.now).claims seat)) }
+{
+    let granted = machine.granted(seat);
+    granted.reads.len() > 0 || granted.writes.len() > 0
+}
