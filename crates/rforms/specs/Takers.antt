@@ -1,5 +1,5 @@
 -- What is known of a text once its records were taken one after another.
-use Rattle.std.specs.Prelude.{◌≡◌, ℕ, ◌+◌, ◌<◌, ◌^◌, Bool, true, List, length, Some}
+use Rattle.std.specs.Prelude.{◌≡◌, ℕ, ◌+◌, ◌<◌, ◌^◌, Bool, true, List, [], ◌∷◌, ◌++◌, length, Option, Some, None}
 use Rattle.std.specs.Borrow.{Bor}
 use Rattle.csv.specs.Reading.{Ready, default_config, source_of, strip_bom, reader_trim, reader_config, is_flexible, reader_state}
 use Rattle.csv.specs.declared.reader.Reader.{Reader}
@@ -7,9 +7,10 @@ use Rattle.csv.specs.declared.parser.State.TheVariants as st
 use Rattle.csv.specs.declared.reader.Trim.TheVariants as trim
 use Rattle.rforms.specs.Records.{Row, AreRowsOf}
 use Rattle.rforms.specs.Reports.{Spells}
-use Rattle.rforms.specs.SoFar.{SoFar, told_in, nothing_yet, with_row}
-use Rattle.rforms.specs.Walks.{AllClean}
-use Rattle.rforms.specs.Faults.{code_of, first_fault, read_all}
+use Rattle.rforms.specs.SoFar.{SoFar, told_in}
+use Rattle.rforms.specs.Walks.{AllClean, fault_from}
+use Rattle.rforms.specs.Faults.{code_of, is_ended, first_fault, read_all}
+use Rattle.rforms.specs.declared.fault.Code.{Code}
 use Rattle.rforms.specs.declared.fault.Fault.{Fault}
 use Rattle.rforms.specs.declared.errors.RowErr.{RowErr}
 use Rattle.rforms.specs.declared.errors.RowErr.TheVariants as why
@@ -17,7 +18,7 @@ use Rattle.rforms.specs.declared.errors.TextErr.{TextErr}
 use Rattle.rforms.specs.declared.errors.TextErr.TheVariants as text
 
 -- the error of a text whose record at this line was not taken
-abbrev pub error_at : ℕ → RowErr → TextErr
+abbrev pub error_at : {C : Type 0} → ℕ → RowErr C → TextErr C
 error_at line (why.Bad code) = text.Bad (record { line = line; code = code })
 error_at line why.Memory = text.Memory
 
@@ -30,18 +31,62 @@ pub record IsFresh (bytes : List ℕ) (reader : Reader (Bor (List ℕ))) : Type 
   pub source : source_of (λ s. Some s.now) reader ≡ Some (strip_bom bytes)
   pub state : reader_state reader ≡ st.StartRecord
 
--- this is the first fault of a text
-abbrev pub IsFirstFault : Bool → List ℕ → Fault → Type 0
-IsFirstFault whole bytes fault = (rows : List Row) × AreRowsOf bytes rows × (first_fault whole rows ≡ Some (fault.line, fault.code))
+-- ---- texts of any kind: what is wrong with a record is told from it and from all records before it
 
--- all records of the text were taken, and this is the number of the one that would follow
-pub record HasTakenAll {T : Type 0} (whole : Bool) (Knows : T → SoFar → Type 0) (bytes : List ℕ) (taker : T) (line : ℕ) : Type 0 where
-  pub rows : List Row
-  pub are : AreRowsOf bytes rows
-  pub clean : AllClean (code_of whole) (with_row whole) nothing_yet rows
-  pub knows : Knows taker (read_all whole rows)
-  pub few : length rows < 2 ^ 62
-  pub counted : length rows + 1 ≡ line
+-- records, and one more
+abbrev pub followed : List Row → Row → List Row
+followed rows row = rows ++ row ∷ []
+
+-- `code` tells what is wrong with a record behind others
+module _ {C : Type 0} (code : List Row → Row → Option C) where
+  -- nothing is wrong with any of these records
+  abbrev pub AreGood : List Row → Type 0
+  AreGood rows = AllClean code followed [] rows
+
+  -- all records of the text were taken, and this is the number of the one that would follow
+  pub record HasTakenAll {T : Type 0} (Knows : T → List Row → Type 0) (bytes : List ℕ) (taker : T) (line : ℕ) : Type 0 where
+    pub rows : List Row
+    pub are : AreRowsOf bytes rows
+    pub clean : AreGood rows
+    pub knows : Knows taker rows
+    pub few : length rows < 2 ^ 62
+    pub counted : length rows + 1 ≡ line
+
+-- and `is_done` whether a text may end behind records; `no_end` is what is wrong if it may not
+module _ {C : Type 0} (code : List Row → Row → Option C) (is_done : List Row → Bool) (no_end : C) where
+  -- the first fault of a text's records, with its number counted from 1
+  abbrev pub fault_of : List Row → Option (ℕ × C)
+  fault_of rows = fault_from code followed is_done no_end 1 [] rows
+
+  -- this is the first fault of a text
+  abbrev pub IsFaultOf : List ℕ → Fault C → Type 0
+  IsFaultOf bytes fault = (rows : List Row) × AreRowsOf bytes rows × (fault_of rows ≡ Some (fault.line, fault.code))
+
+  -- the text has no fault, and the taker knows that its records were taken
+  pub record HasTaken {T : Type 0} (Knows : T → List Row → Type 0) (bytes : List ℕ) (taker : T) : Type 0 where
+    pub rows : List Row
+    pub are : AreRowsOf bytes rows
+    pub right : fault_of rows ≡ None
+    pub knows : Knows taker rows
+    pub few : length rows < 2 ^ 62
+
+-- ---- event lists and reports
+
+-- what is wrong with a record behind others
+abbrev pub list_code : Bool → List Row → Row → Option Code
+list_code whole rows row = code_of whole (read_all whole rows) row
+
+-- the text may end behind these records
+abbrev pub is_list_done : Bool → List Row → Bool
+is_list_done whole rows = is_ended (read_all whole rows)
+
+-- what a taker knows of these records, where it knows what they have said
+abbrev pub KnowsSaid : {T : Type 0} → Bool → (T → SoFar → Type 0) → T → List Row → Type 0
+KnowsSaid whole Knows taker rows = Knows taker (read_all whole rows)
+
+-- this is the first fault of a text
+abbrev pub IsFirstFault : Bool → List ℕ → Fault Code → Type 0
+IsFirstFault whole bytes fault = (rows : List Row) × AreRowsOf bytes rows × (first_fault whole rows ≡ Some (fault.line, fault.code))
 
 -- the records of the text spell what the taker knows
 pub record IsTaken {T : Type 0} (whole : Bool) (Knows : T → SoFar → Type 0) (bytes : List ℕ) (taker : T) : Type 0 where

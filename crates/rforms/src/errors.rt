@@ -6,25 +6,25 @@ use crate::{Code, Fault};
 
 /// Why a text was not taken.
 #[derive(Clone, Copy, Debug, PartialEq, Eq)]
-pub enum TextErr {
+pub enum TextErr<C = Code> {
     /// It spells nothing of its kind: this is its first fault.
-    Bad(Fault),
+    Bad(Fault<C>),
     /// Memory ran out.
     Memory,
 }
 
 /// Why a record was not taken.
 #[derive(Clone, Copy, Debug, PartialEq, Eq)]
-pub enum RowErr {
+pub enum RowErr<C = Code> {
     /// This is the first thing that is wrong with it.
-    Bad(Code),
+    Bad(C),
     /// Memory ran out.
     Memory,
 }
 
-impl RowErr {
+impl<C: Copy> RowErr<C> {
     /// The error of a text whose record at this line was not taken.
-    pub fn at(self, line: u64) -> TextErr
+    pub fn at(self, line: u64) -> TextErr<C>
         ensures { result ≡ error_at line self }
     {
         match self {

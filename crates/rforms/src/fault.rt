@@ -35,9 +35,9 @@ pub enum Code {
 
 /// The first fault of a text.
 #[derive(Clone, Copy, Debug, PartialEq, Eq)]
-pub struct Fault {
-    /// The number of the faulty record, counted from 1; for [`Code::NoEnd`] the number of records plus 1.
+pub struct Fault<C = Code> {
+    /// The number of the faulty record, counted from 1; where the end is missing, the number of records plus 1.
     pub line: u64,
     /// The first thing that is wrong with it.
-    pub code: Code,
+    pub code: C,
 }

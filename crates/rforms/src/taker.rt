@@ -1,50 +1,66 @@
 // Taking the records of a text one after another.
-ghost use Rattle.std.specs.Prelude.{◌≡◌, ◌<◌, ◌^◌, ℕ, Bool, true, false, List, length, OnOk, IfOk, None, Some};
+ghost use Rattle.std.specs.Prelude.{◌≡◌, ◌<◌, ◌^◌, ◌++◌, ◌∷◌, [], ℕ, Bool, true, false, List, Option, length, OnOk, IfOk, None, Some};
 ghost use Rattle.csv.specs.Records.{fields_of};
-ghost use Rattle.rforms.specs.SoFar.{SoFar, nothing_yet, entries_in, with_row};
-ghost use Rattle.rforms.specs.Faults.{code_of, is_ended};
-ghost use Rattle.rforms.specs.Takers.{IsFresh, IsTaken, IsFirstFault, HasTakenAll};
+ghost use Rattle.rforms.specs.Records.{Row};
+ghost use Rattle.rforms.specs.Takers.{IsFresh, IsFaultOf, HasTaken, HasTakenAll};
 
+use crate::Fault;
 use crate::errors::{RowErr, TextErr};
-use crate::{Code, Fault};
 use csv::{ByteRecord, Reader, ReaderBuilder};
 use std::alloc::Global;
 
 /// The most records that are taken: no memory holds so many bytes.
 const MOST_RECORDS: u64 = 1 << 62;
 
-/// What takes the records of a text one after another. It knows what the records so far have said, as far as it needs to judge the next.
+/// What takes the records of a text of one kind, one after another. It knows what the records so far have said, as far as it needs to judge the next.
 pub trait Records {
-    // whether the text is a report, and else an event list
-    ghost whole: { Bool };
+    /// What may be wrong with a record.
+    type Code: Copy;
 
-    // it knows that this was said so far
-    ghost knows: { Self → SoFar → Type 0 };
+    // what is wrong with a record behind others, if anything is
+    ghost code: { List Row → Row → Option Self.Code };
+
+    // whether a text may end behind these records
+    ghost is_done: { List Row → Bool };
+
+    // what is wrong with a text that ends where it may not
+    ghost no_end: { Self.Code };
+
+    // it knows that these records were taken
+    ghost knows: { Self → List Row → Type 0 };
 
     /// Takes the next record.
     ///
     /// # Errors
     ///
     /// The first thing that is wrong with the record, or want of memory. Nothing is said then of what it knows.
-    fn take(&mut self, fields: &ByteRecord) -> Result<(), RowErr>
-        requires { (s : SoFar) × knows self.old s × (length (entries_in s) < 2 ^ 62) }
-        ensures taken { OnOk result ((s : SoFar) → knows self.old s → (code_of whole s (fields_of fields.now) ≡ None) × knows self.new (with_row whole s (fields_of fields.now))) }
-        ensures bad { (code : Code) → result ≡ Err (RowErr.Bad code) → (s : SoFar) → knows self.old s → code_of whole s (fields_of fields.now) ≡ Some code };
+    fn take(&mut self, fields: &ByteRecord) -> Result<(), RowErr<Self::Code>>
+        requires { (rows : List Row) × knows self.old rows × (length rows < 2 ^ 62) }
+        ensures taken { OnOk result ((rows : List Row) → knows self.old rows → (code rows (fields_of fields.now) ≡ None) × knows self.new (rows ++ fields_of fields.now ∷ [])) }
+        ensures bad { (cause : Self.Code) → result ≡ Err (RowErr.Bad cause) → (rows : List Row) → knows self.old rows → code rows (fields_of fields.now) ≡ Some cause };
 
-    /// Whether the text has ended.
+    /// Whether the text may end here.
     fn has_ended(&self) -> bool
-        ensures { (s : SoFar) → knows self.now s → result ≡ is_ended s };
+        ensures { (rows : List Row) → knows self.now rows → result ≡ is_done rows };
+
+    /// What is wrong with a text that ends where it may not.
+    fn no_end(&self) -> Self::Code
+        ensures { result ≡ no_end };
 }
 
-/// Takes all records of a text, or tells its first fault. What the taker knows in the end is what the text spells.
+/// Takes all records of a text, or tells its first fault. The taker knows in the end that all of them were taken.
 ///
 /// # Errors
 ///
-/// The first fault of a text that spells nothing of the taker's kind, or want of memory.
-pub fn take_text<T: Records>(alloc: Global, bytes: &[u8], taker: &mut T) -> Result<(), TextErr>
-    requires { T.knows taker.old nothing_yet }
-    ensures taken { OnOk result (IsTaken T.whole T.knows bytes.now taker.new) }
-    ensures bad { (fault : Fault) → result ≡ Err (TextErr.Bad fault) → IsFirstFault T.whole bytes.now fault }
+/// The first fault of a text that is none of the taker's kind, or want of memory.
+pub fn take_text<T: Records>(
+    alloc: Global,
+    bytes: &[u8],
+    taker: &mut T,
+) -> Result<(), TextErr<T::Code>>
+    requires { T.knows taker.old [] }
+    ensures taken { OnOk result (HasTaken T.code T.is_done T.no_end T.knows bytes.now taker.new) }
+    ensures bad { (fault : Fault T.Code) → result ≡ Err (TextErr.Bad fault) → IsFaultOf T.code T.is_done T.no_end bytes.now fault }
 {
     let mut reader = reader_of(alloc, bytes);
     let mut fields = ByteRecord::new(alloc);
@@ -55,16 +71,16 @@ pub fn take_text<T: Records>(alloc: Global, bytes: &[u8], taker: &mut T) -> Resu
 }
 
 // Whether a text may end there, where all its records were taken.
-fn end_at<T: Records>(taker: &T, line: u64) -> Result<(), TextErr>
-    ensures taken { OnOk result ((s : SoFar) → T.knows taker.now s → is_ended s ≡ true) }
-    ensures bad { (fault : Fault) → result ≡ Err (TextErr.Bad fault) → (fault ≡ record { line = line; code = Code.NoEnd }) × ((s : SoFar) → T.knows taker.now s → is_ended s ≡ false) }
+fn end_at<T: Records>(taker: &T, line: u64) -> Result<(), TextErr<T::Code>>
+    ensures taken { OnOk result ((rows : List Row) → T.knows taker.now rows → T.is_done rows ≡ true) }
+    ensures bad { (fault : Fault T.Code) → result ≡ Err (TextErr.Bad fault) → (fault ≡ record { line = line; code = T.no_end }) × ((rows : List Row) → T.knows taker.now rows → T.is_done rows ≡ false) }
 {
     if taker.has_ended() {
         Ok(())
     } else {
         Err(TextErr::Bad(Fault {
             line,
-            code: Code::NoEnd,
+            code: taker.no_end(),
         }))
     }
 }
@@ -84,11 +100,11 @@ fn take_rows<T: Records>(
     reader: &mut Reader<&[u8]>,
     fields: &mut ByteRecord,
     taker: &mut T,
-) -> Result<u64, TextErr>
+) -> Result<u64, TextErr<T::Code>>
     requires fresh { (bytes : List ℕ) × IsFresh bytes reader.old }
-    requires nothing { T.knows taker.old nothing_yet }
-    ensures ended { (bytes : List ℕ) → IsFresh bytes reader.old → IfOk result (HasTakenAll T.whole T.knows bytes taker.new) }
-    ensures bad { (bytes : List ℕ) → IsFresh bytes reader.old → (fault : Fault) → result ≡ Err (TextErr.Bad fault) → IsFirstFault T.whole bytes fault }
+    requires nothing { T.knows taker.old [] }
+    ensures ended { (bytes : List ℕ) → IsFresh bytes reader.old → IfOk result (HasTakenAll T.code T.knows bytes taker.new) }
+    ensures bad { (bytes : List ℕ) → IsFresh bytes reader.old → (fault : Fault T.Code) → result ≡ Err (TextErr.Bad fault) → IsFaultOf T.code T.is_done T.no_end bytes fault }
 {
     for line in 1..MOST_RECORDS {
         let Ok(found) = reader.read_byte_record(fields) else {

@@ -6,4 +6,5 @@ use Rattle.rforms.proofs.taker.take_rows.Given as goal
 
 abbrev pub invariant-loop-line : goal.invariant-loop-line
 invariant-loop-line g l =
-    (bytes : List ℕ) → IsFresh bytes l.fn.reader → (before : List Row) × (left : List ℕ) × IsAt g.T.Records.whole g.T.Records.knows bytes l.reader l.taker l.line before left
+    (bytes : List ℕ) → IsFresh bytes l.fn.reader
+    → (before : List Row) × (left : List ℕ) × IsAt g.T.Records.code g.T.Records.is_done g.T.Records.no_end g.T.Records.knows bytes l.reader l.taker l.line before left
