@@ -31,7 +31,7 @@ use Rattle.rforms.proofs.back.EndRuns.{lines_run}
 there : {X : Type 0} (o : Option X) (x : X) → o ≡ Some x → not (is_none o) ≡ true
 there o x h = ap (λ p. not (is_none p)) h
 
-read_counted : (names : Names) (fs : List Field) (row : Row) (v : Values fs) → read names fs row ≡ Some v → all_counted fs row ≡ true
+pub read_counted : (names : Names) (fs : List Field) (row : Row) (v : Values fs) → read names fs row ≡ Some v → all_counted fs row ≡ true
 unfolding read all_counted
 read_counted names [] row v h = refl
 read_counted names (f ∷ fs) [] v h = refl

@@ -40,7 +40,7 @@ has_members : (s : Set) → s ≢ empty → (len s == 0) ≡ false
 has_members s h = elim (len s == 0) as (λ b. (len s == 0) ≡ b → b ≡ false) [ true ↦ λ e. absurd (h (empty_of_len s (grind (arith, nat_tests)))) | false ↦ λ _. refl ] refl
 
 -- a request that is read in normal form, and that nothing refuses, is in normal form, and admitted
-request_right : (groups : List Set) (kind : Kind) (reads writes first : Set) (len later : ℕ) → request_refusal groups (normalised kind reads writes first len later) ≡ None → len ≤ LENGTH_LIMIT → later ≤ LENGTH_LIMIT
+pub request_right : (groups : List Set) (kind : Kind) (reads writes first : Set) (len later : ℕ) → request_refusal groups (normalised kind reads writes first len later) ≡ None → len ≤ LENGTH_LIMIT → later ≤ LENGTH_LIMIT
     → IsNormal (normalised kind reads writes first len later) × IsTrue (is_admitted groups (normalised kind reads writes first len later))
 request_right groups Read reads writes first n later h short late =
     let tests = no_refusal (len reads == 0) true _ EmptyRequest FirstOutside Undeclared h in
@@ -58,14 +58,14 @@ request_right groups Nested reads writes first n later h short late =
     let tests = no_refusal (len writes == 0) _ _ EmptyRequest FirstOutside Undeclared h in
     (record { sets = (difference_apart reads writes, not_empty writes tests.0); first = tests.1; len = short; later = refl }, tests.2)
 
-some_set : (kind : Kind) (reads writes : Set) → FitsKind kind reads writes → (len (asked_set kind reads writes) == 0) ≡ false
+pub some_set : (kind : Kind) (reads writes : Set) → FitsKind kind reads writes → (len (asked_set kind reads writes) == 0) ≡ false
 some_set Read reads writes fits = has_members reads fits.0
 some_set Write reads writes fits = has_members writes fits.1
 some_set Mixed reads writes fits = has_members writes fits.1
 some_set Upgrade reads writes fits = has_members reads fits.0
 some_set Nested reads writes fits = has_members writes fits.1
 
-fitting_first : (kind : Kind) (reads writes first : Set) → FitsFirst kind (union reads writes) first → first_fits kind reads writes first ≡ true
+pub fitting_first : (kind : Kind) (reads writes first : Set) → FitsFirst kind (union reads writes) first → first_fits kind reads writes first ≡ true
 fitting_first Read reads writes first fits = refl
 fitting_first Write reads writes first fits = refl
 fitting_first Mixed reads writes first fits = refl
@@ -73,7 +73,7 @@ fitting_first Upgrade reads writes first fits = refl
 fitting_first Nested reads writes first fits = fits
 
 -- and one that is both is refused by nothing
-right_request : (groups : List Set) (r : RequestFields) → IsNormal r → IsTrue (is_admitted groups r) → request_refusal groups r ≡ None
+pub right_request : (groups : List Set) (r : RequestFields) → IsNormal r → IsTrue (is_admitted groups r) → request_refusal groups r ≡ None
 right_request groups r normal admitted =
     let some = some_set r.kind r.reads r.writes normal.sets in
     let part = fitting_first r.kind r.reads r.writes r.first normal.first in
@@ -91,7 +91,7 @@ accepted_free s (event.Finish seat) comes = ap (option_map Step) comes.accepted
 accepted_free s (event.Rise seat) comes = ap (option_map Step) comes.accepted
 accepted_free s (event.Ask seat part) comes = ap (option_map Step) comes.accepted
 
-map_none : {X Y : Type 0} (f : X → Y) (o : Option X) → option_map f o ≡ None → o ≡ None
+pub map_none : {X Y : Type 0} (f : X → Y) (o : Option X) → option_map f o ≡ None → o ≡ None
 map_none f None h = refl
 map_none f (Some x) h = absurd (some_none (sym h))
 
@@ -99,7 +99,7 @@ refused_by_none : (s : LockState) (e : Event) (o : Option RequestErr) → refusa
 refused_by_none s e None h = (refl, map_none Step (refusal s e) h)
 refused_by_none s e (Some cause) h = absurd (some_none (sym h))
 
-kind_below : (q : ℕ) (kind : Kind) (reads writes first : Set) (n later : ℕ) → all_below q reads ≡ true → all_below q writes ≡ true
+pub kind_below : (q : ℕ) (kind : Kind) (reads writes first : Set) (n later : ℕ) → all_below q reads ≡ true → all_below q writes ≡ true
     → IsTrue (all_below q (normalised kind reads writes first n later).reads) × IsTrue (all_below q (normalised kind reads writes first n later).writes)
 kind_below q Read reads writes first n later a b = (a, all_below_empty q)
 kind_below q Write reads writes first n later a b = (all_below_empty q, b)

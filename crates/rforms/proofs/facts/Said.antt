@@ -78,7 +78,7 @@ clean_as whole s row w (Some line) is means room h =
       fine = fine_without_code whole s line h;
     }
 
-last_none : {X : Type 0} (a : Option X) → or_else a None ≡ None → a ≡ None
+pub last_none : {X : Type 0} (a : Option X) → or_else a None ≡ None → a ≡ None
 last_none None h = refl
 last_none (Some x) h = h
 

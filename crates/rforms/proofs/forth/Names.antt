@@ -21,18 +21,18 @@ use Rattle.rforms.proofs.lists.Places.{placed, none_due}
 use Rattle.rforms.proofs.forth.Stands.{IsNext, AllNext}
 
 -- two lists of names agree as far as a field needs them
-abbrev AgreeOn : Names → Names → Field → Type 0
+abbrev pub AgreeOn : Names → Names → Field → Type 0
 AgreeOn a b OneResource = a.resources ≡ b.resources
 AgreeOn a b OneTask = a.tasks ≡ b.tasks
 AgreeOn a b Members = a.resources ≡ b.resources
 AgreeOn a b _ = Unit {0}
 
-abbrev AgreeOnAll : Names → Names → List Field → Type 0
+abbrev pub AgreeOnAll : Names → Names → List Field → Type 0
 AgreeOnAll a b [] = Unit {0}
 AgreeOnAll a b (f ∷ fs) = AgreeOn a b f × AgreeOnAll a b fs
 
 -- then the fields say the same
-read_same : (a b : Names) (fs : List Field) (row : Row) → AgreeOnAll a b fs → read a fs row ≡ read b fs row
+pub read_same : (a b : Names) (fs : List Field) (row : Row) → AgreeOnAll a b fs → read a fs row ≡ read b fs row
 unfolding read
 read_same a b [] [] agree = refl
 read_same a b [] (x ∷ row) agree = refl

@@ -1,0 +1,9 @@
+pub mod facts
+pub mod forth
+pub mod back
+pub mod lines
+pub mod texts
+pub mod Digits
+pub mod SetNames
+pub mod Made
+pub mod Takes

@@ -1,0 +1,5 @@
+pub mod Runs
+pub mod HeadRuns
+pub mod TaskRuns
+pub mod Codes
+pub mod Rows

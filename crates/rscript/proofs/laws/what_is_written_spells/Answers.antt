@@ -1,0 +1,5 @@
+use Rattle.rscript.proofs.lines.Written.{written_spells}
+use Rattle.rscript.proofs.laws.what_is_written_spells.Goals as goal
+
+pub returns : goal.returns
+returns c = written_spells

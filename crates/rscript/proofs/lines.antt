@@ -1,0 +1,4 @@
+pub mod WordBack
+pub mod LineBack
+pub mod Written
+pub mod Decided

@@ -1,0 +1,2 @@
+pub mod OneScript
+pub mod Taken

@@ -1,0 +1,81 @@
+-- The request that the record of a section tells: its sets, its lengths, and its normal form.
+use Rattle.std.specs.Prelude.{◌≡◌, ℕ, List, Option, Some, Result, MatchResult, option_map, option_and_then}
+use Rattle.std.specs.FinSet.{empty}
+use Rattle.rset.specs.Sets.{Set}
+use Rattle.rclaim.specs.Requests.{RequestFields, IsNormal, normalised}
+use Rattle.rclaim.specs.declared.request.RequestErr.{RequestErr}
+use Rattle.rforms.specs.Events.{request_refusal}
+use Rattle.rclaim.specs.declared.request.Kind.{Kind}
+use Rattle.rclaim.specs.declared.request.Kind.TheVariants.{Read, Write, Mixed, Upgrade, Nested}
+use Rattle.rforms.specs.Records.{Row}
+use Rattle.rforms.specs.Decided.{field_of}
+use Rattle.rforms.specs.Numbers.{length_told}
+use Rattle.rforms.specs.SetFields.{set_told}
+use Rattle.rscript.specs.declared.requests.RequestSets.{RequestSets}
+use Rattle.rscript.specs.declared.requests.RequestLengths.{RequestLengths}
+
+-- these sets to read and to write, with nothing as a first part
+abbrev pub no_part : Set → Set → RequestSets
+no_part reads writes = record { reads = reads; writes = writes; first = empty }
+
+-- these sets to read and to write, with this first part
+abbrev pub with_part : Set → Set → Set → RequestSets
+with_part reads writes first = record { reads = reads; writes = writes; first = first }
+
+-- the one set of a record that names one
+abbrev pub one_set : List (List ℕ) → Row → Option RequestSets
+one_set resources fields = option_map (λ set. no_part set set) (set_told resources (field_of fields 1))
+
+-- the two sets of a record that names what is read and what is written
+abbrev pub two_sets : List (List ℕ) → Row → Option RequestSets
+two_sets resources fields =
+    option_and_then (λ reads. option_map (no_part reads) (set_told resources (field_of fields 2))) (set_told resources (field_of fields 1))
+
+-- the three sets of a record that names a first part behind them
+abbrev pub three_sets : List (List ℕ) → Row → Option RequestSets
+three_sets resources fields =
+    option_and_then (λ reads.
+    option_and_then (λ writes.
+    option_map (with_part reads writes) (set_told resources (field_of fields 3)))
+    (set_told resources (field_of fields 2)))
+    (set_told resources (field_of fields 1))
+
+-- the sets that a record of a request of this kind names
+abbrev pub request_sets : List (List ℕ) → Kind → Row → Option RequestSets
+request_sets resources Read fields = one_set resources fields
+request_sets resources Write fields = one_set resources fields
+request_sets resources Mixed fields = two_sets resources fields
+request_sets resources Upgrade fields = one_set resources fields
+request_sets resources Nested fields = three_sets resources fields
+
+-- the field with its length
+abbrev pub length_field : Kind → Row → List ℕ
+length_field Read fields = field_of fields 2
+length_field Write fields = field_of fields 2
+length_field Mixed fields = field_of fields 3
+length_field Upgrade fields = field_of fields 2
+length_field Nested fields = field_of fields 4
+
+-- its later length, which only an upgrade tells
+abbrev pub later_told : Kind → Row → Option ℕ
+later_told Read fields = Some 0
+later_told Write fields = Some 0
+later_told Mixed fields = Some 0
+later_told Upgrade fields = length_told (field_of fields 3)
+later_told Nested fields = Some 0
+
+-- both lengths
+abbrev pub request_lengths : Kind → Row → Option RequestLengths
+request_lengths kind fields =
+    option_and_then (λ len. option_map (λ later. record { len = len; later = later }) (later_told kind fields)) (length_told (length_field kind fields))
+
+-- the request of this kind with these sets and lengths, in normal form
+abbrev pub request_told : Kind → RequestSets → RequestLengths → RequestFields
+request_told kind sets lengths = normalised kind sets.reads sets.writes sets.first lengths.len lengths.later
+
+-- this is made of these sets and lengths: the request, in normal form, or what refuses it under any read groups
+abbrev pub IsMade : Kind → RequestSets → RequestLengths → Result RequestFields RequestErr → Type 0
+IsMade kind sets lengths made =
+    MatchResult made
+    (λ r. (r ≡ request_told kind sets lengths) × IsNormal r)
+    (λ cause. (groups : List Set) → request_refusal groups (request_told kind sets lengths) ≡ Some cause)

@@ -1,0 +1,101 @@
+-- What the lines before a record have said, and what each line adds to it.
+use Rattle.std.specs.Prelude.{ℕ, List, [], ◌∷◌, ◌++◌, Option, Some, None, option_map, option_to_list}
+use Rattle.rset.specs.Sets.{Set}
+use Rattle.rforms.specs.Records.{Row}
+use Rattle.rscript.specs.Statements.{section_after}
+use Rattle.rscript.specs.Lines.{Line, Opens, HasResource, HasGroup, HasTask, Does, Ends, names_of, meaning}
+use Rattle.rscript.specs.Scripts.{ScriptFields}
+use Rattle.rscript.specs.declared.place.Stand.{Stand}
+use Rattle.rscript.specs.declared.place.Where.TheVariants.{Outside, Inside, InNested, BeforeRise}
+use Rattle.rscript.specs.declared.section.Section.{Section}
+use Rattle.rscript.specs.declared.statement.Statement.{Statement}
+use Rattle.rscript.specs.declared.word.Word.{Word}
+use Rattle.rscript.specs.declared.word.Word.TheVariants as word
+
+-- ---- places: where the last line stands, in the order in which lines may stand
+
+abbrev pub at_start : ℕ
+at_start = 0
+
+abbrev pub at_version : ℕ
+at_version = 1
+
+abbrev pub at_resources : ℕ
+at_resources = 2
+
+abbrev pub at_groups : ℕ
+at_groups = 3
+
+-- behind a task, and behind its statements
+abbrev pub at_tasks : ℕ
+at_tasks = 4
+
+abbrev pub at_end : ℕ
+at_end = 5
+
+-- where a record of a word may stand
+abbrev pub stands : Word → Stand
+stands word.Version = record { least = at_start; most = at_start; inside = Outside }
+stands word.Resource = record { least = at_version; most = at_resources; inside = Outside }
+stands word.Group = record { least = at_resources; most = at_groups; inside = Outside }
+stands word.Task = record { least = at_version; most = at_tasks; inside = Outside }
+stands (word.Begin kind) = record { least = at_tasks; most = at_tasks; inside = Outside }
+stands word.Show = record { least = at_tasks; most = at_tasks; inside = Inside }
+stands word.Add = record { least = at_tasks; most = at_tasks; inside = Inside }
+stands word.Take = record { least = at_tasks; most = at_tasks; inside = Inside }
+stands word.Put = record { least = at_tasks; most = at_tasks; inside = Inside }
+stands word.Ask = record { least = at_tasks; most = at_tasks; inside = InNested }
+stands word.Rise = record { least = at_tasks; most = at_tasks; inside = BeforeRise }
+stands word.Finish = record { least = at_tasks; most = at_tasks; inside = Inside }
+stands word.End = record { least = at_version; most = at_tasks; inside = Outside }
+
+-- ---- what was said
+
+-- the place of the last line, what is declared so far, the statements of all tasks but the latest, and those of the latest
+pub record SoFar : Type 0 where
+  pub last : ℕ
+  pub resources : List (List ℕ)
+  pub groups : List Set
+  pub tasks : List (List ℕ)
+  pub earlier : List (List Statement)
+  pub latest : Option (List Statement)
+
+-- before the first line
+abbrev pub nothing_yet : SoFar
+nothing_yet = record { last = at_start; resources = []; groups = []; tasks = []; earlier = []; latest = None }
+
+-- the statements of each task so far
+abbrev pub steps_in : SoFar → List (List Statement)
+steps_in s = s.earlier ++ option_to_list s.latest
+
+-- the section that is open behind the statements of a task, where there is one
+abbrev pub section_of : Option (List Statement) → Option Section
+section_of None = None
+section_of (Some statements) = section_after statements
+
+-- what the lines so far have said as a whole
+abbrev pub told_in : SoFar → ScriptFields
+told_in s = record { resources = s.resources; groups = s.groups; tasks = s.tasks; steps = steps_in s }
+
+-- ---- what a line adds
+
+-- statements, and one more
+abbrev pub followed_by : Statement → List Statement → List Statement
+followed_by s statements = statements ++ s ∷ []
+
+-- what a line adds to what was said before it
+abbrev pub with_line : SoFar → Line → SoFar
+with_line s Opens = record s { last = at_version }
+with_line s (HasResource name) = record s { last = at_resources; resources = s.resources ++ name ∷ [] }
+with_line s (HasGroup group) = record s { last = at_groups; groups = s.groups ++ group ∷ [] }
+with_line s (HasTask name) = record s { last = at_tasks; tasks = s.tasks ++ name ∷ []; earlier = steps_in s; latest = Some [] }
+with_line s (Does done) = record s { last = at_tasks; latest = option_map (followed_by done) s.latest }
+with_line s Ends = record s { last = at_end }
+
+-- what a record adds: what the line that it says adds, if it says one
+abbrev pub with_meaning : SoFar → Option Line → SoFar
+with_meaning s None = s
+with_meaning s (Some line) = with_line s line
+
+unfoldable pub with_row : SoFar → Row → SoFar
+with_row s row = with_meaning s (meaning (names_of s.resources) row)

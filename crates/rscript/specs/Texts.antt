@@ -1,0 +1,37 @@
+-- Scripts as they are written, and what is known of a text once its records were taken.
+use Rattle.std.specs.Prelude.{◌≡◌, ℕ, Bool, List, map, Option, Some}
+use Rattle.rforms.specs.Records.{Row, AreRowsOf}
+use Rattle.rforms.specs.declared.errors.TextErr.{TextErr}
+use Rattle.rforms.specs.declared.errors.TextErr.TheVariants as text
+use Rattle.rscript.specs.Lines.{names_of, spelled}
+use Rattle.rscript.specs.Scripts.{ScriptFields, lines_of}
+use Rattle.rscript.specs.SoFar.{SoFar}
+use Rattle.rscript.specs.Faults.{code_of, is_ended, first_fault, read_all}
+use Rattle.rscript.specs.declared.code.Code.{Code}
+use Rattle.rscript.specs.declared.script.ScriptErr.{ScriptErr}
+use Rattle.rscript.specs.declared.script.ScriptErr.TheVariants as script
+
+-- the records of a script, each in its one spelling
+abbrev pub script_rows : ScriptFields → List Row
+script_rows p = map (spelled (names_of p.resources)) (lines_of p)
+
+-- what is wrong with a record behind others
+abbrev pub script_code : List Row → Row → Option Code
+script_code rows row = code_of (read_all rows) row
+
+-- the text may end behind these records
+abbrev pub is_script_done : List Row → Bool
+is_script_done rows = is_ended (read_all rows)
+
+-- what is known of these records, where it is known what they have said
+abbrev pub KnowsSaid : {T : Type 0} → (T → SoFar → Type 0) → T → List Row → Type 0
+KnowsSaid Knows taker rows = Knows taker (read_all rows)
+
+-- why a text is no script that was not taken
+abbrev pub error_of : TextErr Code → ScriptErr
+error_of (text.Bad fault) = script.Bad fault.line fault.code
+error_of text.Memory = script.Memory
+
+-- the first fault of a text, at this line
+abbrev pub IsFirstFault : List ℕ → ℕ → Code → Type 0
+IsFirstFault bytes line code = (rows : List Row) × AreRowsOf bytes rows × (first_fault rows ≡ Some (line, code))

@@ -1,0 +1,286 @@
+// The reader of a script, record by record.
+ghost use Rattle.std.specs.Prelude.{◌≡◌, ◌≢◌, ◌<◌, ◌≤◌, ◌++◌, ◌∷◌, [], ◌==◌, length, None, Some, true, false, IsTrue, OnOk, IfOk, IfErr, IfSome};
+ghost use Rattle.std.specs.FinSet.{empty};
+ghost use Rattle.csv.specs.Records.{fields_of};
+ghost use Rattle.rset.specs.Sets.{all_below};
+ghost use Rattle.rset.specs.declared.TheConstants.{RESOURCES};
+ghost use Rattle.rexpand.specs.declared.TheConstants.{GROUPS};
+ghost use Rattle.rforms.specs.Walks.{first_of};
+ghost use Rattle.rscript.specs.Words.{word_in};
+ghost use Rattle.rscript.specs.SoFar.{SoFar, nothing_yet};
+ghost use Rattle.rscript.specs.Faults.{stands_at, name_causes};
+ghost use Rattle.rscript.specs.Told.{is_statement};
+ghost use Rattle.rscript.specs.Reading.{groups_in, Knows, Adds, Closes, Takes, Refuses};
+
+use crate::faults::fault_of;
+use crate::place::{is_there, stand_of};
+use crate::section::{Section, section_after};
+use crate::sets::set_of;
+use crate::told::statement_of;
+use crate::word::Word;
+use crate::{Code, Statement};
+use csv::ByteRecord;
+use rexpand::{GROUPS, GroupErr, Groups};
+use rforms::{RowErr, field_of};
+use rset::{NameErr, NameTable, ResourceSet};
+use std::alloc::Global;
+use std::mem;
+
+/// What the records so far have said.
+#[derive(Drop)]
+pub struct Reading {
+    pub alloc: Global,
+    // The place of the last record.
+    pub last: u8,
+    pub resources: NameTable,
+    // Made at the first group or task: no resource is declared behind it.
+    pub groups: Option<Groups>,
+    pub tasks: NameTable,
+    // The statements of all tasks but the latest, and those of the latest.
+    pub steps: Vec<Vec<Statement>>,
+    pub latest: Vec<Statement>,
+    // The section that is open.
+    pub section: Option<Section>,
+}
+
+impl Reading {
+    /// Nothing was read.
+    pub fn new(alloc: Global) -> Reading
+        ensures { Knows result nothing_yet }
+    {
+        Reading {
+            alloc,
+            last: 0,
+            resources: NameTable::new(alloc),
+            groups: None,
+            tasks: NameTable::new(alloc),
+            steps: Vec::new(alloc),
+            latest: Vec::new(alloc),
+            section: None,
+        }
+    }
+
+    /// Whether a record of a word may stand here.
+    pub fn may_stand(&self, word: Word) -> bool
+        ensures { result ≡ stands_at self.now.last self.now.section word }
+    {
+        let stand = stand_of(word);
+        stand.least <= self.last && self.last <= stand.most && is_there(stand.inside, &self.section)
+    }
+
+    /// Takes a record of a word that may stand here.
+    ///
+    /// # Errors
+    ///
+    /// The first thing that is wrong with it, or want of memory.
+    pub fn take_word(&mut self, word: Word, fields: &ByteRecord) -> Result<(), RowErr<Code>>
+        requires known { (s : SoFar) × Knows self.old s }
+        requires form { word_in (fields_of fields.now) ≡ Some word }
+        requires stands { stands_at self.old.last self.old.section word ≡ true }
+        ensures taken { OnOk result (Takes self.old self.new (fields_of fields.now) word) }
+        ensures bad { (cause : Code) → result ≡ Err (RowErr.Bad cause) → Refuses self.old (fields_of fields.now) word cause }
+    {
+        match word {
+            Word::Version => self.take_version(fields),
+            Word::Resource => self.take_resource(fields),
+            Word::Group => self.take_group(fields),
+            Word::Task => self.take_task(fields),
+            Word::End => self.take_end(fields),
+            _ => self.take_statement(word, fields),
+        }
+    }
+
+    // Takes the record of the version.
+    fn take_version(&mut self, fields: &ByteRecord) -> Result<(), RowErr<Code>>
+        requires form { word_in (fields_of fields.now) ≡ Some Word.Version }
+        requires early { self.old.last ≤ 2 }
+        ensures taken { OnOk result (Takes self.old self.new (fields_of fields.now) Word.Version) }
+        ensures bad { (cause : Code) → result ≡ Err (RowErr.Bad cause) → Refuses self.old (fields_of fields.now) Word.Version cause }
+    {
+        let _ = fields;
+        self.last = 1;
+        Ok(())
+    }
+
+    // Takes a resource.
+    fn take_resource(&mut self, fields: &ByteRecord) -> Result<(), RowErr<Code>>
+        requires form { word_in (fields_of fields.now) ≡ Some Word.Resource }
+        requires early { self.old.last ≤ 2 }
+        ensures taken { OnOk result (Takes self.old self.new (fields_of fields.now) Word.Resource) }
+        ensures bad { (cause : Code) → result ≡ Err (RowErr.Bad cause) → Refuses self.old (fields_of fields.now) Word.Resource cause }
+    {
+        declare(&mut self.resources, field_of(fields, 1))?;
+        self.last = 2;
+        Ok(())
+    }
+
+    // Takes a read group.
+    fn take_group(&mut self, fields: &ByteRecord) -> Result<(), RowErr<Code>>
+        requires known { (s : SoFar) × Knows self.old s }
+        requires form { word_in (fields_of fields.now) ≡ Some Word.Group }
+        ensures taken { OnOk result (Takes self.old self.new (fields_of fields.now) Word.Group) }
+        ensures bad { (cause : Code) → result ≡ Err (RowErr.Bad cause) → Refuses self.old (fields_of fields.now) Word.Group cause }
+    {
+        if has_all_groups(&self.groups) {
+            return Err(RowErr::Bad(Code::TooMany));
+        }
+        let Some(set) = set_of(&self.resources, field_of(fields, 1)) else {
+            return Err(RowErr::Bad(Code::UnknownName));
+        };
+        if set.is_empty() {
+            return Err(RowErr::Bad(Code::EmptyGroup));
+        }
+        add_group(self.alloc, &mut self.groups, self.resources.len(), set)?;
+        self.last = 3;
+        Ok(())
+    }
+
+    // Takes a task.
+    fn take_task(&mut self, fields: &ByteRecord) -> Result<(), RowErr<Code>>
+        requires known { (s : SoFar) × Knows self.old s }
+        requires form { word_in (fields_of fields.now) ≡ Some Word.Task }
+        requires closed { self.old.section ≡ None }
+        ensures taken { OnOk result (Takes self.old self.new (fields_of fields.now) Word.Task) }
+        ensures bad { (cause : Code) → result ≡ Err (RowErr.Bad cause) → Refuses self.old (fields_of fields.now) Word.Task cause }
+    {
+        let q = self.resources.len();
+        if q == 0 {
+            return Err(RowErr::Bad(Code::NoResources));
+        }
+        let first = self.tasks.len() == 0;
+        declare(&mut self.tasks, field_of(fields, 1))?;
+        make_groups(self.alloc, &mut self.groups, q)?;
+        self.close_task(first)?;
+        self.last = 4;
+        Ok(())
+    }
+
+    // Keeps the statements of the latest task with those of the tasks before it, unless there is none.
+    fn close_task(&mut self, none: bool) -> Result<(), RowErr<Code>>
+        ensures ok { OnOk result (Closes none self.old self.new) }
+        ensures memory { IfErr result (λ e. e ≡ RowErr.Memory) }
+    {
+        if none {
+            return Ok(());
+        }
+        let latest = mem::replace(&mut self.latest, Vec::new(self.alloc));
+        match self.steps.push(latest) {
+            Ok(()) => Ok(()),
+            Err(_) => Err(RowErr::Memory),
+        }
+    }
+
+    // Takes the end.
+    fn take_end(&mut self, fields: &ByteRecord) -> Result<(), RowErr<Code>>
+        requires form { word_in (fields_of fields.now) ≡ Some Word.End }
+        ensures taken { OnOk result (Takes self.old self.new (fields_of fields.now) Word.End) }
+        ensures bad { (cause : Code) → result ≡ Err (RowErr.Bad cause) → Refuses self.old (fields_of fields.now) Word.End cause }
+    {
+        let _ = fields;
+        if self.resources.len() == 0 {
+            return Err(RowErr::Bad(Code::NoResources));
+        }
+        if self.tasks.len() == 0 {
+            return Err(RowErr::Bad(Code::NoTask));
+        }
+        self.last = 5;
+        Ok(())
+    }
+
+    // Takes a statement of the latest task.
+    fn take_statement(&mut self, word: Word, fields: &ByteRecord) -> Result<(), RowErr<Code>>
+        requires form { word_in (fields_of fields.now) ≡ Some word }
+        requires kind { is_statement word ≡ true }
+        requires behind { self.old.last ≡ 4 }
+        ensures taken { OnOk result (Takes self.old self.new (fields_of fields.now) word) }
+        ensures bad { (cause : Code) → result ≡ Err (RowErr.Bad cause) → Refuses self.old (fields_of fields.now) word cause }
+    {
+        match statement_of(&self.resources, word, fields) {
+            Err(code) => Err(RowErr::Bad(code)),
+            Ok(statement) => match fault_of(&self.groups, &self.section, &statement) {
+                Some(code) => Err(RowErr::Bad(code)),
+                None => self.add(statement),
+            },
+        }
+    }
+
+    // Keeps a statement of the latest task.
+    fn add(&mut self, statement: Statement) -> Result<(), RowErr<Code>>
+        ensures ok { OnOk result (Adds self.old self.new statement) }
+        ensures memory { IfErr result (λ e. e ≡ RowErr.Memory) }
+    {
+        self.section = section_after(self.section, &statement);
+        match self.latest.push(statement) {
+            Ok(()) => Ok(()),
+            Err(_) => Err(RowErr::Memory),
+        }
+    }
+}
+
+// Adds a declared name to its table.
+fn declare(table: &mut NameTable, name: &[u8]) -> Result<(), RowErr<Code>>
+    ensures ok { OnOk result ((first_of (name_causes RESOURCES table.old name.now) ≡ None) × (table.new ≡ table.old ++ name.now ∷ [])) }
+    ensures bad { (cause : Code) → result ≡ Err (RowErr.Bad cause) → first_of (name_causes RESOURCES table.old name.now) ≡ Some cause }
+{
+    match table.add(name) {
+        Ok(_) => Ok(()),
+        Err(NameErr::BadName) => Err(RowErr::Bad(Code::BadName)),
+        Err(NameErr::Repeated) => Err(RowErr::Bad(Code::Repeated)),
+        Err(NameErr::TooMany) => Err(RowErr::Bad(Code::TooMany)),
+        Err(NameErr::Memory) => Err(RowErr::Memory),
+    }
+}
+
+// Whether there are as many groups as there may be.
+fn has_all_groups(groups: &Option<Groups>) -> bool
+    ensures { result ≡ (length (groups_in groups.now) == GROUPS) }
+{
+    match groups {
+        Some(groups) => groups.len() == GROUPS,
+        None => false,
+    }
+}
+
+// Makes the groups, if they are not there: all resources are declared by now.
+fn make_groups(alloc: Global, groups: &mut Option<Groups>, q: u8) -> Result<(), RowErr<Code>>
+    requires some { 1 ≤ q }
+    requires few { q ≤ RESOURCES }
+    requires over { IfSome groups.old (λ g. g.q ≡ q) }
+    ensures made { OnOk result (groups.new ≡ Some (record { q = q; groups = groups_in groups.old })) }
+    ensures memory { IfErr result (λ e. e ≡ RowErr.Memory) }
+{
+    if groups.is_none() {
+        let Ok(made) = Groups::new(alloc, q) else {
+            return Err(RowErr::Memory);
+        };
+        *groups = Some(made);
+    }
+    Ok(())
+}
+
+// Adds a group behind the others.
+fn add_group(
+    alloc: Global,
+    groups: &mut Option<Groups>,
+    q: u8,
+    set: ResourceSet,
+) -> Result<(), RowErr<Code>>
+    requires some { 1 ≤ q }
+    requires few { q ≤ RESOURCES }
+    requires over { IfSome groups.old (λ g. g.q ≡ q) }
+    requires below { IsTrue (all_below q set) }
+    requires member { set ≢ empty }
+    requires room { length (groups_in groups.old) ≢ GROUPS }
+    ensures added { OnOk result (groups.new ≡ Some (record { q = q; groups = groups_in groups.old ++ set ∷ [] })) }
+    ensures memory { IfErr result (λ e. e ≡ RowErr.Memory) }
+{
+    make_groups(alloc, groups, q)?;
+    let Some(groups) = groups else {
+        return Err(RowErr::Memory);
+    };
+    match groups.declare(set) {
+        Ok(()) => Ok(()),
+        // The set has a member, and there is room.
+        Err(GroupErr::Memory | GroupErr::EmptyGroup | GroupErr::TooMany) => Err(RowErr::Memory),
+    }
+}

@@ -1,0 +1,141 @@
+// A script, and how it is read.
+ghost use Rattle.std.specs.Prelude.{◌≡◌, ◌<◌, ℕ, Some, IfOk, IfErr, length, slice_get};
+ghost use Rattle.rscript.specs.Scripts.{IsScript, IsTextOf};
+ghost use Rattle.rscript.specs.SoFar.{SoFar, told_in};
+ghost use Rattle.rscript.specs.Texts.{error_of, IsFirstFault};
+ghost use Rattle.rscript.specs.Reading.{Knows};
+
+use crate::reading::Reading;
+use crate::{Code, Statement};
+use rexpand::Groups;
+use rforms::{TextErr, take_text};
+use rset::NameTable;
+use std::alloc::Global;
+use std::marker::Model;
+
+/// Why a text was not read as a script.
+#[derive(Clone, Copy, Debug, PartialEq, Eq)]
+pub enum ScriptErr {
+    /// It spells no script: its first faulty record, counted from 1, has this fault.
+    Bad { line: u64, code: Code },
+    /// Memory ran out.
+    Memory,
+}
+
+/// A script: what it declares, and what each task does. It spells out as a script without a fault.
+#[derive(Drop)]
+pub struct Script {
+    resources: NameTable,
+    groups: Groups,
+    tasks: NameTable,
+    steps: Vec<Vec<Statement>>,
+}
+
+impl Model for Script {
+    ghost use Rattle.std.specs.Prelude.{◌≡◌, length};
+    ghost use Rattle.rscript.specs.Scripts.{ScriptFields, IsScript};
+    ghost use Rattle.rscript.specs.ScriptCodes.{script_code};
+    ghost use Rattle.rscript.specs.Reading.{statements_in};
+
+    ghost Value = { ScriptFields };
+
+    ghost coded = { script_code };
+
+    ghost view = { λ a. record { resources = a.resources; groups = a.groups.groups; tasks = a.tasks; steps = statements_in a.steps.items } };
+
+    ghost invariant = { λ a. (a.groups.q ≡ length a.resources)
+        × IsScript (record { resources = a.resources; groups = a.groups.groups; tasks = a.tasks; steps = statements_in a.steps.items }) };
+}
+
+impl Script {
+    /// Its resources.
+    pub fn resources(&self) -> &NameTable
+        ensures value { result.now ≡ self.now.resources }
+        ensures script { IsScript self.now }
+    {
+        &self.resources
+    }
+
+    /// Its read groups, over its resources.
+    pub fn groups(&self) -> &Groups
+        ensures { result.now ≡ record { q = length self.now.resources; groups = self.now.groups } }
+    {
+        &self.groups
+    }
+
+    /// Its tasks.
+    pub fn tasks(&self) -> &NameTable
+        ensures value { result.now ≡ self.now.tasks }
+        ensures script { IsScript self.now }
+    {
+        &self.tasks
+    }
+
+    /// The statements of a task, section by section.
+    pub fn steps(&self, task: u8) -> &[Statement]
+        requires { task < length self.now.tasks }
+        ensures steps { slice_get self.now.steps task ≡ Some result.now }
+        ensures script { IsScript self.now }
+    {
+        self.steps[usize::from(task)].as_slice()
+    }
+
+    // The script that a reader has read.
+    fn of(reading: Reading) -> Result<Script, ScriptErr>
+        requires { (s : SoFar) × Knows reading s × IsScript (told_in s) }
+        ensures said { IfOk result (λ script. (s : SoFar) → Knows reading s → script ≡ told_in s) }
+        ensures memory { IfErr result (λ e. e ≡ ScriptErr.Memory) }
+    {
+        let Reading {
+            alloc: _,
+            last: _,
+            resources,
+            groups,
+            tasks,
+            mut steps,
+            latest,
+            section: _,
+        } = reading;
+        let Some(groups) = groups else {
+            return Err(ScriptErr::Memory);
+        };
+        let Ok(()) = steps.push(latest) else {
+            return Err(ScriptErr::Memory);
+        };
+        Ok(Script {
+            resources,
+            groups,
+            tasks,
+            steps,
+        })
+    }
+}
+
+/// Reads a script.
+///
+/// # Errors
+///
+/// The first faulty record of a text that spells no script, with the first of its codes; or want of memory.
+pub fn read_script(alloc: Global, bytes: &[u8]) -> Result<Script, ScriptErr>
+    ensures script { IfOk result (IsTextOf bytes.now) }
+    ensures bad { (line : ℕ) (code : Code) → result ≡ Err (ScriptErr.Bad line code) → IsFirstFault bytes.now line code }
+{
+    let mut reading = Reading::new(alloc);
+    match take_text(alloc, bytes, &mut reading) {
+        Ok(()) => Script::of(reading),
+        Err(e) => Err(error_of(e)),
+    }
+}
+
+// Why a text is no script that was not taken.
+fn error_of(e: TextErr<Code>) -> ScriptErr
+    ensures { result ≡ error_of e }
+{
+    match e {
+        TextErr::Bad(fault) => ScriptErr::Bad {
+            line: fault.line,
+            code: fault.code,
+        },
+        TextErr::Memory => ScriptErr::Memory,
+    }
+}
