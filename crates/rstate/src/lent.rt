@@ -1,5 +1,5 @@
 // What is lent to a seat, outside of the state.
-ghost use Rattle.std.specs.Prelude.{◌≡◌, ◌<◌, IfOk, IsSome, Some, [], length, option_copied, option_map};
+ghost use Rattle.std.specs.Prelude.{◌≡◌, ◌+◌, ◌<◌, ◌≤◌, IfOk, OnOk, IsSome, Some, [], length, option_copied, option_map};
 ghost use Rattle.rstate.specs.Lent.{at_place, index_of, replaced, lent_value};
 
 use crate::Shares;
@@ -78,6 +78,20 @@ impl<T: Drop> Lent<T> {
         let reads = Vec::with_capacity(alloc, n)?;
         let writes = Vec::with_capacity(alloc, n)?;
         Ok(Lent { reads, writes })
+    }
+
+    /// Makes room for `n` more resources of each kind. What is lent stays as it is.
+    ///
+    /// # Errors
+    ///
+    /// Want of memory.
+    pub fn reserve(&mut self, n: usize) -> Result<(), AllocError>
+        ensures reads { self.new.reads ≡ self.old.reads }
+        ensures writes { self.new.writes ≡ self.old.writes }
+        ensures ok { OnOk result ((length self.new.reads + n ≤ self.new.reads_room) × (length self.new.writes + n ≤ self.new.writes_room)) }
+    {
+        self.reads.reserve(n)?;
+        self.writes.reserve(n)
     }
 
     /// Puts other shares in the place of those of a resource of which all are lent. No memory is taken.

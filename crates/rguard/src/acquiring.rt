@@ -1,0 +1,56 @@
+//! Waiting until a wait is over.
+ghost use Rattle.std.specs.Prelude.{◌≡◌, true, [], IfOk, IfErr};
+ghost use Rattle.rguard.specs.Seats.{IsOf, IsIdle, SuitsSeat, Goes, bare};
+ghost use Rattle.rguard.specs.Looks.{HasAwaited, HasAcquired, fields_of};
+
+use crate::guard::Guard;
+use crate::lock::{Lock, Seat};
+use crate::pending::{Looked, Pending};
+use rclaim::Request;
+use rmodel::Machine;
+use rstate::State;
+use rvalue::Editable;
+use std::alloc::{AllocError, Global};
+use std::sync::Wait;
+
+impl<T: Editable, M: Machine> Lock<State<T, M>> {
+    /// A seat issues a request, and waits until nothing of it is pending: looks and rests in turn.
+    ///
+    /// # Errors
+    ///
+    /// Want of memory. Nothing was issued then, and the seat comes back.
+    pub fn acquire<'a, R: Wait>(
+        &'a self,
+        rt: &R,
+        alloc: Global,
+        seat: Seat<T, M>,
+        request: Request,
+    ) -> Result<Guard<'a, T, M>, (Seat<T, M>, AllocError)>
+        requires of { IsOf self.now seat }
+        requires idle { IsIdle seat }
+        requires suits { SuitsSeat seat request }
+        ensures ok { IfOk result (HasAcquired self.entry.now seat request) }
+        ensures err { IfErr result (λ e. Goes seat [] e.0) }
+        ensures idle { IfErr result (λ e. IsIdle e.0) }
+    {
+        let pending = self.begin(rt, alloc, seat, request)?;
+        Ok(wait_for(rt, pending))
+    }
+}
+
+/// Looks and rests until the wait is over.
+pub(crate) fn wait_for<'a, R: Wait, T: Editable, M: Machine>(
+    rt: &R,
+    pending: Pending<'a, T, M>,
+) -> Guard<'a, T, M>
+    ensures { HasAwaited pending.entry result }
+{
+    let mut waiting = pending;
+    for _ in rt.forever() {
+        match waiting.look(rt) {
+            Looked::Ready(guard) => return guard,
+            Looked::NotYet(next) => waiting = next.rest(rt),
+        }
+    }
+    unreachable!()
+}

@@ -1,0 +1,67 @@
+//! The end of a runtime.
+ghost use Rattle.std.specs.Prelude.{◌≡◌, ℕ, ◌<◌, Some, All, Any, length, slice_get, map};
+ghost use mathlib.Core.List.{IsPrefix};
+ghost use Rattle.std.specs.Arc.{arc_value};
+ghost use Rattle.rclaim.specs.Events.{seat_of};
+ghost use Rattle.rlock.specs.Known.{entries_by};
+ghost use Rattle.rvalue.specs.Histories.{value_of};
+ghost use Rattle.rstate.specs.Histories.{Beginning, IsLawfulFrom};
+ghost use Rattle.rguard.specs.Seats.{IsOf, IsIdle};
+ghost use Rattle.rguard.specs.Closing.{IsClosedBy};
+
+use crate::lock::{Lock, Rnlp, Seat};
+use rmodel::Machine;
+use rstate::State;
+use rvalue::{Editable, History};
+use std::alloc::Global;
+use std::marker::Model;
+use std::snapshot::Snapshot;
+use std::sync::Arc;
+
+/// That a runtime was closed which kept these entries. Only the closing of a runtime makes one, and it cannot be copied.
+///
+/// Contracts see it as the list of the entries.
+#[derive(Drop)]
+pub struct Receipt<E> {
+    list: Snapshot<History<E>>,
+}
+
+impl<E> Model for Receipt<E> {
+    ghost use Rattle.std.specs.Prelude.{List};
+    ghost use Rattle.std.specs.Coded.{coded_list};
+    ghost use Rattle.rvalue.specs.Entries.{EntryFields, entry_code};
+
+    ghost Value = { List (EntryFields E) };
+
+    ghost coded = { coded_list (entry_code E.code) };
+
+    ghost view = { λ a. a.list.value.entries };
+}
+
+/// What a closed runtime leaves: its history, a share of the value of each resource, and the receipt.
+pub type Closed<T> = (
+    History<<T as Editable>::Edit>,
+    Vec<Arc<T, Global>>,
+    Receipt<<T as Editable>::Edit>,
+);
+
+impl<T: Editable, M: Machine> Lock<State<T, M>> {
+    /// Closes the runtime with all of its seats, each of which is idle. No memory is taken.
+    ///
+    /// The history is lawful from the beginning, begins with what each seat has seen, and has just what each seat has made as its entries. The values
+    /// are those that the history makes.
+    pub fn close(self, seats: Vec<Seat<T, M>>) -> Closed<T>
+        requires of { All (λ seat. IsOf self seat) seats.items }
+        requires idle { All (λ seat. IsIdle seat) seats.items }
+        requires all { (n : ℕ) → n < self.passes → Any (λ seat. seat.number ≡ n) seats.items }
+        ensures seats { All (λ seat. IsClosedBy T.after T.taken T.number result.0.entries (map arc_value result.1.items) seat) seats.items }
+        ensures receipt { result.2 ≡ result.0.entries }
+    {
+        let Lock { gate, seats: _ } = self;
+        let state = gate.close(seats);
+        let _ = state.history();
+        let (history, values) = state.into_parts();
+        let list = Snapshot::of(&history);
+        (history, values, Receipt { list })
+    }
+}

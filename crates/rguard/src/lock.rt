@@ -1,0 +1,68 @@
+//! The runtime of a lock: the locked state behind a gate.
+ghost use Rattle.std.specs.Prelude.{◌≡◌, ℕ, ◌<◌, ◌≤◌, [], IfOk, Some, All, length, replicate, slice_get};
+ghost use Rattle.rmodel.specs.Holds.{nothing};
+ghost use Rattle.rlock.specs.Known.{newcomer};
+ghost use Rattle.rstate.specs.Histories.{Beginning};
+ghost use Rattle.rguard.specs.Seats.{IsOf, IsIdle};
+
+use rlock::{Gate, Kept, Pass};
+use rmodel::Machine;
+use rstate::State;
+use rvalue::Editable;
+use std::alloc::{AllocError, Global};
+use std::marker::Model;
+
+/// A state behind a gate, which threads may share. Contracts see which gate it is, and the number of its passes.
+#[derive(Drop)]
+pub struct Lock<S: Kept> {
+    pub(crate) gate: Gate<S>,
+    pub(crate) seats: u8,
+}
+
+impl<S: Kept> Model for Lock<S> {
+    ghost use Rattle.std.specs.Prelude.{◌≡◌, ◌<◌};
+    ghost use Rattle.rlock.specs.Known.{Site};
+
+    ghost Value = { Site };
+
+    ghost view = { λ a. a.gate };
+
+    ghost invariant = { λ a. (a.seats ≡ a.gate.passes) × (0 < a.seats) };
+}
+
+/// A runtime of reader and writer locks over many resources: the locked state behind a gate.
+pub type Rnlp<T, M> = Lock<State<T, M>>;
+
+/// A seat at a runtime: a right to issue requests there, one after another. It is a pass at the gate, so whoever has it in hand has no
+/// turn.
+pub type Seat<T, M> = Pass<State<T, M>>;
+
+impl<T: Editable, M: Machine> Lock<State<T, M>> {
+    /// A runtime over a machine at which nothing was done, with a value for each resource, and its seats, numbered from 0 in order.
+    /// No seat has seen or made anything.
+    ///
+    /// # Errors
+    ///
+    /// Want of memory. Machine and values are dropped then.
+    pub fn new(
+        alloc: Global,
+        machine: M,
+        values: Vec<T>,
+        seats: u8,
+    ) -> Result<(Rnlp<T, M>, Vec<Seat<T, M>>), AllocError>
+        requires claims { (M.state machine).claims ≡ [] }
+        requires issued { (M.state machine).issued ≡ 0 }
+        requires values { length values.items ≡ (M.state machine).groups.q }
+        requires seats { seats ≡ (M.state machine).seats }
+        requires cap { seats ≤ (M.state machine).cap }
+        ensures count { IfOk result (λ r. (r.0.passes ≡ seats) × (length r.1.items ≡ seats)) }
+        ensures seats { IfOk result (λ r. All (λ seat. IsOf r.0 seat × IsIdle seat) r.1.items) }
+        ensures each { IfOk result (λ r. (k : ℕ) → k < seats → slice_get r.1.items k ≡ Some (let began : Beginning T = record { groups = (M.state machine).groups; seats = (M.state machine).seats; cap = (M.state machine).cap; values = values.items } in
+            newcomer r.0.gate k began (record { beginning = began; entries = []; taken = replicate (M.state machine).seats nothing }))) }
+    {
+        let _ = machine.seats();
+        let state = State::new(alloc, machine, values)?;
+        let (gate, all) = Gate::new(alloc, state, seats)?;
+        Ok((Lock { gate, seats }, all))
+    }
+}

@@ -1,0 +1,194 @@
+//! Waits for a guard.
+ghost use Rattle.std.specs.Prelude.{◌≡◌, [], IfOk, IfErr};
+ghost use Rattle.rguard.specs.Seats.{IsOf, IsIdle, SuitsSeat, Goes};
+ghost use Rattle.rguard.specs.Awaiting.{awaited_kind, HasNext, no_loans};
+ghost use Rattle.rguard.specs.Guards.{HasBegun, kind_for};
+ghost use Rattle.rguard.specs.Sections.{Waits, waiting};
+ghost use Rattle.rguard.specs.Looks.{LooksAt};
+
+use crate::guard::{Guard, guard_of};
+use crate::kind::{Awaited, room_for_all};
+use crate::lock::{Lock, Rnlp, Seat};
+use crate::section::Section;
+use rclaim::{Kind, Request};
+use rmodel::Machine;
+use rstate::{Lent, State};
+use rvalue::Editable;
+use std::alloc::{AllocError, Global};
+use std::marker::Model;
+use std::sync::Wait;
+
+/// A request that was issued, or asks for more, and for which its seat waits. It must be spent.
+pub struct Pending<'a, T: Editable, M: Machine> {
+    pub(crate) section: Section<'a, T, M>,
+    pub(crate) awaited: Awaited<T>,
+}
+
+impl<'a, T: Editable, M: Machine> Model for Pending<'a, T, M> {
+    ghost use Rattle.rguard.specs.Awaiting.{awaited_kind, HasNext};
+    ghost use Rattle.rguard.specs.Guards.{WaitFields};
+    ghost use Rattle.rguard.specs.Sections.{Waits, waiting};
+    ghost use Rattle.std.specs.Coded.{codes};
+    ghost use Rattle.rclaim.specs.Codes.{set_code};
+
+    ghost Value = { WaitFields T T.Edit };
+
+    ghost coded = { Prim.hlevel (codes, set_code) };
+
+    ghost view = { λ a. waiting a.section (awaited_kind a.awaited) };
+
+    ghost invariant = { λ a. Waits T.after T.taken T.number (awaited_kind a.awaited) a.section × HasNext a.awaited };
+}
+
+/// What a look at a wait gives.
+pub enum Looked<'a, T: Editable, M: Machine> {
+    /// Nothing of the seat is pending.
+    Ready(Guard<'a, T, M>),
+    /// Something is, and the seat waits still.
+    NotYet(Pending<'a, T, M>),
+}
+
+impl<T: Editable, M: Machine> Lock<State<T, M>> {
+    /// A seat issues a request, in one turn, and waits for it. All room is made before: a look takes no memory.
+    ///
+    /// # Errors
+    ///
+    /// Want of memory. Nothing was issued then, and the seat comes back.
+    pub fn begin<'a, R: Wait>(
+        &'a self,
+        rt: &R,
+        alloc: Global,
+        seat: Seat<T, M>,
+        request: Request,
+    ) -> Result<Pending<'a, T, M>, (Seat<T, M>, AllocError)>
+        requires of { IsOf self.now seat }
+        requires idle { IsIdle seat }
+        requires suits { SuitsSeat seat request }
+        ensures ok { IfOk result (HasBegun self.entry.now seat request) }
+        ensures err { IfErr result (λ e. Goes seat [] e.0) }
+        ensures idle { IfErr result (λ e. IsIdle e.0) }
+    {
+        match rooms(alloc, request.kind()) {
+            Ok((lent, awaited)) => self.issue(rt, alloc, seat, request, lent, awaited),
+            Err(e) => Err((seat, e)),
+        }
+    }
+
+    // The same, with room for what the seat is going to be lent.
+    fn issue<'a, R: Wait>(
+        &'a self,
+        rt: &R,
+        alloc: Global,
+        seat: Seat<T, M>,
+        request: Request,
+        lent: Lent<T>,
+        awaited: Awaited<T>,
+    ) -> Result<Pending<'a, T, M>, (Seat<T, M>, AllocError)>
+        requires of { IsOf self.now seat }
+        requires idle { IsIdle seat }
+        requires suits { SuitsSeat seat request }
+        requires room { lent ≡ no_loans }
+        requires kind { awaited_kind awaited ≡ kind_for request.kind }
+        requires next { HasNext awaited }
+        ensures ok { IfOk result (HasBegun self.entry.now seat request) }
+        ensures err { IfErr result (λ e. Goes seat [] e.0) }
+        ensures idle { IfErr result (λ e. IsIdle e.0) }
+    {
+        let number = seat.number();
+        let mut turn = self.gate.enter(rt, seat);
+        let state = turn.state();
+        let _ = state.history();
+        let _ = state.machine();
+        match state.issue(number, request) {
+            Ok(()) => {
+                let _ = state.history();
+                let section = Section {
+                    lock: self,
+                    seat: self.gate.leave(turn),
+                    lent,
+                    own: Vec::new(alloc),
+                    acts: Vec::new(alloc),
+                };
+                Ok(Pending { section, awaited })
+            }
+            Err(e) => Err((self.gate.leave(turn), e)),
+        }
+    }
+}
+
+impl<'a, T: Editable, M: Machine> Pending<'a, T, M> {
+    /// Lends the seat that waits. It has no turn. No memory is taken.
+    pub fn seat(&self) -> &Seat<T, M>
+        ensures { result.now ≡ self.now.seat }
+    {
+        &self.section.seat
+    }
+
+    /// Looks, in one turn, whether nothing of the seat is pending. No memory is taken.
+    pub fn look<R: Wait>(self, rt: &R) -> Looked<'a, T, M>
+        ensures { LooksAt self.entry result }
+    {
+        let Pending { section, awaited } = self;
+        section.look(rt, awaited)
+    }
+
+    /// Rests between two looks.
+    pub fn rest<R: Wait>(self, rt: &R) -> Pending<'a, T, M>
+        ensures { result ≡ self.entry }
+    {
+        let _ = rt;
+        self
+    }
+}
+
+impl<'a, T: Editable, M: Machine> Section<'a, T, M> {
+    // Looks at the wait of the section for this.
+    fn look<R: Wait>(self, rt: &R, awaited: Awaited<T>) -> Looked<'a, T, M>
+        requires waits { Waits T.after T.taken T.number (awaited_kind awaited) self }
+        requires next { HasNext awaited }
+        ensures { LooksAt (waiting self.entry (awaited_kind awaited)) result }
+    {
+        let Section {
+            lock,
+            seat,
+            mut lent,
+            own,
+            acts,
+        } = self;
+        let number = seat.number();
+        let mut turn = lock.gate.enter(rt, seat);
+        let state = turn.state();
+        let _ = state.history();
+        if state.ready(number) {
+            state.take(number, &mut lent);
+            let section = Section {
+                lock,
+                seat: lock.gate.leave(turn),
+                lent,
+                own,
+                acts,
+            };
+            Looked::Ready(guard_of(awaited, section))
+        } else {
+            let section = Section {
+                lock,
+                seat: lock.gate.leave(turn),
+                lent,
+                own,
+                acts,
+            };
+            Looked::NotYet(Pending { section, awaited })
+        }
+    }
+}
+
+// All room for a request of this kind.
+fn rooms<T: Drop>(alloc: Global, kind: Kind) -> Result<(Lent<T>, Awaited<T>), AllocError>
+    ensures lent { IfOk result (λ r. r.0 ≡ no_loans) }
+    ensures kind { IfOk result (λ r. awaited_kind r.1 ≡ kind_for kind) }
+    ensures next { IfOk result (λ r. HasNext r.1) }
+{
+    let lent = room_for_all(alloc)?;
+    let awaited = Awaited::by(alloc, kind)?;
+    Ok((lent, awaited))
+}
