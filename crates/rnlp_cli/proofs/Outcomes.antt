@@ -1,67 +1,57 @@
 -- How a command ended, from how its parts ended.
-use Rattle.std.proofs.Common.{◌≡◌, ℕ, List, [], ◌∷◌, ◌++◌, map, Option, Some, sym, ap, ◌∙◌}
-use Rattle.rrecords.specs.Records.{Row, AreRowsOf}
-use Rattle.std.proofs.lemmas.Grind.{flat_map-append}
-use Rattle.rreport.specs.Lines.{line, lines_of}
-use Rattle.rrecords.specs.Heads.{opening_of}
-use Rattle.rrecords.specs.Lists.{Listed, IsEventList, end_row}
-use Rattle.rreport.specs.Report.{ledger_row, written_head, report_text, report_around, kept_head, Keeps}
-use Rattle.rreport.specs.History.{history_rows}
-use Rattle.rreport.specs.declared.list.EventList.{EventList}
-use Rattle.rnlp_cli.specs.Outputs.{IsOutput}
+use Rattle.std.proofs.Common.{◌≡◌, ℕ, Bool, true, false, List, Option, Some, None, sym, subst, ◌∙◌}
+use Rattle.csv.specs.Reading.{default_config, strip_bom}
+use Rattle.csv.specs.declared.parser.State.TheVariants as st
+use Rattle.rforms.specs.Records.{Row}
+use Rattle.rforms.specs.Faults.{first_fault}
+use Rattle.rforms.specs.Reports.{Report}
+use Rattle.rforms.specs.Takers.{IsFirstFault}
+use Rattle.rforms.specs.Texts.{IsTextOf}
+use Rattle.rforms.specs.declared.fault.Code.{Code}
+use Rattle.rforms.specs.declared.fault.Fault.{Fault}
+use Rattle.rforms.proofs.back.Rows.{spelled_clean}
+use Rattle.rforms.proofs.texts.Records.{rows_unique}
+use Rattle.rnlp_cli.specs.Outputs.{IsOutput, IsFault}
 use Rattle.rnlp_cli.specs.Writing.{IsWritten, IsAnswer, IsRefused}
-use Rattle.rrecords.specs.declared.fault.Fault.{Fault}
 use Rattle.rnlp_cli.specs.declared.words.Command.{Command}
-use Rattle.rnlp_cli.specs.declared.words.Command.TheVariants.{Replay}
+use Rattle.rnlp_cli.specs.declared.words.Command.TheVariants.{Replay, Audit}
 use Rattle.rnlp_cli.specs.declared.status.ToolStatus.{ToolStatus}
-use Rattle.rtrace.specs.Place.{IsFirstFault}
-use Rattle.rtrace.proofs.Faulty.{spells_none}
 use Rattle.rnlp_cli.specs.declared.status.ToolStatus.TheVariants as status
 
+some_none : {A : Type 0} (x : A) → Some x ≡ None → ⊥
+some_none x e = cc
+
+-- a text with a fault spells nothing
+spells_none : (whole : Bool) (bytes : List ℕ) (fault : Fault Code) (report : Report) → IsFirstFault whole bytes fault → IsTextOf whole bytes report → ⊥
+spells_none whole bytes fault report first spelled =
+    let same = rows_unique default_config st.StartRecord (strip_bom bytes) spelled.0 first.0 spelled.1 first.1 in
+    some_none _ (sym first.2 ∙ subst (λ (rows : List Row). first_fault whole rows ≡ None) same (spelled_clean whole spelled.0 report spelled.2).0)
+
 -- an input with a fault has no output
-no_output : (bytes : List ℕ) (fault : Fault) → IsFirstFault bytes fault → (text : List ℕ) → IsOutput (Some Replay) bytes text → ⊥
-no_output bytes fault first text (list, spelled, is) = spells_none bytes fault first list spelled
+no_output : (command : Command) (bytes : List ℕ) (fault : Fault Code) → IsFault (Some command) bytes fault → (text : List ℕ) → IsOutput (Some command) bytes text → ⊥
+no_output Replay bytes fault first text out = spells_none false bytes fault out.0 first out.1
+no_output Audit bytes fault first text out = spells_none true bytes fault out.0 first out.1
 
--- the report of a list, from its parts
-around_is : (kept : EventList) (list : Listed) → Keeps kept list → report_around (kept_head kept) kept.history.items ≡ report_text list
-around_is kept list keeps =
-    (λ i. report_around (keeps.head i) (keeps.history i))
-    ∙ ap (λ xs. lines_of (written_head list.head) ++ xs) (sym (flat_map-append line history (ledgers ++ end_row ∷ [])))
-    ∙ sym (flat_map-append line (written_head list.head) (history ++ (ledgers ++ end_row ∷ [])))
-  where
-    history : List Row
-    history = history_rows list.head (opening_of list.head) list.events
+-- an output that was written
+pub written : (command : Command) (bytes text : List ℕ) (before after : Option (List ℕ)) (quiet failed same : Type 0) (s : ToolStatus)
+    → IsOutput (Some command) bytes text → IsWritten text before after quiet failed same s → IsAnswer (Some command) bytes before after quiet failed same s
+written command bytes text before after quiet failed same status.Done out h = (h.0, text, out, h.1)
+written command bytes text before after quiet failed same status.WriteFault out h = (h.0, text, out, h.1)
+written command bytes text before after quiet failed same status.NoMemory out h = h
+written command bytes text before after quiet failed same status.Trace out h = absurd h
+written command bytes text before after quiet failed same status.Words out h = absurd h
+written command bytes text before after quiet failed same status.ReadFault out h = absurd h
+written command bytes text before after quiet failed same status.Script out h = absurd h
+written command bytes text before after quiet failed same status.TooLong out h = absurd h
 
-    ledgers : List Row
-    ledgers = map (λ name. ledger_row name 0 0) list.head.resources
-
--- the report of what was kept of the list that the bytes spell
-pub reported : (bytes : List ℕ) (kept : EventList) (before after : Option (List ℕ)) (quiet failed same : Type 0) (s : ToolStatus)
-    → (list : Listed) × (rows : List Row) × AreRowsOf bytes rows × IsEventList rows list × Keeps kept list
-    → IsWritten (report_around (kept_head kept) kept.history.items) before after quiet failed same s → IsAnswer (Some Replay) bytes before after quiet failed same s
-reported bytes kept before after quiet failed same status.Done (list, rows, are, spelled, keeps) h =
-    (h.0, report_around (kept_head kept) kept.history.items, (list, (rows, are, spelled), around_is kept list keeps), h.1)
-reported bytes kept before after quiet failed same status.WriteFault (list, rows, are, spelled, keeps) h =
-    (h.0, report_around (kept_head kept) kept.history.items, (list, (rows, are, spelled), around_is kept list keeps), h.1)
-reported bytes kept before after quiet failed same status.NoMemory found h = h
-reported bytes kept before after quiet failed same status.Trace found h = absurd h
-reported bytes kept before after quiet failed same status.Words found h = absurd h
-reported bytes kept before after quiet failed same status.ReadFault found h = absurd h
-reported bytes kept before after quiet failed same status.Script found h = absurd h
-reported bytes kept before after quiet failed same status.TooLong found h = absurd h
-
-pub refused : (bytes : List ℕ) (fault : Fault) (before after : Option (List ℕ)) (quiet failed same : Type 0) (s : ToolStatus) → IsRefused fault before after quiet failed same s
-    → IsFirstFault bytes fault → IsAnswer (Some Replay) bytes before after quiet failed same s
-refused bytes fault before after quiet failed same status.Trace h found = (no_output bytes fault found, fault, found, h)
-refused bytes fault before after quiet failed same status.NoMemory h found = h
-refused bytes fault before after quiet failed same status.Done h found = absurd h
-refused bytes fault before after quiet failed same status.WriteFault h found = absurd h
-refused bytes fault before after quiet failed same status.Words h found = absurd h
-refused bytes fault before after quiet failed same status.ReadFault h found = absurd h
-refused bytes fault before after quiet failed same status.Script h found = absurd h
-refused bytes fault before after quiet failed same status.TooLong h found = absurd h
-
--- a command is the one that there is
-pub of_command : (command : Command) (bytes : List ℕ) (before after : Option (List ℕ)) (quiet failed same : Type 0) (s : ToolStatus) → IsAnswer (Some Replay) bytes before after quiet failed same s
-    → IsAnswer (Some command) bytes before after quiet failed same s
-of_command Replay bytes before after quiet failed same s h = h
+-- a fault that was told
+pub refused : (command : Command) (bytes : List ℕ) (fault : Fault Code) (before after : Option (List ℕ)) (quiet failed same : Type 0) (s : ToolStatus)
+    → IsRefused fault before after quiet failed same s → IsFault (Some command) bytes fault → IsAnswer (Some command) bytes before after quiet failed same s
+refused command bytes fault before after quiet failed same status.Trace h found = (no_output command bytes fault found, fault, found, h)
+refused command bytes fault before after quiet failed same status.NoMemory h found = h
+refused command bytes fault before after quiet failed same status.Done h found = absurd h
+refused command bytes fault before after quiet failed same status.WriteFault h found = absurd h
+refused command bytes fault before after quiet failed same status.Words h found = absurd h
+refused command bytes fault before after quiet failed same status.ReadFault h found = absurd h
+refused command bytes fault before after quiet failed same status.Script h found = absurd h
+refused command bytes fault before after quiet failed same status.TooLong h found = absurd h

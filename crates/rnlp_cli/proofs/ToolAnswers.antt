@@ -6,12 +6,13 @@ use Rattle.io_ends.specs.Ends.{Appends, AppendsPrefix, Took, TookAtMost}
 use Rattle.io_ends.specs.Faults.{Rose}
 use Rattle.io_ends.specs.declared.reading.ReadErr.{ReadErr}
 use Rattle.io_ends.specs.declared.reading.ReadErr.TheVariants as err
-use Rattle.rrecords.specs.declared.fault.Fault.{Fault}
+use Rattle.rforms.specs.declared.fault.Code.{Code}
+use Rattle.rforms.specs.declared.fault.Fault.{Fault}
 use Rattle.rnlp_cli.specs.Outputs.{IsOutput, IsFault, limit_of, refusal_of}
 use Rattle.rnlp_cli.specs.Writing.{LineWritten, IsAnswer}
 use Rattle.rnlp_cli.specs.Answer.{ToolAnswer}
 use Rattle.rnlp_cli.specs.declared.words.Command.{Command}
-use Rattle.rnlp_cli.specs.declared.words.Command.TheVariants.{Replay}
+use Rattle.rnlp_cli.specs.declared.words.Command.TheVariants.{Replay, Audit}
 use Rattle.rnlp_cli.specs.declared.status.ToolStatus.{ToolStatus}
 use Rattle.rnlp_cli.specs.declared.status.ToolStatus.TheVariants as status
 
@@ -42,6 +43,7 @@ completed command bytes text before after quiet failed same status.TooLong h out
 -- each command that there is refuses an input as a trace
 refuses_trace : (command : Command) → option_map refusal_of (Some command) ≡ Some status.Trace
 refuses_trace Replay = refl
+refuses_trace Audit = refl
 
 -- an error that is too long an input is no fault of the source
 pub longer_is_no_fault : {T : Type 0} (x : ReadErr) → x ≡ err.TooLong → ◌≡◌ {A = Result T ReadErr} (Err x) (Err err.ReadFault) → ⊥
@@ -136,7 +138,7 @@ module _ {S K : Type 0} (left : S → Option (List ℕ)) (reads : S → ℕ) (wr
       done = λ e. cc;
       broken_off = λ e. cc;
       refusal = λ _. refuses_trace command;
-      refused = λ _. of_bytes (left source) all (λ bytes. ((text : List ℕ) → ¬ IsOutput (Some command) bytes text) × (fault : Fault) × IsFault (Some command) bytes fault × LineWritten fault (written sink) (written sink') (writes sink' ≡ writes sink) (Rose (writes sink) (writes sink'))) whole h;
+      refused = λ _. of_bytes (left source) all (λ bytes. ((text : List ℕ) → ¬ IsOutput (Some command) bytes text) × (fault : Fault Code) × IsFault (Some command) bytes fault × LineWritten fault (written sink) (written sink') (writes sink' ≡ writes sink) (Rose (writes sink) (writes sink'))) whole h;
       complete = is_complete status.Trace h;
     }
     after_read status.Words h = absurd h

@@ -2,7 +2,8 @@
 use Rattle.std.specs.Prelude.{◌≡◌, ◌≢◌, ◌≤◌, ◌+◌, ◌↔◌, ◌⊎◌, ℕ, List, [], length, Option, Some, None, IfSome, option_map}
 use Rattle.io_ends.specs.Faults.{Rose}
 use Rattle.io_ends.specs.Ends.{Appends, AppendsPrefix, Took, TookAtMost}
-use Rattle.rrecords.specs.declared.fault.Fault.{Fault}
+use Rattle.rforms.specs.declared.fault.Code.{Code}
+use Rattle.rforms.specs.declared.fault.Fault.{Fault}
 use Rattle.rnlp_cli.specs.Words.{command_in, own_text}
 use Rattle.rnlp_cli.specs.Status.{IsRead, IsSilent, IsRefusal}
 use Rattle.rnlp_cli.specs.Outputs.{IsOutput, IsFault, limit_of, refusal_of}
@@ -40,7 +41,7 @@ module _ {S K : Type 0} (left : S → Option (List ℕ)) (reads : S → ℕ) (wr
     pub refusal : IsRefusal answer → option_map refusal_of asked ≡ Some answer
     pub refused : IsRefusal answer → IfSome (left source) (λ bytes.
         ((text : List ℕ) → ¬ IsOutput asked bytes text)
-        × (fault : Fault) × IsFault asked bytes fault
+        × (fault : Fault Code) × IsFault asked bytes fault
         × LineWritten fault (written sink) (written sink_after) (writes sink_after ≡ writes sink) (Rose (writes sink) (writes sink_after)))
     -- right words, a valid input within the limit and no rise of either count give the output, or want of memory
     pub complete : (command : Command) → asked ≡ Some command → IfSome (left source) (λ bytes. (text : List ℕ) → length bytes ≤ limit_of command

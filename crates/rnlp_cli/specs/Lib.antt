@@ -3,3 +3,5 @@ pub mod Status
 pub mod Outputs
 pub mod Writing
 pub mod Answer
+pub mod Replaying
+pub mod Names

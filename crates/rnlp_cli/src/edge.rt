@@ -4,10 +4,12 @@ ghost use Rattle.std.specs.Process.{exit_status};
 ghost use Rattle.rnlp_cli.specs.Status.{status_number};
 ghost use Rattle.rnlp_cli.specs.Answer.{ProgramAnswer, RunAnswer};
 
+use crate::explain::explain;
 use crate::own::own_text;
 use crate::status::ToolStatus;
-use crate::tool::plain_tool;
+use crate::tool::told_tool;
 use io_ends::{Sink, Source, write_all};
+use rforms::Fault;
 use std::alloc::Global;
 use std::env;
 use std::io::ErrorKind;
@@ -25,11 +27,12 @@ pub fn run<R: Env + AllocGlobal + Eprint, S: Source, K: Sink>(
 ) -> ExitCode
     ensures { (status : ToolStatus) × (exit_status result ≡ status_number status) × RunAnswer S.left S.faults K.written K.faults source.old source.new sink.old sink.new status }
 {
+    let mut told = None;
     let status = match words_of(rt) {
-        Ok(words) => answer(rt.alloc(), &words, source, sink),
+        Ok(words) => told_answer(rt.alloc(), &words, source, sink, &mut told),
         Err(status) => status,
     };
-    explain(rt, status);
+    explain(rt, status, told);
     ExitCode::from(status.number())
 }
 
@@ -42,12 +45,25 @@ pub fn answer<S: Source, K: Sink>(
 ) -> ToolStatus
     ensures { ProgramAnswer S.left S.faults K.written K.faults (map string_bytes words.now) source.old source.new sink.old sink.new result }
 {
+    told_answer(alloc, words, source, sink, &mut None)
+}
+
+// The same; and the first fault of an input that is refused is put into `told` too, for a person.
+fn told_answer<S: Source, K: Sink>(
+    alloc: Global,
+    words: &[String],
+    source: &mut S,
+    sink: &mut K,
+    told: &mut Option<Fault>,
+) -> ToolStatus
+    ensures { ProgramAnswer S.left S.faults K.written K.faults (map string_bytes words.now) source.old source.new sink.old sink.new result }
+{
     match own_text(words) {
         Some(text) => match write_all(sink, text) {
             Ok(()) => ToolStatus::Done,
             Err(_) => ToolStatus::WriteFault,
         },
-        None => plain_tool(alloc, words, source, sink),
+        None => told_tool(alloc, words, source, sink, told),
     }
 }
 
@@ -85,19 +101,4 @@ fn status_without_words(kind: ErrorKind) -> ToolStatus
         ErrorKind::InvalidData => ToolStatus::Words,
         _ => ToolStatus::NoMemory,
     }
-}
-
-// Tells a person on standard error what a status means.
-fn explain(rt: &impl Eprint, status: ToolStatus) {
-    let meaning = match status {
-        ToolStatus::Done => return,
-        ToolStatus::Words => "no such form; try --help",
-        ToolStatus::ReadFault => "standard input failed",
-        ToolStatus::WriteFault => "standard output failed",
-        ToolStatus::Script => "the input is no script; its first fault was written",
-        ToolStatus::TooLong => "the input is too long",
-        ToolStatus::NoMemory => "out of memory",
-        ToolStatus::Trace => "the input is no event list; its first fault was written",
-    };
-    let _ = rt.eprintln(format_args!("rnlp: {meaning}"));
 }

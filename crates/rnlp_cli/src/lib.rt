@@ -4,8 +4,11 @@
 //! program but its handles is `run`, whose exit status is that of the words that it was given.
 #![tactic(auto)]
 
+mod auditing;
 mod edge;
+mod explain;
 mod own;
+mod replaying;
 mod status;
 mod tool;
 mod words;

@@ -2,15 +2,46 @@
 ghost use Rattle.std.specs.Prelude.{◌≡◌, map, option_map, string_bytes};
 ghost use Rattle.rnlp_cli.specs.Words.{help_text, version_text, own_text};
 
-const HELP: &str = "usage: rnlp replay < LIST > REPORT
+const HELP: &str = "usage: rnlp FORM < INPUT > OUTPUT
 
-  replay       read a list of events from standard input and write its report
+forms
+  replay       read an event list, and write its report
+  audit        read a report, check all of it, and write how many events and waits it has
+  --help, -h   write this text
+  --version    write the versions of the formats and of the kit that proved the program
 
-  --help       write this text
-  --version    write the version of the formats
+an example: rnlp replay < office.events > office.report && rnlp audit < office.report
+
+exit statuses
+  0  done
+  2  the words are none of these forms
+  3  the input could not be read
+  4  the output could not be written, or not all of it
+  6  the input is longer than 67108864 bytes
+  7  out of memory
+  8  the input is no event list, or no right report; error,LINE,CODE was written
+
+codes of the record with the number LINE
+  1  it is no record, or a name, a number, a set or a word of it is bad
+  2  it names a task or a resource that is not declared
+  3  it may not stand at this place
+  4  its event is refused, for one of these causes, whose number stands behind the code:
+     1  the task has a request already
+     2  as many requests are incomplete as the cap allows
+     3  the task holds nothing, or an ask of it is pending
+     4  the request is no upgrade, or has risen
+     5  the request is not nested
+     6  what is asked for is empty, or not within the request
+     7  the request is about nothing
+     8  the resources to read are not declared together
+     9  the first part is empty, or not within the request
+  5  a change is due and this is not its line, or none is due
+  6  it is an act with a wrong answer, or of what the section does not hold
+  7  a ledger is due, and this is not its line
+  8  the records end without end
 ";
 
-const VERSION: &str = "rnlp 1\n";
+const VERSION: &str = "rnlp 1\nproved with rattle-kit-13, logic dac8208d650f15bf\n";
 
 /// The text that the words ask for, where they ask about the program itself.
 pub fn own_text(words: &[String]) -> Option<&'static [u8]>
@@ -18,6 +49,7 @@ pub fn own_text(words: &[String]) -> Option<&'static [u8]>
 {
     match words {
         [word] if word.as_str() == "--help" => Some(help()),
+        [word] if word.as_str() == "-h" => Some(help()),
         [word] if word.as_str() == "--version" => Some(version()),
         _ => None,
     }

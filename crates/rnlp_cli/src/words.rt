@@ -8,9 +8,11 @@ ghost use Rattle.rnlp_cli.specs.Outputs.{limit_of};
 pub enum Command {
     /// `replay`: apply a list of events and write its report.
     Replay,
+    /// `audit`: check a report.
+    Audit,
 }
 
-/// The most bytes that an event list may have.
+/// The most bytes that an event list or a report may have.
 pub const LIST_LIMIT: usize = 67_108_864;
 
 impl Command {
@@ -19,7 +21,7 @@ impl Command {
         ensures { result ≡ limit_of self }
     {
         match self {
-            Command::Replay => LIST_LIMIT,
+            Command::Replay | Command::Audit => LIST_LIMIT,
         }
     }
 }
@@ -30,6 +32,7 @@ pub fn command_of(words: &[String]) -> Option<Command>
 {
     match words {
         [word] if word.as_str() == "replay" => Some(Command::Replay),
+        [word] if word.as_str() == "audit" => Some(Command::Audit),
         _ => None,
     }
 }

@@ -4,7 +4,7 @@ use Rattle.std.specs.Prelude.{option_and_then}
 use Rattle.std.specs.List.{list_all}
 use Rattle.std.proofs.lemmas.Bool.{lt-ltb, le-ltb, ltb-false, le-leb}
 use Rattle.std.proofs.lemmas.List.{at_drop_more, at_drop_all}
-use Rattle.rrecords.specs.Numbers.{is_digit, read_on, digit_behind, number_told}
+use Rattle.rforms.specs.Numbers.{is_digit, read_on, digit_behind, number_told}
 
 -- what is told once these digits stand behind n, one after another
 unfoldable pub told_on : ℕ → List ℕ → Option ℕ

@@ -1,10 +1,6 @@
-pub mod Choices
 pub mod Digits
-pub mod events
-pub mod grammar
-pub mod GroupTests
-pub mod RecordFields
-pub mod Rows
 pub mod SetNames
-pub mod Tables
-pub mod Tests
+pub mod Places
+pub mod Said
+pub mod Issues
+pub mod Made

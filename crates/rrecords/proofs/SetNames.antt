@@ -8,7 +8,7 @@ use Rattle.std.proofs.lemmas.List.{at_drop_more, at_drop_all}
 use Rattle.rset.specs.Sets.{Set, all_below}
 use Rattle.rset.specs.Names.{number_in}
 use Rattle.rset.proofs.SetLemmas.{all_below_empty, all_below_insert}
-use Rattle.rrecords.specs.SetFields.{gather, set_told}
+use Rattle.rforms.specs.SetFields.{gather, set_told}
 
 -- the pieces before i have named the members of s
 pub record IsGathered (names pieces : List (List ℕ)) (i : ℕ) (s : Set) : Type 0 where

@@ -1,10 +1,2 @@
-pub mod Records
-pub mod Numbers
-pub mod SetFields
+pub mod Told
 pub mod Requests
-pub mod Words
-pub mod Heads
-pub mod Events
-pub mod Declarations
-pub mod Faults
-pub mod Lists

@@ -1,13 +1,16 @@
 -- The request that a record of an issue tells: its sets, its lengths, and its normal form.
-use Rattle.std.specs.Prelude.{ℕ, List, Option, Some, option_map, option_and_then}
+use Rattle.std.specs.Prelude.{◌≡◌, ℕ, List, Option, Some, Result, MatchResult, option_map, option_and_then}
 use Rattle.std.specs.FinSet.{empty}
 use Rattle.rset.specs.Sets.{Set}
-use Rattle.rclaim.specs.Requests.{RequestFields, normalised}
+use Rattle.rclaim.specs.Requests.{RequestFields, IsNormal, normalised}
+use Rattle.rclaim.specs.declared.request.RequestErr.{RequestErr}
+use Rattle.rforms.specs.Events.{request_refusal}
 use Rattle.rclaim.specs.declared.request.Kind.{Kind}
 use Rattle.rclaim.specs.declared.request.Kind.TheVariants.{Read, Write, Mixed, Upgrade, Nested}
-use Rattle.rrecords.specs.Records.{Row, field_of}
-use Rattle.rrecords.specs.Numbers.{length_told}
-use Rattle.rrecords.specs.SetFields.{set_told}
+use Rattle.rforms.specs.Records.{Row}
+use Rattle.rforms.specs.Decided.{field_of}
+use Rattle.rforms.specs.Numbers.{length_told}
+use Rattle.rforms.specs.SetFields.{set_told}
 use Rattle.rrecords.specs.declared.requests.RequestSets.{RequestSets}
 use Rattle.rrecords.specs.declared.requests.RequestLengths.{RequestLengths}
 
@@ -69,3 +72,10 @@ request_lengths kind fields =
 -- the request of this kind with these sets and lengths, in normal form
 abbrev pub request_told : Kind → RequestSets → RequestLengths → RequestFields
 request_told kind sets lengths = normalised kind sets.reads sets.writes sets.first lengths.len lengths.later
+
+-- this is made of these sets and lengths: the request, in normal form, or what refuses it under any read groups
+abbrev pub IsMade : Kind → RequestSets → RequestLengths → Result RequestFields RequestErr → Type 0
+IsMade kind sets lengths made =
+    MatchResult made
+    (λ r. (r ≡ request_told kind sets lengths) × IsNormal r)
+    (λ cause. (groups : List Set) → request_refusal groups (request_told kind sets lengths) ≡ Some cause)

@@ -1,18 +1,19 @@
-//! The records of an event list: what each is, what its fields say, and which lists they spell together.
+//! From a record to what it says: the fields of a record of an event list or a report, read as numbers, sets, events,
+//! acts, changes and ledgers, or the code of what is wrong with them.
 //!
-//! A text is a list of records, as CSV is read, and a record a list of fields. Which records spell which list, and what
-//! the first fault of all others is, stands in specs/ alone: the reader of lists and the writer of reports above both
-//! speak of it, and know nothing of each other. No contract names where a field lies in its text.
+//! Which records there are, and what the fields of each are, stands in `rforms`. Nothing here depends on the records
+//! before but by the names that they declared.
 #![tactic(auto)]
 
-mod fault;
+mod act;
+mod event;
 mod numbers;
-mod record;
 mod requests;
 mod sets;
+mod state;
 
-pub use fault::{Code, Fault, Refusal};
-pub use numbers::cap_of;
-pub use record::{Word, field_of, word_of};
-pub use requests::{RequestLengths, RequestSets, lengths_of, sets_of};
-pub use sets::set_of;
+pub use act::act_of;
+pub use event::{EventTold, event_of};
+pub use numbers::{cap_of, length_of, number_of};
+pub use sets::{group_of, set_of};
+pub use state::{GrantTold, change_of, grant_of, ledger_of};

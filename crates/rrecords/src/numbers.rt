@@ -2,7 +2,7 @@
 ghost use Rattle.std.specs.Prelude.{◌≡◌, ◌≤◌, IfSome};
 ghost use Rattle.rclaim.specs.declared.TheConstants.{LENGTH_LIMIT};
 ghost use Rattle.rset.specs.declared.TheConstants.{SEATS};
-ghost use Rattle.rrecords.specs.Numbers.{length_told, cap_within, cap_told, number_told, digit_behind};
+ghost use Rattle.rforms.specs.Numbers.{length_told, cap_within, cap_told, number_told, digit_behind};
 
 use rclaim::LENGTH_LIMIT;
 use rset::SEATS;
@@ -39,8 +39,8 @@ fn cap_within(number: u64) -> Option<u8>
     }
 }
 
-// The number that a field tells; None where it is none.
-fn number_of(field: &[u8]) -> Option<u64>
+/// The number that a field tells; None where it is none.
+pub fn number_of(field: &[u8]) -> Option<u64>
     ensures { result ≡ number_told field.now }
 {
     if field.is_empty() || field.len() > 20 {

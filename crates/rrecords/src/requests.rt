@@ -6,10 +6,10 @@ ghost use Rattle.rset.specs.Sets.{all_below};
 ghost use Rattle.rrecords.specs.Requests.{request_sets, request_lengths, length_field, later_told};
 
 use crate::numbers::length_of;
-use crate::record::field_of;
 use crate::sets::set_of;
 use csv::ByteRecord;
 use rclaim::{Kind, LENGTH_LIMIT};
+use rforms::field_of;
 use rset::{NameTable, ResourceSet};
 
 /// The sets that the record of a request names.

@@ -1,2 +1,8 @@
-pub mod Lines
+pub mod Puts
+pub mod Rows
 pub mod Sets
+pub mod Tables
+pub mod Growing
+pub mod Writing
+pub mod Stepping
+pub mod Parts

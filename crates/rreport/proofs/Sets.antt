@@ -6,8 +6,8 @@ use Rattle.std.specs.FinSet.{empty}
 use Rattle.rset.specs.declared.TheConstants.{RESOURCES}
 use Rattle.rset.specs.Sets.{Set, rising, all_below}
 use Rattle.rset.proofs.SetLemmas.{rising_empty, rising_injective, all_below_empty}
-use Rattle.rreport.specs.Lines.{behind_comma}
-use Rattle.rreport.specs.History.{name_at, joined, set_text}
+use Rattle.rforms.specs.Texts.{behind_comma}
+use Rattle.rforms.specs.SetFields.{name_at, joined, set_text}
 
 -- names that are written one after another: this byte before the first, and `+` before each other
 abbrev pub separated : ℕ → List (List ℕ) → List ℕ

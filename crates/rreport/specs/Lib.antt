@@ -1,4 +1,4 @@
-pub mod Lines
-pub mod ErrorLine
-pub mod History
+pub mod Told
 pub mod Report
+pub mod Codes
+pub mod ErrorLine

@@ -1,17 +1,33 @@
-//! How the report of an event list is written, and the line of a fault.
+//! How reports are written, and the line of a fault.
 //!
-//! An output is lines of fields. The text of a history is made event by event, each with what it changes, and the
-//! report is the head of the list, that text, a ledger of each resource and `end`. Every function appends to a text, or
-//! makes one; none reads a record.
+//! A report is lines of fields: the head, its history event by event, each with what its section did and what it changes,
+//! a ledger of each resource, and `end`. What each line is says the table of records of `rforms`; here it is spelled.
+//! A text grows on a [`Page`], line by line, by names that stand ready in [`NameRows`].
 #![tactic(auto)]
 
+mod act;
+mod change;
+mod ending;
 mod error;
+mod event;
+mod frame;
+mod head;
 mod history;
-mod line;
-mod list;
+mod names;
+mod page;
+mod pieces;
 mod report;
+mod step;
+mod write;
 
-pub use error::error_line;
-pub use history::push_step;
-pub use list::EventList;
-pub use report::report_of;
+pub use ending::ending_of;
+pub use error::{code_number, error_line, refusal_number};
+pub use head::head_of;
+pub use names::NameRows;
+pub use page::Page;
+pub use report::Report;
+pub use step::{push_entry, push_step};
+pub use write::{WriteErr, write_parts, write_report};
+
+/// The room that is made ahead of a line: no line is longer.
+pub const LINE_ROOM: usize = 4096;

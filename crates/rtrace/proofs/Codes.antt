@@ -1,293 +1,218 @@
--- The code of a record, from the tests behind it.
-use Rattle.std.proofs.Common.{◌≡◌, ◌≢◌, ℕ, ◌<◌, Bool, true, false, not, ◌||◌, cond, ◌==◌, List, [], ◌∷◌, ◌++◌, length, Option, Some, None, refl, sym, ap, subst, ◌∙◌, true≢false}
-use Rattle.std.specs.Ordering.{nat_cmp}
-use Rattle.std.specs.Prelude.{IfErr, option_map, option_and_then, is_none, IsTrue, Result, Err}
-use Rattle.std.specs.FinSet.{empty, len, len-empty}
-use Rattle.rset.specs.Sets.{Set, all_below}
-use Rattle.rset.specs.Names.{number_in}
-use Rattle.rclaim.specs.Requests.{RequestFields, asked_set, first_fits, is_part, IsNormal}
-use Rattle.rclaim.specs.declared.request.Kind.{Kind}
-use Rattle.rclaim.specs.declared.request.Kind.TheVariants.{Read, Write, Mixed, Upgrade, Nested}
-use Rattle.rclaim.specs.declared.request.RequestErr.TheVariants.{EmptyRequest, FirstOutside, Undeclared}
-use Rattle.rexpand.specs.Groups.{ReadGroups, is_declared}
-use Rattle.rclaim.proofs.Normal.{union_difference}
-use Rattle.rmodel.specs.Claims.{IsUndeclared, is_admitted, needs_declared}
-use Rattle.rclaim.specs.declared.request.RequestErr.{RequestErr}
+-- What is wrong with a line, from the tests behind it.
+use Rattle.std.proofs.Common.{◌≡◌, ℕ, ◌≤◌, Bool, true, false, not, ◌&&◌, ◌||◌, ◌==◌, cond, nat_le, List, [], ◌∷◌, drop, Option, Some, None, refl, sym, ap, ◌∙◌, arith, true≢false}
+use Rattle.std.specs.Prelude.{option_map}
+use Rattle.std.proofs.lemmas.Bool.{le-leb, le-ltb, leb-true, and_parts}
 use Rattle.rclaim.specs.declared.event.Event.{Event}
-use Rattle.rmodel.specs.State.{LockState}
-use Rattle.rmodel.specs.Steps.{refusal, Fits}
-use Rattle.rrecords.specs.Records.{Row, word_of, second_of, field_of}
-use Rattle.rrecords.specs.SetFields.{set_told}
-use Rattle.rtrace.specs.Reading.{groups_or, HasRead, IsReady, StepsBy, reader_state, step_code}
-use Rattle.rrecords.specs.Requests.{request_sets, request_lengths, request_told}
-use Rattle.rrecords.specs.Events.{event_in, event_by, request_refusal, refusal_by, refusal_in}
-use Rattle.rrecords.specs.Declarations.{resources_in, groups_in, tasks_in, head_in, has_word, is_nil, state_after}
-use Rattle.rrecords.specs.Words.{is_group, is_event, is_end}
-use Rattle.rrecords.specs.Faults.{is_bad_group, is_bad_field, is_unknown, is_bad_order, refused_code, code_of}
-use Rattle.rrecords.specs.declared.requests.RequestSets.{RequestSets}
-use Rattle.rrecords.specs.declared.requests.RequestLengths.{RequestLengths}
-use Rattle.rtrace.specs.declared.reading.Reading.{Reading}
-use Rattle.rrecords.specs.declared.record.Word.{Word}
-use Rattle.rrecords.specs.declared.record.Word.TheVariants.{Version, Resource, Group, Task, Cap, Issue, Finish, Rise, Ask, End, Unknown}
-use Rattle.rrecords.specs.declared.fault.Code.{Code}
-use Rattle.rrecords.specs.declared.fault.Code.TheVariants.{BadField, UnknownName, BadOrder, Refused}
-use Rattle.rrecords.specs.declared.fault.Refusal.TheVariants.{Request, Step}
-use Rattle.rrecords.proofs.grammar.Passed.{not_refused}
-use Rattle.rrecords.proofs.Tests.{three_of}
-use Rattle.rtrace.proofs.Readings.{read_event}
-use Rattle.rrecords.proofs.events.Within.{AreBelow, AreWithin}
-use Rattle.rrecords.proofs.events.Spelled.{issue_made, seat_made, ask_made}
-use Rattle.rrecords.proofs.events.Accepted.{kind_below, request_right, has_members, some_set, fitting_first}
 use Rattle.rclaim.specs.declared.event.Event.TheVariants as event
-use Rattle.rmodel.specs.declared.refused.Refused as lock
+use Rattle.rvalue.specs.declared.act.Act.{Act}
+use Rattle.rvalue.specs.declared.act.Act.TheVariants.{Edited, Shown}
+use Rattle.rvalue.specs.declared.ledger.Edit.{Edit}
+use Rattle.rvalue.specs.declared.ledger.Edit.TheVariants as edit
+use Rattle.rclaim.specs.declared.changes.StatusChange.{StatusChange}
+use Rattle.rmodel.specs.Claims.{satisfied_by}
+use Rattle.rvalue.specs.declared.ledger.Ledger.{Ledger}
+use Rattle.rforms.specs.Heads.{is_nil}
+use Rattle.rforms.specs.Reports.{status_line}
+use Rattle.rforms.specs.Lines.{Line, Happens, Does, BecomesEntitled, BecomesSatisfied, Grants, Leaves, Ends, word_of}
+use Rattle.rforms.specs.Events.{refusal_in}
+use Rattle.rforms.specs.Walks.{when, first_of}
+use Rattle.rforms.specs.SoFar.{SoFar, stands, lock_in, ledgers_due, at_changes, with_line}
+use Rattle.rforms.specs.Faults.{line_code, may_follow, is_change, is_change_due, is_first, is_right_in}
+use Rattle.rforms.specs.declared.fault.Code.{Code}
+use Rattle.rforms.specs.declared.fault.Code.TheVariants.{BadField, BadOrder, Refused, WrongChange, WrongShow, WrongLedger}
+use Rattle.rforms.specs.declared.fault.Refusal.{Refusal}
+use Rattle.rforms.proofs.facts.Choices.{some_none}
 
--- ---- by the tests, in order
+-- ---- a line that tells no change and is no act: it is badly declared, a change is due, it may follow, it tells a ledger more, it is refused, and it is a wrong ledger
 
-pub code-field : (before : List Row) (fields : Row) (w : Word) → word_of fields ≡ w → is_bad_field before fields w ≡ true → code_of before fields ≡ Some BadField
-unfolding code_of
-code-field before fields w is e = rw (is, e) refl
+abbrev pub plain_causes : Bool → Bool → Bool → Bool → Option Refusal → Bool → List (Option Code)
+plain_causes bad due follows more refusal wrong =
+    when bad BadField
+    ∷ when ((not follows || more) && not due) BadOrder
+    ∷ option_map Refused refusal
+    ∷ when (due && true) WrongChange
+    ∷ when false WrongShow
+    ∷ when wrong WrongLedger
+    ∷ []
 
-pub code-unknown : (before : List Row) (fields : Row) (w : Word) → word_of fields ≡ w → is_bad_field before fields w ≡ false → is_unknown before fields w ≡ true → code_of before fields ≡ Some UnknownName
-unfolding code_of
-code-unknown before fields w is field e = rw (is, field, e) refl
+-- what is wrong with its place
+abbrev pub place_by : Bool → Bool → Option Code
+place_by due follows = cond due (Some WrongChange) (cond follows None (Some BadOrder))
 
-pub code-order : (before : List Row) (fields : Row) (w : Word) → word_of fields ≡ w → is_bad_field before fields w ≡ false → is_unknown before fields w ≡ false → is_bad_order before w ≡ true → code_of before fields ≡ Some BadOrder
-unfolding code_of
-code-order before fields w is field names e = rw (is, field, names, e) refl
+pub bad_code : (due follows more wrong : Bool) (refusal : Option Refusal) → first_of (plain_causes true due follows more refusal wrong) ≡ Some BadField
+bad_code due follows more wrong refusal = refl
 
-code-last : (before : List Row) (fields : Row) (w : Word) → word_of fields ≡ w → is_bad_field before fields w ≡ false → is_unknown before fields w ≡ false → is_bad_order before w ≡ false → code_of before fields ≡ refused_code before fields
-unfolding code_of
-code-last before fields w is field names order = rw (is, field, names, order) refl
+pub place_code_is : (due follows more wrong : Bool) (refusal : Option Refusal) (code : Code) → (due ≡ true → refusal ≡ None) → place_by due follows ≡ Some code
+    → first_of (plain_causes false due follows more refusal wrong) ≡ Some code
+place_code_is true true true wrong refusal code none is = ap (λ o. first_of (option_map Refused o ∷ Some WrongChange ∷ [])) (none refl) ∙ is
+place_code_is true true false wrong refusal code none is = ap (λ o. first_of (option_map Refused o ∷ Some WrongChange ∷ [])) (none refl) ∙ is
+place_code_is true false true wrong refusal code none is = ap (λ o. first_of (option_map Refused o ∷ Some WrongChange ∷ [])) (none refl) ∙ is
+place_code_is true false false wrong refusal code none is = ap (λ o. first_of (option_map Refused o ∷ Some WrongChange ∷ [])) (none refl) ∙ is
+place_code_is false true more wrong refusal code none is = absurd (some_none is)
+place_code_is false false more wrong refusal code none is = is
 
--- a record of the head has no unknown name, and no refusal
-pub head_known : (before : List Row) (fields : Row) (w : Word) → is_event w ≡ false → is_group w ≡ false → is_unknown before fields w ≡ false
-head_known before fields (Issue kind) h g = absurd (true≢false h)
-head_known before fields Finish h g = absurd (true≢false h)
-head_known before fields Rise h g = absurd (true≢false h)
-head_known before fields Ask h g = absurd (true≢false h)
-head_known before fields Version h g = refl
-head_known before fields Resource h g = refl
-head_known before fields Group h g = absurd (true≢false g)
-head_known before fields Task h g = refl
-head_known before fields Cap h g = refl
-head_known before fields End h g = refl
-head_known before fields Unknown h g = refl
+pub placed : (due follows : Bool) → place_by due follows ≡ None → (due ≡ false) × (follows ≡ true)
+placed true follows h = absurd (some_none (sym h))
+placed false true h = (refl, refl)
+placed false false h = absurd (some_none (sym h))
 
-pub code-head : (before : List Row) (fields : Row) (w : Word) → word_of fields ≡ w → is_event w ≡ false → is_bad_field before fields w ≡ false → is_unknown before fields w ≡ false → is_bad_order before w ≡ false
-    → code_of before fields ≡ None
-code-head before fields w is none field names order = code-last before fields w is field names order ∙ not_refused before fields (ap is_event is ∙ none)
+pub more_code : (due follows wrong : Bool) (refusal : Option Refusal) → place_by due follows ≡ None → first_of (plain_causes false due follows true refusal wrong) ≡ Some BadOrder
+more_code due follows wrong refusal h = let at = placed due follows h in rw (at.0, at.1) refl
 
--- a group that names no resource that there is
-pub code-group : (before : List Row) (fields : Row) → word_of fields ≡ Group → set_told (resources_in before) (second_of fields) ≡ None
-    → code_of before fields ≡ Some (cond (is_bad_group (groups_in before) None) BadField UnknownName)
-unfolding code_of
-code-group before fields is unknown = rw (is, unknown) (by_test (is_bad_group (groups_in before) None))
+pub refused_code : (due follows wrong : Bool) (refusal : Refusal) → place_by due follows ≡ None → first_of (plain_causes false due follows false (Some refusal) wrong) ≡ Some (Refused refusal)
+refused_code due follows wrong refusal h = let at = placed due follows h in rw (at.0, at.1) refl
+
+pub ledger_code : (due follows : Bool) → place_by due follows ≡ None → first_of (plain_causes false due follows false None true) ≡ Some WrongLedger
+ledger_code due follows h = let at = placed due follows h in rw (at.0, at.1) refl
+
+pub no_plain_code : (due follows : Bool) → place_by due follows ≡ None → first_of (plain_causes false due follows false None false) ≡ None
+no_plain_code due follows h = let at = placed due follows h in rw (at.0, at.1) refl
+
+pub between : (least n most : ℕ) → least ≤ n → n ≤ most → (nat_le least n && nat_le n most) ≡ true
+between least n most low high = λ i. le-leb least n low i && le-leb n most high i
+
+pub not_between : (least n most : ℕ) → (least ≤ n → n ≤ most → ⊥) → (nat_le least n && nat_le n most) ≡ false
+not_between least n most h = at (nat_le least n) (nat_le n most) (λ e. leb-true least n e) (λ e. leb-true n most e) h
   where
-    by_test : (b : Bool) → cond b (Some BadField) (Some UnknownName) ≡ Some (cond b BadField UnknownName)
-    by_test true = refl
-    by_test false = refl
+    at : {P Q : Type 0} (a b : Bool) → (a ≡ true → P) → (b ≡ true → Q) → (P → Q → ⊥) → (a && b) ≡ false
+    at true true p q h = absurd (h (p refl) (q refl))
+    at true false p q h = refl
+    at false b p q h = refl
 
--- ---- an event
+pub follows_both : (least n most : ℕ) → (nat_le least n && nat_le n most) ≡ true → (least ≤ n) × (n ≤ most)
+follows_both least n most h = let both = and_parts (nat_le least n) (nat_le n most) h in (leb-true least n both.0, leb-true n most both.1)
 
--- the record is one of an event, which it spells, and stands where it may
-pub record StandsRight (before : List Row) (fields : Row) (w : Word) (e : Event) : Type 0 where
-  pub word : word_of fields ≡ w
-  pub event : is_event w ≡ true
-  pub field : is_bad_field before fields w ≡ false
-  pub names : is_unknown before fields w ≡ false
-  pub order : is_bad_order before w ≡ false
-  pub spelled : event_in (head_in before) fields ≡ Some e
+-- ---- events
 
-refused-is : (before : List Row) (fields : Row) (e : Event) → event_in (head_in before) fields ≡ Some e → refused_code before fields ≡ option_map Refused (refusal_in (state_after before) e)
-refused-is before fields e spelled = ap (λ o. option_map Refused (option_and_then (refusal_in (state_after before)) o)) spelled
+pub event_follows : (n : ℕ) (e : Event) → may_follow n (stands (word_of (Happens e))) ≡ (nat_le 4 n && nat_le n 7)
+event_follows n (event.Issue seat r) = refl
+event_follows n (event.Finish seat) = refl
+event_follows n (event.Rise seat) = refl
+event_follows n (event.Ask seat part) = refl
 
-pub code-event : (before : List Row) (fields : Row) (w : Word) (e : Event) (old : Reading) → HasRead before old → StandsRight before fields w e → code_of before fields ≡ option_map Refused (refusal_in (reader_state old) e)
-code-event before fields w e old h right =
-    code-last before fields w right.word right.field right.names right.order ∙ refused-is before fields e right.spelled ∙ ap (λ s. option_map Refused (refusal_in s e)) (sym h.state)
+-- ---- changes
 
-has_resources : (before : List Row) (w : Word) → is_event w ≡ true → is_bad_order before w ≡ false → is_nil (resources_in before) ≡ false
-has_resources before (Issue kind) is h = (three_of (is_nil (resources_in before)) (is_nil (tasks_in before)) (has_word is_end before) h).0
-has_resources before Finish is h = (three_of (is_nil (resources_in before)) (is_nil (tasks_in before)) (has_word is_end before) h).0
-has_resources before Rise is h = (three_of (is_nil (resources_in before)) (is_nil (tasks_in before)) (has_word is_end before) h).0
-has_resources before Ask is h = (three_of (is_nil (resources_in before)) (is_nil (tasks_in before)) (has_word is_end before) h).0
-has_resources before Version is h = absurd (true≢false (sym is))
-has_resources before Resource is h = absurd (true≢false (sym is))
-has_resources before Group is h = absurd (true≢false (sym is))
-has_resources before Task is h = absurd (true≢false (sym is))
-has_resources before Cap is h = absurd (true≢false (sym is))
-has_resources before End is h = absurd (true≢false (sym is))
-has_resources before Unknown is h = absurd (true≢false (sym is))
+change_causes : (follows due first : Bool) → List (Option Code)
+change_causes follows due first =
+    when false BadField
+    ∷ when ((not follows || false) && not due) BadOrder
+    ∷ option_map Refused None
+    ∷ when (not (due && first)) WrongChange
+    ∷ when false WrongShow
+    ∷ when false WrongLedger
+    ∷ []
 
--- an event that the lock accepts is read
-pub event_taken : (before : List Row) (fields : Row) (w : Word) (e : Event) (old new : Reading) → HasRead before old → StandsRight before fields w e → refusal_in (reader_state old) e ≡ None → StepsBy old new e
-    → (code_of before fields ≡ None) × HasRead (before ++ fields ∷ []) new
-event_taken before fields w e old new h right free steps = (
-  code-event before fields w e old h right ∙ ap (option_map Refused) free,
-  read_event before fields old new e h (ap is_event right.word ∙ right.event) right.spelled (has_resources before w right.event right.order) steps,
-)
+change_is : (whole : Bool) (s : SoFar) (line : Line) → is_change line ≡ true → line_code whole s line ≡ first_of (change_causes (nat_le 0 s.last && nat_le s.last 8) (is_change_due s) (is_first s.due line))
+unfolding line_code change_causes
+change_is whole s (BecomesEntitled seat half) h = refl
+change_is whole s (BecomesSatisfied seat half) h = refl
+change_is whole s (Grants seat set) h = refl
+change_is whole s _ h = absurd (true≢false (sym h))
 
--- what the lock says of an event whose request is right
-pub refusal-right : (s : LockState) (seat : ℕ) (r : RequestFields) → request_refusal s.groups.groups r ≡ None → refusal_in s (event.Issue seat r) ≡ option_map Step (refusal s (event.Issue seat r))
-refusal-right s seat r none = ap (refusal_by s (event.Issue seat r)) none
+-- nothing is due behind the end
+end_idle : (s : SoFar) → s.last ≡ 9 → is_change_due s ≡ false
+end_idle s nine = ap (λ b. b && not (is_nil s.due)) (le-ltb s.last 8 (omega (arith, nine)))
 
-pub refusal-wrong : (s : LockState) (seat : ℕ) (r : RequestFields) (cause : RequestErr) → request_refusal s.groups.groups r ≡ Some cause → refusal_in s (event.Issue seat r) ≡ Some (Request cause)
-refusal-wrong s seat r cause some = ap (refusal_by s (event.Issue seat r)) some
+pub change_behind_end : (whole : Bool) (s : SoFar) (line : Line) → is_change line ≡ true → s.last ≡ 9 → line_code whole s line ≡ Some BadOrder
+unfolding change_causes
+change_behind_end whole s line h nine =
+    change_is whole s line h ∙ (λ i. first_of (change_causes (nat_le 0 (nine i) && nat_le (nine i) 8) (end_idle s nine i) (is_first s.due line)))
 
-step-codes : (o : Option lock.Refused) → option_map Refused (option_map Step o) ≡ option_map step_code o
-step-codes None = refl
-step-codes (Some x) = refl
+follows_all : (n : ℕ) → n ≤ 8 → (nat_le 0 n && nat_le n 8) ≡ true
+follows_all n h = λ i. le-leb 0 n (omega arith) i && le-leb n 8 h i
 
--- an event that the lock refuses has that code
-pub event_refused : (before : List Row) (fields : Row) (w : Word) (e : Event) (old : Reading) (code : Code) → HasRead before old → StandsRight before fields w e
-    → refusal_in (reader_state old) e ≡ option_map Step (refusal (reader_state old) e) → Some code ≡ option_map step_code (refusal (reader_state old) e) → code_of before fields ≡ Some code
-event_refused before fields w e old code h right lock told =
-    code-event before fields w e old h right ∙ ap (option_map Refused) lock ∙ step-codes (refusal (reader_state old) e) ∙ sym told
-
--- ---- the records of events
-
-pub finish_right : (before : List Row) (fields : Row) (old : Reading) (seat : ℕ) → HasRead before old → word_of fields ≡ Finish → number_in old.tasks (second_of fields) ≡ Some seat → is_bad_order before Finish ≡ false
-    → StandsRight before fields Finish (event.Finish seat)
-unfolding event_in
-finish_right before fields old seat h is task order =
-    let known : number_in (tasks_in before) (second_of fields) ≡ Some seat = ap (λ ts. number_in ts (second_of fields)) (sym h.tasks) ∙ task in
-    record {
-      word = is;
-      event = refl;
-      field = refl;
-      names = ap is_none known;
-      order = order;
-      spelled = ap (event_by (head_in before) fields) is ∙ seat_made event.Finish (tasks_in before) fields seat known;
-    }
-
-pub rise_right : (before : List Row) (fields : Row) (old : Reading) (seat : ℕ) → HasRead before old → word_of fields ≡ Rise → number_in old.tasks (second_of fields) ≡ Some seat → is_bad_order before Rise ≡ false
-    → StandsRight before fields Rise (event.Rise seat)
-unfolding event_in
-rise_right before fields old seat h is task order =
-    let known : number_in (tasks_in before) (second_of fields) ≡ Some seat = ap (λ ts. number_in ts (second_of fields)) (sym h.tasks) ∙ task in
-    record {
-      word = is;
-      event = refl;
-      field = refl;
-      names = ap is_none known;
-      order = order;
-      spelled = ap (event_by (head_in before) fields) is ∙ seat_made event.Rise (tasks_in before) fields seat known;
-    }
-
-pub ask_right : (before : List Row) (fields : Row) (old : Reading) (seat : ℕ) (part : Set) → HasRead before old → word_of fields ≡ Ask → number_in old.tasks (second_of fields) ≡ Some seat
-    → set_told old.resources (field_of fields 2) ≡ Some part → is_bad_order before Ask ≡ false → StandsRight before fields Ask (event.Ask seat part)
-unfolding event_in
-ask_right before fields old seat part h is task names order =
-    let known : number_in (tasks_in before) (second_of fields) ≡ Some seat = ap (λ ts. number_in ts (second_of fields)) (sym h.tasks) ∙ task in
-    let members : set_told (resources_in before) (field_of fields 2) ≡ Some part = ap (λ rs. set_told rs (field_of fields 2)) (sym h.resources) ∙ names in
-    record {
-      word = is;
-      event = refl;
-      field = refl;
-      names = rw (known, members) refl;
-      order = order;
-      spelled = ap (event_by (head_in before) fields) is ∙ ask_made (head_in before) fields seat part known members;
-    }
-
-pub issue_right : (before : List Row) (fields : Row) (old : Reading) (kind : Kind) (seat : ℕ) (sets : RequestSets) (lengths : RequestLengths) → HasRead before old → word_of fields ≡ Issue kind
-    → number_in old.tasks (second_of fields) ≡ Some seat → request_sets old.resources kind fields ≡ Some sets → request_lengths kind fields ≡ Some lengths → is_bad_order before (Issue kind) ≡ false
-    → StandsRight before fields (Issue kind) (event.Issue seat (request_told kind sets lengths))
-unfolding event_in
-issue_right before fields old kind seat sets lengths h is task names told order =
-    let known : number_in (tasks_in before) (second_of fields) ≡ Some seat = ap (λ ts. number_in ts (second_of fields)) (sym h.tasks) ∙ task in
-    let members : request_sets (resources_in before) kind fields ≡ Some sets = ap (λ rs. request_sets rs kind fields) (sym h.resources) ∙ names in
-    record {
-      word = is;
-      event = refl;
-      field = ap is_none told;
-      names = rw (known, members) refl;
-      order = order;
-      spelled = ap (event_by (head_in before) fields) is ∙ issue_made (head_in before) kind fields seat sets lengths known members told;
-    }
-
--- the groups of the state are over the resources that were declared
-groups_over_resources : (old : Reading) → IsReady old → (reader_state old).groups.q ≡ length old.resources
-groups_over_resources old ready = ap (λ (g : ReadGroups). g.q) ready.over ∙ ready.grouped
-
--- what a request that nothing refuses fits
-pub issue_fits : (old : Reading) (kind : Kind) (seat : ℕ) (sets : RequestSets) (lengths : RequestLengths) → IsReady old → seat < length old.tasks → AreBelow old.resources sets → AreWithin lengths
-    → request_refusal (reader_state old).groups.groups (request_told kind sets lengths) ≡ None → Fits (reader_state old) (event.Issue seat (request_told kind sets lengths))
-issue_fits old kind seat sets lengths ready below all within none =
-    let over = groups_over_resources old ready in
-    let members = kind_below (reader_state old).groups.q kind sets lengths (ap (λ q. all_below q sets.reads) over ∙ all.0) (ap (λ q. all_below q sets.writes) over ∙ all.1) in
-    record {
-      seat_there = subst (λ n. seat < n) (sym ready.seats) below;
-      reads = members.0;
-      writes = members.1;
-      admitted = (request_right (reader_state old).groups.groups kind sets lengths none within).1;
-      stamps = ready.stamps;
-    }
-
--- what an ask of resources that there are fits
-pub ask_fits : (old : Reading) (seat : ℕ) (part : Set) → IsReady old → seat < length old.tasks → IsTrue (all_below (length old.resources) part) → Fits (reader_state old) (event.Ask seat part)
-ask_fits old seat part ready below all = (subst (λ n. seat < n) (sym ready.seats) below, ap (λ q. all_below q part) (groups_over_resources old ready) ∙ all)
-
--- the groups of the state are those that were declared
-pub groups_there : (old : Reading) (groups : ReadGroups) → IsReady old → old.groups ≡ Some groups → (reader_state old).groups ≡ groups
-groups_there old groups ready is = ready.over ∙ ap (groups_or (length old.resources)) is
-
--- ---- requests that are refused
-
-no_members : (s : Set) → s ≡ empty → (len s == 0) ≡ true
-no_members s e = ap (λ t. len t == 0) e ∙ ap (λ n. n == 0) (len-empty nat_cmp)
-
-refused_empty : (groups : List Set) (kind : Kind) (sets : RequestSets) (lengths : RequestLengths) → asked_set kind sets.reads sets.writes ≡ empty → request_refusal groups (request_told kind sets lengths) ≡ Some EmptyRequest
-refused_empty groups Read sets lengths e = rw (no_members sets.reads e) refl
-refused_empty groups Write sets lengths e = rw (no_members sets.writes e) refl
-refused_empty groups Mixed sets lengths e = rw (no_members sets.writes e) refl
-refused_empty groups Upgrade sets lengths e = rw (no_members sets.reads e) refl
-refused_empty groups Nested sets lengths e = rw (no_members sets.writes e) refl
-
--- only the first part of a nested request can be outside
-refused_outside : (groups : List Set) (kind : Kind) (sets : RequestSets) (lengths : RequestLengths) → asked_set kind sets.reads sets.writes ≢ empty → first_fits kind sets.reads sets.writes sets.first ≡ false
-    → request_refusal groups (request_told kind sets lengths) ≡ Some FirstOutside
-refused_outside groups Read sets lengths some outside = absurd (true≢false outside)
-refused_outside groups Write sets lengths some outside = absurd (true≢false outside)
-refused_outside groups Mixed sets lengths some outside = absurd (true≢false outside)
-refused_outside groups Upgrade sets lengths some outside = absurd (true≢false outside)
-refused_outside groups Nested sets lengths some outside = rw (has_members sets.writes some, ap (is_part sets.first) (union_difference sets.reads sets.writes) ∙ outside) refl
-
--- what refuses a request before its groups are looked at
-pub refused_new : (groups : List Set) (kind : Kind) (sets : RequestSets) (lengths : RequestLengths) (cause : RequestErr) → cause ≢ Undeclared
-    → (cause ≡ EmptyRequest → asked_set kind sets.reads sets.writes ≡ empty)
-    → (cause ≡ FirstOutside → (asked_set kind sets.reads sets.writes ≢ empty) × (first_fits kind sets.reads sets.writes sets.first ≡ false))
-    → request_refusal groups (request_told kind sets lengths) ≡ Some cause
-refused_new groups kind sets lengths EmptyRequest other none outside = refused_empty groups kind sets lengths (none refl)
-refused_new groups kind sets lengths FirstOutside other none outside = refused_outside groups kind sets lengths (outside refl).0 (outside refl).1
-refused_new groups kind sets lengths Undeclared other none outside = absurd (other refl)
-
--- a request in normal form whose set must be declared, and is not
-pub refused_undeclared : (groups : List Set) (r : RequestFields) → IsNormal r → IsUndeclared groups r → request_refusal groups r ≡ Some Undeclared
-refused_undeclared groups r normal undeclared =
-    let some = some_set r.kind r.reads r.writes normal.sets in
-    let part = fitting_first r.kind r.reads r.writes r.first normal.first in
-    let needs = undeclared.0 in
-    let none = undeclared.1 in
-    rw (some, part, needs, none) refl
-
--- a request that is not admitted is such a one
-pub undeclared_of : (groups : List Set) (r : RequestFields) → (IsTrue (is_admitted groups r) → false ≡ true) → IsUndeclared groups r
-undeclared_of groups r not_admitted = at (needs_declared r.kind) (is_declared groups r.reads) not_admitted
+pub change_wrong : (whole : Bool) (s : SoFar) (line : Line) → is_change line ≡ true → s.last ≤ 8 → (is_change_due s && is_first s.due line) ≡ false → line_code whole s line ≡ Some WrongChange
+unfolding change_causes
+change_wrong whole s line h low wrong = change_is whole s line h ∙ at (nat_le 0 s.last && nat_le s.last 8) (is_change_due s) (is_first s.due line) (follows_all s.last low) wrong
   where
-    at : (needs is : Bool) → (IsTrue (not needs || is) → false ≡ true) → (needs ≡ true) × (is ≡ false)
-    at true true h = absurd (true≢false (sym (h refl)))
-    at true false h = (refl, refl)
-    at false is h = absurd (true≢false (sym (h refl)))
+    at : (f d x : Bool) → f ≡ true → (d && x) ≡ false → first_of (change_causes f d x) ≡ Some WrongChange
+    at true true true p e = absurd (true≢false e)
+    at true true false p e = refl
+    at true false x p e = refl
+    at false d x p e = absurd (true≢false (sym p))
 
--- the cause of an error is what it is
-pub err_cause : {T : Type 0} (r : Result T RequestErr) (e : RequestErr) (P : RequestErr → Type 0) → r ≡ Err e → P e → IfErr r P
-err_cause {T} r e P is p = subst (λ x. IfErr x P) (sym is) p
+pub change_right : (whole : Bool) (s : SoFar) (line : Line) → is_change line ≡ true → s.last ≤ 8 → (is_change_due s && is_first s.due line) ≡ true → line_code whole s line ≡ None
+unfolding change_causes
+change_right whole s line h low right = change_is whole s line h ∙ at (nat_le 0 s.last && nat_le s.last 8) (is_change_due s) (is_first s.due line) (follows_all s.last low) right
+  where
+    at : (f d x : Bool) → f ≡ true → (d && x) ≡ true → first_of (change_causes f d x) ≡ None
+    at true true true p e = refl
+    at true true false p e = absurd (true≢false (sym e))
+    at true false x p e = absurd (true≢false (sym e))
+    at false d x p e = absurd (true≢false (sym p))
 
-pub err_of : {T : Type 0} {x e : RequestErr} → ◌≡◌ {A = Result T RequestErr} (Err x) (Err e) → x ≡ e
-err_of {T} {x} {e} p = cc
+pub status_changes : (c : StatusChange) → is_change (status_line c) ≡ true
+status_changes c = at (satisfied_by c.status)
+  where
+    at : (b : Bool) → is_change (cond b (BecomesSatisfied c.seat c.write_half) (BecomesEntitled c.seat c.write_half)) ≡ true
+    at true = refl
+    at false = refl
 
--- the record of an issue stands right for the request that is made of its fields
-pub issue_stands : (before : List Row) (fields : Row) (old : Reading) (kind : Kind) (seat : ℕ) (sets : RequestSets) (lengths : RequestLengths) (r : RequestFields) → HasRead before old → word_of fields ≡ Issue kind
-    → number_in old.tasks (second_of fields) ≡ Some seat → request_sets old.resources kind fields ≡ Some sets → request_lengths kind fields ≡ Some lengths → is_bad_order before (Issue kind) ≡ false
-    → r ≡ request_told kind sets lengths → StandsRight before fields (Issue kind) (event.Issue seat r)
-issue_stands before fields old kind seat sets lengths r h is task names told order made =
-    subst (λ q. StandsRight before fields (Issue kind) (event.Issue seat q)) (sym made) (issue_right before fields old kind seat sets lengths h is task names told order)
+pub with_change : (whole : Bool) (s : SoFar) (line : Line) → is_change line ≡ true → with_line whole s line ≡ record s { last = at_changes; due = drop 1 s.due }
+with_change whole s (BecomesEntitled seat half) h = refl
+with_change whole s (BecomesSatisfied seat half) h = refl
+with_change whole s (Grants seat set) h = refl
+with_change whole s _ h = absurd (true≢false (sym h))
+
+-- ---- acts
+
+act_causes : (follows due here right : Bool) → List (Option Code)
+act_causes follows due here right =
+    when false BadField
+    ∷ when ((not follows || false) && not due) BadOrder
+    ∷ option_map Refused None
+    ∷ when (due && not here) WrongChange
+    ∷ when (not right) WrongShow
+    ∷ when false WrongLedger
+    ∷ []
+
+act_is : (whole : Bool) (s : SoFar) (act : Act Edit) → line_code whole s (Does act) ≡ first_of (act_causes (nat_le 6 s.last && nat_le s.last 6) (is_change_due s) (s.last == 6) (is_right_in s s.latest act))
+unfolding line_code act_causes
+act_is whole s (Shown place number) = refl
+act_is whole s (Edited place (edit.Add n) done) = refl
+act_is whole s (Edited place (edit.Take n) done) = refl
+act_is whole s (Edited place (edit.Set n) done) = refl
+
+-- an act that is not in its place
+pub act_misplaced : (whole : Bool) (s : SoFar) (act : Act Edit) (due : Bool) → (s.last == 6) ≡ false → (nat_le 6 s.last && nat_le s.last 6) ≡ false → is_change_due s ≡ due
+    → line_code whole s (Does act) ≡ Some (cond due WrongChange BadOrder)
+unfolding act_causes
+act_misplaced whole s act due here follows is = act_is whole s act ∙ at (nat_le 6 s.last && nat_le s.last 6) (is_change_due s) (s.last == 6) (is_right_in s s.latest act) due follows here is
+  where
+    at : (f d h r due : Bool) → f ≡ false → h ≡ false → d ≡ due → first_of (act_causes f d h r) ≡ Some (cond due WrongChange BadOrder)
+    at false true false r true p q is = refl
+    at false false false r false p q is = refl
+    at false true false r false p q is = absurd (true≢false is)
+    at false false false r true p q is = absurd (true≢false (sym is))
+    at true d h r due p q is = absurd (true≢false p)
+    at false d true r due p q is = absurd (true≢false q)
+
+pub act_judged : (whole : Bool) (s : SoFar) (act : Act Edit) (right : Bool) → s.last ≡ 6 → is_right_in s s.latest act ≡ right → line_code whole s (Does act) ≡ cond right None (Some WrongShow)
+unfolding act_causes
+act_judged whole s act right six is = act_is whole s act ∙ (λ i. first_of (act_causes (nat_le 6 (six i) && nat_le (six i) 6) (is_change_due s) (six i == 6) (is i))) ∙ at (is_change_due s) right
+  where
+    at : (d r : Bool) → first_of (act_causes true d true r) ≡ cond r None (Some WrongShow)
+    at true true = refl
+    at true false = refl
+    at false true = refl
+    at false false = refl
+
+-- ---- ledgers and the end
+
+pub leaves_is : (whole : Bool) (s : SoFar) (place : ℕ) (ledger : Ledger)
+    → line_code whole s (Leaves place ledger)
+    ≡ first_of (plain_causes false (is_change_due s) (nat_le 4 s.last && nat_le s.last 8) (is_nil (ledgers_due whole s)) None (not (is_first (ledgers_due whole s) (Leaves place ledger))))
+unfolding line_code
+leaves_is whole s place ledger = refl
+
+pub ends_is : (whole : Bool) (s : SoFar)
+    → line_code whole s Ends ≡ first_of (plain_causes false (is_change_due s) (nat_le 4 s.last && nat_le s.last 8) false None (not (is_nil (ledgers_due whole s))))
+unfolding line_code
+ends_is whole s = refl
+
+-- ---- events
+
+pub event_is : (whole : Bool) (s : SoFar) (e : Event)
+    → line_code whole s (Happens e) ≡ first_of (plain_causes false (is_change_due s) (nat_le 4 s.last && nat_le s.last 7) false (cond (is_change_due s) None (refusal_in (lock_in s) e)) false)
+unfolding line_code
+event_is whole s e = ap (λ f. first_of (plain_causes false (is_change_due s) f false (cond (is_change_due s) None (refusal_in (lock_in s) e)) false)) (event_follows s.last e)

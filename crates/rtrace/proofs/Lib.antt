@@ -1,5 +1,10 @@
+pub mod Due
 pub mod Codes
-pub mod Faulty
-pub mod Place
-pub mod Readings
+pub mod Steps
+pub mod LedgerSteps
+pub mod ActSteps
+pub mod EventSteps
+pub mod HeadSteps
 pub mod Results
+pub mod RowSteps
+pub mod Whole

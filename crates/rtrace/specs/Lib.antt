@@ -1,2 +1,3 @@
-pub mod Reading
-pub mod Place
+pub mod Knows
+pub mod Takes
+pub mod Collects

@@ -1,15 +1,26 @@
-//! Reading the text of an event list.
+//! Reading the text of an event list or of a report.
 //!
 //! A text is read record by record: each is taken, or has the first fault of the text. The events step a machine as they
-//! are read, and the text of their history is made on the way; what is told at the end is a whole list, or one fault.
+//! are read, once each; the lines of a report that follow from them are compared with what the machine and the ledgers
+//! say. What is told at the end is a whole list or report, or one fault.
 #![tactic(auto)]
 
-mod errors;
+mod acts;
+mod changes;
+mod collect;
+mod count;
 mod events;
-mod list;
+mod head;
+mod left;
+mod lists;
+mod place;
 mod reading;
+mod rows;
+mod taken;
 
-pub use errors::ListErr;
-pub use list::read_list;
-pub use rrecords::{Code, Fault, Refusal};
-pub use rreport::EventList;
+pub use count::count_events;
+pub use lists::{read_events, read_report};
+pub use reading::Reading;
+pub use rforms::{Code, Fault, Refusal, TextErr};
+pub use rreport::Report;
+pub use taken::Taken;

@@ -1,6 +1,6 @@
 use Rattle.std.proofs.Common.{ap, ◌∙◌}
 use Rattle.std.specs.Prelude.{option_and_then}
-use Rattle.rrecords.specs.Numbers.{cap_within, cap_told}
+use Rattle.rforms.specs.Numbers.{cap_within, cap_told}
 use Rattle.rrecords.proofs.numbers.cap_of.Goals as goal
 
 pub returns-in_err-number_of-clause-value : goal.returns-in_err-number_of-clause-value

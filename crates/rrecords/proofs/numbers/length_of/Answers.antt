@@ -2,7 +2,7 @@ use Rattle.std.proofs.Common.{cond, nat_le, Some, None, sym, ap, ◌∙◌, arit
 use Rattle.std.specs.Prelude.{option_and_then}
 use Rattle.std.proofs.lemmas.Bool.{le-leb, lt-leb}
 use Rattle.rclaim.specs.declared.TheConstants.{LENGTH_LIMIT}
-use Rattle.rrecords.specs.Numbers.{length_told}
+use Rattle.rforms.specs.Numbers.{length_told}
 use Rattle.rrecords.proofs.numbers.length_of.Goals as goal
 
 pub returns-in_err-number-clause-value : goal.returns-in_err-number-clause-value

@@ -1,0 +1,56 @@
+// What a person is told on standard error.
+use crate::status::ToolStatus;
+use rforms::{Code, Fault, Refusal};
+use std::io;
+
+/// Tells a person what a status means, and of a refused input what is wrong with which record.
+pub fn explain(rt: &impl Eprint, status: ToolStatus, told: Option<Fault>) {
+    let _ = match told {
+        Some(fault) => explain_fault(rt, fault),
+        None => explain_status(rt, status),
+    };
+}
+
+fn explain_status(rt: &impl Eprint, status: ToolStatus) -> io::Result<()> {
+    let meaning = match status {
+        ToolStatus::Done => return Ok(()),
+        ToolStatus::Words => {
+            "no such form. A form reads standard input: rnlp replay < LIST, or rnlp audit < REPORT. rnlp --help tells all"
+        }
+        ToolStatus::ReadFault => "standard input failed",
+        ToolStatus::WriteFault => "standard output failed",
+        ToolStatus::Script => "the input is no script",
+        ToolStatus::TooLong => "the input is too long",
+        ToolStatus::NoMemory => "out of memory",
+        ToolStatus::Trace => "the input is no event list, or no right report",
+    };
+    rt.eprintln(format_args!("rnlp: {meaning}"))
+}
+
+fn explain_fault(rt: &impl Eprint, fault: Fault) -> io::Result<()> {
+    let line = fault.line;
+    match fault.code {
+        Code::Refused(Refusal::Step(cause)) => {
+            rt.eprintln(format_args!("rnlp: record {line}: the event is refused: {cause}"))
+        }
+        Code::Refused(Refusal::Request(cause)) => {
+            rt.eprintln(format_args!("rnlp: record {line}: the event is refused: {cause}"))
+        }
+        code => rt.eprintln(format_args!("rnlp: record {line}: {}", meaning_of(code))),
+    }
+}
+
+fn meaning_of(code: Code) -> &'static str {
+    match code {
+        Code::BadField =>
+            "it is no record of this input, or a name, a number or a word of it is bad",
+        Code::UnknownName => "it names a task or a resource that is not declared",
+        Code::BadOrder => "it may not stand at this place",
+        Code::Refused(_) => "the event is refused",
+        Code::WrongChange => "another line of a change is due here, or none",
+        Code::WrongShow =>
+            "the answer of this act is wrong, or the section does not hold the resource",
+        Code::WrongLedger => "another ledger is due here",
+        Code::NoEnd => "the input has no end record",
+    }
+}

@@ -1,0 +1,28 @@
+-- What was written of parts of a text.
+use Rattle.std.proofs.Common.{◌≡◌, ℕ, ◌+◌, List, ◌++◌, length, take, Option, None, Some, Result, Ok, Err, OnOk, OnErr, subst, sym, ap, ◌∙◌, arith, append_assoc}
+use Rattle.std.proofs.lemmas.List.{length-append, take-append-le}
+use Rattle.std.proofs.Math.Seq.{take-append-add}
+use Rattle.io_ends.specs.Ends.{Appends, AppendsPrefix}
+
+-- a fact holds of an error too, and what is said of a success holds of one
+pub always_on_err : {T E P : Type 0} (r : Result T E) → P → OnErr r P
+always_on_err (Ok x) p = tt
+always_on_err (Err e) p = p
+
+pub when_ok : {T E P : Type 0} (r : Result T E) (v : T) → r ≡ Ok v → OnOk r P → P
+when_ok {T} {E} {P} r v is said = subst (λ (s : Result T E). OnOk s P) is said
+
+module _ (a b : List ℕ) where
+  -- a front part of the first is one of both
+  pub prefix_before : (before after : Option (List ℕ)) → AppendsPrefix before after a → AppendsPrefix before after (a ++ b)
+  prefix_before None after p = (p.0, omega (arith, p.1, length-append a b), tt)
+  prefix_before (Some w) after p = (p.0, omega (arith, p.1, length-append a b), p.2 ∙ ap (λ t. Some (w ++ t)) (sym (take-append-le p.0 a b (omega (arith, p.1)))))
+
+  -- a front part of the second, behind the first, is one of both
+  pub prefix_behind : (before between after : Option (List ℕ)) → Appends before between a → AppendsPrefix between after b → AppendsPrefix before after (a ++ b)
+  prefix_behind None between after whole p = (length a + p.0, omega (arith, p.1, length-append a b), tt)
+  prefix_behind (Some w) between after whole p = (
+    length a + p.0,
+    omega (arith, p.1, length-append a b),
+    (rw whole at p.2) ∙ ap Some (append_assoc w a (take p.0 b) ∙ ap (λ t. w ++ t) (sym (take-append-add a b p.0))),
+  )

@@ -1,0 +1,161 @@
+// Keeping the history of a text as it is read.
+ghost use Rattle.std.specs.Prelude.{◌≡◌, ◌<◌, ◌^◌, ◌++◌, Bool, length, true, OnOk, IfOk, IfErr, IfSome, Some, None, option_to_list, option_map};
+ghost use Rattle.csv.specs.Records.{fields_of};
+ghost use Rattle.rforms.specs.declared.fault.Code.{Code};
+ghost use Rattle.rvalue.specs.declared.act.Act.{Act};
+ghost use Rattle.rvalue.specs.declared.ledger.Edit.{Edit};
+ghost use Rattle.rreport.specs.Report.{told_by, IsOverResources, HasItsLedgers};
+
+use crate::reading::Reading;
+use crate::taken::Taken;
+use csv::ByteRecord;
+use rclaim::Event;
+use rforms::{Code, RowErr, TextErr};
+use rreport::Report;
+use rvalue::{Act, Edit, Entry, History};
+use std::alloc::{AllocError, Global};
+
+/// Takes the records of a text, and keeps all that they say.
+#[derive(Drop)]
+pub struct Collecting {
+    pub alloc: Global,
+    pub reading: Reading,
+    /// All entries but the latest.
+    pub history: History<Edit>,
+    /// The latest entry, to which acts may be added.
+    pub latest: Option<Entry<Edit>>,
+}
+
+impl Collecting {
+    ghost use Rattle.rforms.specs.SoFar.{SoFar, nothing_yet, entries_in, told_in, with_row, bare, with_act};
+    ghost use Rattle.rforms.specs.Faults.{code_of, is_ended};
+    ghost use Rattle.rtrace.specs.Collects.{KnowsAll, IsFinished};
+
+    /// Nothing was taken. No memory is taken.
+    pub fn new(alloc: Global, whole: bool) -> Collecting
+        ensures { KnowsAll whole result nothing_yet }
+    {
+        Collecting {
+            alloc,
+            reading: Reading::new(alloc, whole),
+            history: History::new(alloc),
+            latest: None,
+        }
+    }
+
+    /// Takes the next record.
+    ///
+    /// # Errors
+    ///
+    /// The first thing that is wrong with it, or want of memory.
+    pub fn take(&mut self, fields: &ByteRecord) -> Result<(), RowErr>
+        requires { (whole : Bool) × (s : SoFar) × KnowsAll whole self.old s × (length (entries_in s) < 2 ^ 62) }
+        ensures taken { OnOk result ((whole : Bool) (s : SoFar) → KnowsAll whole self.old s → (code_of whole s (fields_of fields.now) ≡ None) × KnowsAll whole self.new (with_row whole s (fields_of fields.now))) }
+        ensures bad { (code : Code) → result ≡ Err (RowErr.Bad code) → (whole : Bool) (s : SoFar) → KnowsAll whole self.old s → code_of whole s (fields_of fields.now) ≡ Some code }
+    {
+        match self.reading.take(self.alloc, fields) {
+            Ok(Taken::Event(event)) => self.begin(event),
+            Ok(Taken::Act(act)) => self.add(act),
+            Ok(Taken::Other) => Ok(()),
+            Err(e) => Err(e),
+        }
+    }
+
+    // Begins the entry of an event.
+    fn begin(&mut self, event: Event) -> Result<(), RowErr>
+        ensures begun { OnOk result ((self.new.reading ≡ self.old.reading) × (self.new.history.entries ≡ self.old.history.entries ++ option_to_list self.old.latest) × (self.new.latest ≡ Some (bare event))) }
+        ensures memory { (code : Code) → result ≡ Err (RowErr.Bad code) → ⊥ }
+    {
+        if self.keep().is_err() {
+            return Err(RowErr::Memory);
+        }
+        self.latest = Some(Entry {
+            event,
+            acts: Vec::new(self.alloc),
+        });
+        Ok(())
+    }
+
+    // Puts the latest entry behind the others, if there is one.
+    fn keep(&mut self) -> Result<(), AllocError>
+        ensures { OnOk result ((self.new.reading ≡ self.old.reading) × (self.new.history.entries ≡ self.old.history.entries ++ option_to_list self.old.latest)) }
+    {
+        self.history.reserve(1)?;
+        if let Some(entry) = self.latest.take() {
+            self.history.push_reserved(entry);
+        }
+        Ok(())
+    }
+
+    // Adds an act to the latest entry.
+    fn add(&mut self, act: Act<Edit>) -> Result<(), RowErr>
+        ensures added { OnOk result ((self.new.reading ≡ self.old.reading) × (self.new.history ≡ self.old.history) × (self.new.latest ≡ option_map (with_act act) self.old.latest)) }
+        ensures memory { (code : Code) → result ≡ Err (RowErr.Bad code) → ⊥ }
+    {
+        let Some(entry) = self.latest.take() else {
+            return Err(RowErr::Memory);
+        };
+        let Entry { event, mut acts } = entry;
+        if acts.push(act).is_err() {
+            return Err(RowErr::Memory);
+        }
+        self.latest = Some(Entry { event, acts });
+        Ok(())
+    }
+
+    /// What was said, as a report.
+    ///
+    /// # Errors
+    ///
+    /// Want of memory.
+    pub fn report(self) -> Result<Report, TextErr>
+        ensures report { IfOk result (λ r. (whole : Bool) (s : SoFar) → KnowsAll whole self s → (told_by r ≡ told_in s) × IsOverResources r × HasItsLedgers r) }
+        ensures memory { IfErr result (λ e. e ≡ TextErr.Memory) }
+    {
+        let mut taker = self;
+        let Ok(()) = taker.keep() else {
+            return Err(TextErr::Memory);
+        };
+        match taker.finished() {
+            Some(report) => Ok(report),
+            None => Err(TextErr::Memory),
+        }
+    }
+
+    // The report of what is kept; None where the head has no task.
+    fn finished(self) -> Option<Report>
+        ensures { IfSome result (IsFinished self) }
+    {
+        let Collecting {
+            alloc: _,
+            reading,
+            history,
+            latest: _,
+        } = self;
+        let Reading {
+            whole: _,
+            last: _,
+            resources,
+            groups,
+            tasks,
+            cap,
+            machine: _,
+            ledgers,
+            shown: _,
+            edited: _,
+            told: _,
+        } = reading;
+        let Some(groups) = groups else {
+            return None;
+        };
+        let cap = cap.unwrap_or(tasks.len());
+        Some(Report {
+            resources,
+            groups,
+            tasks,
+            cap,
+            history,
+            ledgers,
+        })
+    }
+}

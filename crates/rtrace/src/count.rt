@@ -1,0 +1,76 @@
+// Checking a report, with no more kept than is needed to judge it.
+ghost use Rattle.std.specs.Prelude.{◌≡◌, ◌<◌, ◌^◌, length, IfOk, true, [], List};
+ghost use Rattle.rforms.specs.Reports.{Report};
+ghost use Rattle.rforms.specs.Takers.{IsFirstFault};
+ghost use Rattle.rforms.specs.Texts.{IsTextOf};
+ghost use Rattle.rforms.specs.declared.fault.Code.{Code};
+ghost use Rattle.rforms.specs.declared.fault.Code.TheVariants.{NoEnd};
+ghost use Rattle.rforms.specs.declared.fault.Fault.{Fault};
+
+use crate::reading::Reading;
+use crate::taken::Taken;
+use csv::ByteRecord;
+use rforms::{Code, Records, RowErr, TextErr, take_text};
+use std::alloc::Global;
+
+/// Takes the records of a report, and counts its events.
+#[derive(Drop)]
+pub struct Counting {
+    pub alloc: Global,
+    pub reading: Reading,
+    pub events: u64,
+}
+
+impl Records for Counting {
+    ghost use Rattle.rforms.specs.Takers.{list_code, is_list_done, KnowsSaid};
+    ghost use Rattle.rtrace.specs.Collects.{KnowsCount};
+
+    type Code = Code;
+
+    ghost code = { list_code true };
+
+    ghost is_done = { is_list_done true };
+
+    ghost no_end = { NoEnd };
+
+    ghost knows = { KnowsSaid true KnowsCount };
+
+    fn take(&mut self, fields: &ByteRecord) -> Result<(), RowErr> {
+        match self.reading.take(self.alloc, fields) {
+            Ok(Taken::Event(_)) => {
+                self.events += 1;
+                Ok(())
+            }
+            Ok(Taken::Act(_)) | Ok(Taken::Other) => Ok(()),
+            Err(e) => Err(e),
+        }
+    }
+
+    fn has_ended(&self) -> bool {
+        self.reading.has_ended()
+    }
+
+    fn no_end(&self) -> Code {
+        Code::NoEnd
+    }
+}
+
+/// Checks a report, and answers how many events it has. Nothing is kept of its history.
+///
+/// # Errors
+///
+/// The first fault of a text that is no report, or want of memory.
+pub fn count_events(alloc: Global, bytes: &[u8]) -> Result<u64, TextErr>
+    ensures right { IfOk result (λ events. (report : Report) × IsTextOf true bytes.now report × (events ≡ length report.entries)) }
+    ensures bad { (fault : Fault Code) → result ≡ Err (TextErr.Bad fault) → IsFirstFault true bytes.now fault }
+{
+    let mut taker = Counting {
+        alloc,
+        reading: Reading::new(alloc, true),
+        events: 0,
+    };
+    match take_text(alloc, bytes, &mut taker) {
+        Ok(()) => Ok(taker.events),
+        Err(e) => Err(e),
+    }
+}
