@@ -7,3 +7,4 @@ pub mod Digits
 pub mod SetNames
 pub mod Made
 pub mod Takes
+pub mod Tasks

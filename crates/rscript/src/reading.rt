@@ -97,6 +97,7 @@ impl Reading {
         ensures taken { OnOk result (Takes self.old self.new (fields_of fields.now) Word.Version) }
         ensures bad { (cause : Code) → result ≡ Err (RowErr.Bad cause) → Refuses self.old (fields_of fields.now) Word.Version cause }
     {
+        // Its fields are its word alone: only the contract speaks of them.
         let _ = fields;
         self.last = 1;
         Ok(())
@@ -176,6 +177,7 @@ impl Reading {
         ensures taken { OnOk result (Takes self.old self.new (fields_of fields.now) Word.End) }
         ensures bad { (cause : Code) → result ≡ Err (RowErr.Bad cause) → Refuses self.old (fields_of fields.now) Word.End cause }
     {
+        // Its fields are its word alone: only the contract speaks of them.
         let _ = fields;
         if self.resources.len() == 0 {
             return Err(RowErr::Bad(Code::NoResources));

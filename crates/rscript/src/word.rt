@@ -2,7 +2,7 @@
 use rclaim::Kind;
 
 /// What a record is. Each has its own list of fields.
-#[derive(Clone, Copy, Debug, PartialEq, Eq)]
+#[derive(Clone, Copy)]
 pub enum Word {
     /// `rnlp,1`
     Version,

@@ -14,7 +14,7 @@ use Rattle.rmodel.specs.Steps.{next}
 use Rattle.rmodel.specs.declared.granted.Granted.{Granted}
 use Rattle.rforms.specs.Records.{Row}
 use Rattle.rforms.specs.Lines.{Line}
-use Rattle.rforms.specs.SoFar.{SoFar, at_ledgers, entries_in, event_place, bare, with_act, with_line, with_row}
+use Rattle.rforms.specs.SoFar.{SoFar, at_tasks, at_changes, at_ledgers, entries_in, event_place, bare, with_act, with_line, with_row}
 use Rattle.rforms.specs.Faults.{line_code, code_of, is_change_due}
 use Rattle.rforms.specs.declared.fault.Code.{Code}
 use Rattle.rforms.specs.declared.fault.Code.TheVariants.{BadOrder, WrongChange}
@@ -85,7 +85,7 @@ event_admitted groups _ = true
 
 -- an event may stand here, and no change is due
 abbrev pub IsPlaced : Reading → Type 0
-IsPlaced reading = (whole : Bool) (s : SoFar) → Knows whole reading s → place_code s 4 7 ≡ None
+IsPlaced reading = (whole : Bool) (s : SoFar) → Knows whole reading s → place_code s at_tasks at_changes ≡ None
 
 -- the reader behind an accepted event, whose seat held this before
 abbrev pub noted : Reading → Event → Granted → Reading

@@ -4,6 +4,7 @@ ghost use Rattle.rforms.specs.SoFar.{SoFar, nothing_yet};
 ghost use Rattle.rforms.specs.Faults.{is_ended};
 ghost use Rattle.rtrace.specs.Knows.{Knows};
 
+use crate::place::{AT_END, AT_START};
 use rexpand::Groups;
 use rplain::Plain;
 use rset::{NameTable, ResourceSet};
@@ -44,7 +45,7 @@ impl Reading {
     {
         Reading {
             whole,
-            last: 0,
+            last: AT_START,
             resources: NameTable::new(alloc),
             groups: None,
             tasks: NameTable::new(alloc),
@@ -61,6 +62,6 @@ impl Reading {
     pub fn has_ended(&self) -> bool
         ensures { (whole : Bool) (s : SoFar) → Knows whole self.now s → result ≡ is_ended s }
     {
-        self.last == 9
+        self.last == AT_END
     }
 }

@@ -10,4 +10,6 @@ mod limits;
 #[cfg(test)]
 mod runs;
 #[cfg(test)]
+mod scripts;
+#[cfg(test)]
 mod words;
