@@ -15,3 +15,7 @@ pub mod Sharing
 pub mod Halves
 pub mod Rising
 pub mod Asking
+pub mod Going
+pub mod Seeing
+pub mod Having
+pub mod Raising

@@ -12,7 +12,7 @@ use Rattle.rvalue.specs.declared.act.Act.{Act}
 use Rattle.rvalue.specs.Acts.{value_within}
 use Rattle.rvalue.specs.Histories.{value_of}
 use Rattle.rstate.specs.Contents.{is_ready}
-use Rattle.rstate.specs.Histories.{Beginning, lock_after, writes_of}
+use Rattle.rstate.specs.Histories.{Beginning, lock_after, writes_of, IsLawfulFrom}
 use Rattle.rstate.specs.Laws.{is_held_by}
 use Rattle.rguard.specs.declared.kind.GuardKind.{GuardKind}
 use Rattle.rguard.specs.declared.kind.GuardKind.TheVariants.{Read, Write, Rise, Nest}
@@ -43,6 +43,10 @@ module _ {V E : Type 0} where
   -- a fact about the lock as the seat has seen it last, from how the lock began
   abbrev pub AsSeen : SeatOf V E → (Beginning V → Type 0) → Type 0
   AsSeen seat P = (b : Beginning V) → seat.opening ≡ Some b → P b
+
+  -- what the seat has seen is lawful from how the lock began
+  abbrev pub HasSeenLawful : (V → E → V) → (V → E → Bool) → (V → ℕ) → SeatOf V E → Type 0
+  HasSeenLawful after taken number seat = AsSeen seat (λ b. IsLawfulFrom after taken number b seat.seen)
 
   -- the seat holds the resource
   abbrev pub Holding : SeatOf V E → ℕ → Type 0

@@ -2,7 +2,7 @@
 ghost use Rattle.std.specs.Prelude.{◌≡◌, [], IfOk, IfErr};
 ghost use Rattle.rguard.specs.Seats.{IsOf, IsIdle, SuitsSeat, Goes};
 ghost use Rattle.rguard.specs.Awaiting.{awaited_kind, HasNext, no_loans};
-ghost use Rattle.rguard.specs.Guards.{HasBegun, kind_for};
+ghost use Rattle.rguard.specs.Guards.{HasSeenLawful, HasBegun, kind_for};
 ghost use Rattle.rguard.specs.Sections.{Waits, waiting};
 ghost use Rattle.rguard.specs.Looks.{LooksAt};
 
@@ -117,9 +117,10 @@ impl<T: Editable, M: Machine> Lock<State<T, M>> {
 }
 
 impl<'a, T: Editable, M: Machine> Pending<'a, T, M> {
-    /// Lends the seat that waits. It has no turn. No memory is taken.
+    /// Lends the seat that waits. It has no turn. What it has seen is lawful from how the lock began. No memory is taken.
     pub fn seat(&self) -> &Seat<T, M>
-        ensures { result.now ≡ self.now.seat }
+        ensures seat { result.now ≡ self.now.seat }
+        ensures lawful { HasSeenLawful T.after T.taken T.number self.now.seat }
     {
         &self.section.seat
     }
