@@ -4,3 +4,4 @@ pub mod Reaching
 pub mod GoodLines
 pub mod GoodEntries
 pub mod Told
+pub mod Spelled

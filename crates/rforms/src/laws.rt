@@ -47,6 +47,11 @@ pub fn what_is_written_is_read()
     ensures { (report : Report) → MayBeWritten report → IsTextOf true (report_text report) report }
 {}
 
+/// What records spell may be written.
+pub fn what_is_spelled_may_be_written()
+    ensures { (whole : Bool) (rows : List Row) (report : Report) → Spells whole rows report → MayBeWritten report }
+{}
+
 /// In a lawful history each change of a status and each grant has its line.
 pub fn each_change_is_told()
     ensures { (head : Head) (earlier : List Entry) (entry : Entry) → IsLawful head (earlier ++ entry ∷ []) → EachChangeIsTold (lock_after head earlier) entry.event }

@@ -2,6 +2,7 @@
 ghost use Rattle.std.specs.Prelude.{◌≡◌, Bool, true, false, IfOk};
 ghost use Rattle.rforms.specs.Takers.{IsFirstFault};
 ghost use Rattle.rforms.specs.Texts.{IsTextOf};
+ghost use Rattle.rforms.specs.Written.{MayBeWritten};
 ghost use Rattle.rforms.specs.declared.fault.Code.{Code};
 ghost use Rattle.rforms.specs.declared.fault.Code.TheVariants.{NoEnd};
 ghost use Rattle.rforms.specs.declared.fault.Fault.{Fault};
@@ -79,13 +80,14 @@ impl Records for ReportTaker {
     }
 }
 
-/// Reads an event list. It has no acts, and its ledgers are as they open.
+/// Reads an event list. It has no acts, and its ledgers are as they open. What is read may be written as a report.
 ///
 /// # Errors
 ///
 /// The first fault of a text that is no event list, or want of memory.
 pub fn read_events(alloc: Global, bytes: &[u8]) -> Result<Report, TextErr>
     ensures list { IfOk result (λ r. IsTextOf false bytes.now (told_by r) × IsOverResources r × HasItsLedgers r) }
+    ensures writable { IfOk result (λ r. MayBeWritten (told_by r)) }
     ensures bad { (fault : Fault Code) → result ≡ Err (TextErr.Bad fault) → IsFirstFault false bytes.now fault }
 {
     let mut taker = ListTaker {
@@ -97,13 +99,14 @@ pub fn read_events(alloc: Global, bytes: &[u8]) -> Result<Report, TextErr>
     }
 }
 
-/// Reads a report, and checks all of it.
+/// Reads a report, and checks all of it. What is read may be written.
 ///
 /// # Errors
 ///
 /// The first fault of a text that is no report, or want of memory.
 pub fn read_report(alloc: Global, bytes: &[u8]) -> Result<Report, TextErr>
     ensures report { IfOk result (λ r. IsTextOf true bytes.now (told_by r) × IsOverResources r × HasItsLedgers r) }
+    ensures writable { IfOk result (λ r. MayBeWritten (told_by r)) }
     ensures bad { (fault : Fault Code) → result ≡ Err (TextErr.Bad fault) → IsFirstFault true bytes.now fault }
 {
     let mut taker = ReportTaker {

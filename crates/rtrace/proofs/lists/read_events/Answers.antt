@@ -3,6 +3,7 @@ use Rattle.rforms.proofs.texts.Lists.{list_taken, list_fault}
 use Rattle.rtrace.specs.Collects.{KnowsList}
 use Rattle.rtrace.proofs.Results.{same_error}
 use Rattle.rtrace.proofs.Whole.{read_whole}
+use Rattle.rtrace.proofs.Writable.{writable}
 use Rattle.rtrace.proofs.lists.read_events.Goals as goal
 
 pub returns-in-Ok-clause-list : goal.returns-in-Ok-clause-list
@@ -12,3 +13,6 @@ returns-in-Ok-clause-list c =
 
 pub returns-in-Err-clause-bad : goal.returns-in-Err-clause-bad
 returns-in-Err-clause-bad c = λ fault is. list_fault false c.args.bytes.now fault (c.in-Err.ensures.bad fault (same_error is))
+
+pub returns-in-Ok-clause-writable : goal.returns-in-Ok-clause-writable
+returns-in-Ok-clause-writable c = writable false c.args.bytes.now c.report.result (returns-in-Ok-clause-list c)

@@ -3,6 +3,7 @@ use Rattle.rforms.proofs.texts.Lists.{list_taken, list_fault}
 use Rattle.rtrace.specs.Collects.{KnowsReport}
 use Rattle.rtrace.proofs.Results.{same_error}
 use Rattle.rtrace.proofs.Whole.{read_whole}
+use Rattle.rtrace.proofs.Writable.{writable}
 use Rattle.rtrace.proofs.lists.read_report.Goals as goal
 
 pub returns-in-Ok-clause-report : goal.returns-in-Ok-clause-report
@@ -12,3 +13,6 @@ returns-in-Ok-clause-report c =
 
 pub returns-in-Err-clause-bad : goal.returns-in-Err-clause-bad
 returns-in-Err-clause-bad c = λ fault is. list_fault true c.args.bytes.now fault (c.in-Err.ensures.bad fault (same_error is))
+
+pub returns-in-Ok-clause-writable : goal.returns-in-Ok-clause-writable
+returns-in-Ok-clause-writable c = writable true c.args.bytes.now c.report.result (returns-in-Ok-clause-report c)
