@@ -20,7 +20,7 @@ use Rattle.rmodel.proofs.ListFacts.{Among, contrary, all_at, among_append, none_
 use Rattle.rmodel.proofs.reaching.Came.{origin, came}
 use Rattle.rmodel.proofs.reaching.HeldBySeat.{HeldBy, holding, is_nothing_of, held_of_plain, held_of_unsatisfied}
 use Rattle.rmodel.proofs.reaching.Soundness.{seat_is_idle}
-use Rattle.rmodel.proofs.stepping.Own.{each_alone}
+use Rattle.rmodel.proofs.reaching.OneOfSeat.{each_alone}
 use Rattle.rvalue.specs.Entries.{EntryFields}
 use Rattle.rvalue.specs.InTurn.{AllInTurn}
 use Rattle.rstate.specs.Contents.{is_ready}
