@@ -4,12 +4,11 @@ ghost use Rattle.std.specs.Process.{exit_status};
 ghost use Rattle.rnlp_cli.specs.Status.{status_number};
 ghost use Rattle.rnlp_cli.specs.Answer.{ProgramAnswer, RunAnswer};
 
-use crate::explain::explain;
+use crate::explain::{Told, explain};
 use crate::own::own_text;
 use crate::status::ToolStatus;
 use crate::tool::told_tool;
 use io_ends::{Sink, Source, write_all};
-use rforms::Fault;
 use std::alloc::Global;
 use std::env;
 use std::io::ErrorKind;
@@ -54,7 +53,7 @@ fn told_answer<S: Source, K: Sink>(
     words: &[String],
     source: &mut S,
     sink: &mut K,
-    told: &mut Option<Fault>,
+    told: &mut Option<Told>,
 ) -> ToolStatus
     ensures { ProgramAnswer S.left S.faults K.written K.faults (map string_bytes words.now) source.old source.new sink.old sink.new result }
 {

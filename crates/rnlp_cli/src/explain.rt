@@ -3,12 +3,28 @@ use crate::status::ToolStatus;
 use rforms::{Code, Fault, Refusal};
 use std::io;
 
-/// Tells a person what a status means, and of a refused input what is wrong with which record.
-pub fn explain(rt: &impl Eprint, status: ToolStatus, told: Option<Fault>) {
-    let _ = match told {
-        Some(fault) => explain_fault(rt, fault),
-        None => explain_status(rt, status),
-    };
+/// What is told of a refused input.
+#[derive(Drop)]
+pub struct Told {
+    /// Its first fault.
+    pub fault: Fault,
+    /// The line that is due in its place, where one is.
+    pub expected: Option<String>,
+}
+
+/// Tells a person what a status means, and of a refused input what is wrong with which record, and which line is due there.
+pub fn explain(rt: &impl Eprint, status: ToolStatus, told: Option<Told>) {
+    match told {
+        Some(told) => {
+            let _ = explain_fault(rt, told.fault);
+            if let Some(line) = told.expected {
+                let _ = rt.eprintln(format_args!("rnlp: expected: {line}"));
+            }
+        }
+        None => {
+            let _ = explain_status(rt, status);
+        }
+    }
 }
 
 fn explain_status(rt: &impl Eprint, status: ToolStatus) -> io::Result<()> {

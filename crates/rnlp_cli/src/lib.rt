@@ -6,6 +6,7 @@
 
 mod auditing;
 mod edge;
+mod expected;
 mod explain;
 mod own;
 mod replaying;

@@ -7,13 +7,15 @@ ghost use Rattle.rnlp_cli.specs.Outputs.{audit_text};
 ghost use Rattle.rnlp_cli.specs.Writing.{IsAnswer, IsWritten, IsRefused};
 
 use crate::auditing::audit_text;
+use crate::expected::expected;
+use crate::explain::Told;
 use crate::replaying::{Replayed, replay_of};
 use crate::status::ToolStatus;
 use crate::words::{Command, command_of};
 use io_ends::{ReadErr, Sink, Source, read_all, write_all};
 use rforms::{Fault, TextErr};
 use rreport::{error_line, write_parts};
-use rtrace::count_events;
+use rtrace::{Counting, count_events};
 use std::alloc::Global;
 
 /// Runs the tool that the words name, and answers how it ended. It always returns.
@@ -37,7 +39,7 @@ pub fn told_tool<S: Source, K: Sink>(
     words: &[String],
     source: &mut S,
     sink: &mut K,
-    told: &mut Option<Fault>,
+    told: &mut Option<Told>,
 ) -> ToolStatus
     ensures { ToolAnswer S.left S.faults K.written K.faults (command_in (map string_bytes words.now)) source.old source.new sink.old sink.new result }
 {
@@ -58,7 +60,7 @@ fn run_command<K: Sink>(
     command: Command,
     bytes: &[u8],
     sink: &mut K,
-    told: &mut Option<Fault>,
+    told: &mut Option<Told>,
 ) -> ToolStatus
     ensures { IsAnswer (Some command) bytes.now (K.written sink.old) (K.written sink.new) (K.faults sink.new ≡ K.faults sink.old) (Rose (K.faults sink.old) (K.faults sink.new)) (sink.new ≡ sink.old) result }
 {
@@ -69,17 +71,18 @@ fn run_command<K: Sink>(
 }
 
 // Writes the report of an event list.
-fn replay<K: Sink>(
-    alloc: Global,
-    bytes: &[u8],
-    sink: &mut K,
-    told: &mut Option<Fault>,
-) -> ToolStatus
+fn replay<K: Sink>(alloc: Global, bytes: &[u8], sink: &mut K, told: &mut Option<Told>) -> ToolStatus
     ensures { IsAnswer (Some Command.Replay) bytes.now (K.written sink.old) (K.written sink.new) (K.faults sink.new ≡ K.faults sink.old) (Rose (K.faults sink.old) (K.faults sink.new)) (sink.new ≡ sink.old) result }
 {
     match replay_of(alloc, bytes) {
         Ok(made) => report(&made, sink),
-        Err(TextErr::Bad(fault)) => refuse(alloc, fault, sink, told),
+        Err(TextErr::Bad(fault)) => {
+            *told = Some(Told {
+                fault,
+                expected: None,
+            });
+            refuse(alloc, fault, sink)
+        }
         Err(TextErr::Memory) => ToolStatus::NoMemory,
     }
 }
@@ -100,12 +103,19 @@ fn report<K: Sink>(made: &Replayed, sink: &mut K) -> ToolStatus
 }
 
 // Checks a report, and writes how many events it has.
-fn audit<K: Sink>(alloc: Global, bytes: &[u8], sink: &mut K, told: &mut Option<Fault>) -> ToolStatus
+fn audit<K: Sink>(alloc: Global, bytes: &[u8], sink: &mut K, told: &mut Option<Told>) -> ToolStatus
     ensures { IsAnswer (Some Command.Audit) bytes.now (K.written sink.old) (K.written sink.new) (K.faults sink.new ≡ K.faults sink.old) (Rose (K.faults sink.old) (K.faults sink.new)) (sink.new ≡ sink.old) result }
 {
-    match count_events(alloc, bytes) {
+    let mut counting = Counting::new(alloc);
+    match count_events(alloc, bytes, &mut counting) {
         Ok(events) => tell(alloc, events, sink),
-        Err(TextErr::Bad(fault)) => refuse(alloc, fault, sink, told),
+        Err(TextErr::Bad(fault)) => {
+            *told = Some(Told {
+                fault,
+                expected: expected(alloc, &counting.reading, fault.code),
+            });
+            refuse(alloc, fault, sink)
+        }
         Err(TextErr::Memory) => ToolStatus::NoMemory,
     }
 }
@@ -124,15 +134,9 @@ fn tell<K: Sink>(alloc: Global, events: u64, sink: &mut K) -> ToolStatus
 }
 
 // Writes the line of a fault.
-fn refuse<K: Sink>(
-    alloc: Global,
-    fault: Fault,
-    sink: &mut K,
-    told: &mut Option<Fault>,
-) -> ToolStatus
+fn refuse<K: Sink>(alloc: Global, fault: Fault, sink: &mut K) -> ToolStatus
     ensures { IsRefused fault (K.written sink.old) (K.written sink.new) (K.faults sink.new ≡ K.faults sink.old) (Rose (K.faults sink.old) (K.faults sink.new)) (sink.new ≡ sink.old) result }
 {
-    *told = Some(fault);
     let Ok(text) = error_line(alloc, fault) else {
         return ToolStatus::NoMemory;
     };

@@ -1,11 +1,13 @@
 // Checking a report, with no more kept than is needed to judge it.
 ghost use Rattle.std.specs.Prelude.{◌≡◌, ◌<◌, ◌^◌, length, IfOk, true, [], List};
 ghost use Rattle.rforms.specs.Reports.{Report};
+ghost use Rattle.rforms.specs.SoFar.{nothing_yet};
 ghost use Rattle.rforms.specs.Takers.{IsFirstFault};
 ghost use Rattle.rforms.specs.Texts.{IsTextOf};
 ghost use Rattle.rforms.specs.declared.fault.Code.{Code};
 ghost use Rattle.rforms.specs.declared.fault.Code.TheVariants.{NoEnd};
 ghost use Rattle.rforms.specs.declared.fault.Fault.{Fault};
+ghost use Rattle.rtrace.specs.Collects.{KnowsCount};
 
 use crate::reading::Reading;
 use crate::taken::Taken;
@@ -55,22 +57,31 @@ impl Records for Counting {
     }
 }
 
+impl Counting {
+    /// Nothing was read. No memory is taken.
+    pub fn new(alloc: Global) -> Counting
+        ensures { KnowsCount result nothing_yet }
+    {
+        Counting {
+            alloc,
+            reading: Reading::new(alloc, true),
+            events: 0,
+        }
+    }
+}
+
 /// Checks a report, and answers how many events it has. Nothing is kept of its history.
 ///
 /// # Errors
 ///
-/// The first fault of a text that is no report, or want of memory.
-pub fn count_events(alloc: Global, bytes: &[u8]) -> Result<u64, TextErr>
+/// The first fault of a text that is no report, or want of memory. Nothing is said then of what `counting` knows.
+pub fn count_events(alloc: Global, bytes: &[u8], counting: &mut Counting) -> Result<u64, TextErr>
+    requires fresh { KnowsCount counting.old nothing_yet }
     ensures right { IfOk result (λ events. (report : Report) × IsTextOf true bytes.now report × (events ≡ length report.entries)) }
     ensures bad { (fault : Fault Code) → result ≡ Err (TextErr.Bad fault) → IsFirstFault true bytes.now fault }
 {
-    let mut taker = Counting {
-        alloc,
-        reading: Reading::new(alloc, true),
-        events: 0,
-    };
-    match take_text(alloc, bytes, &mut taker) {
-        Ok(()) => Ok(taker.events),
+    match take_text(alloc, bytes, counting) {
+        Ok(()) => Ok(counting.events),
         Err(e) => Err(e),
     }
 }

@@ -18,7 +18,7 @@ mod reading;
 mod rows;
 mod taken;
 
-pub use count::count_events;
+pub use count::{Counting, count_events};
 pub use lists::{read_events, read_report};
 pub use reading::Reading;
 pub use rforms::{Code, Fault, Refusal, TextErr};

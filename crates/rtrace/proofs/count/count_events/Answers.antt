@@ -11,5 +11,5 @@ returns-in-Ok-clause-right c =
     let t = list_taken true KnowsCount c.args.bytes.now c.take_text.new.taker c.in-Ok.ensures.taken in
     (told_in (read_all true t.rows), (t.rows, t.are, t.spells), t.knows.events)
 
-pub returns-clause-bad : goal.returns-clause-bad
-returns-clause-bad c = λ fault is. list_fault true c.args.bytes.now fault (c.in-Err.ensures.bad fault (same_error is))
+pub returns-in-Err-clause-bad : goal.returns-in-Err-clause-bad
+returns-in-Err-clause-bad c = λ fault is. list_fault true c.args.bytes.now fault (c.in-Err.ensures.bad fault (same_error is))
