@@ -1,6 +1,8 @@
 // What a person is told on standard error.
 use crate::status::ToolStatus;
+use rclaim::RequestErr;
 use rforms::{Code, Fault, Refusal};
+use rmodel::Refused;
 use std::io;
 
 /// What is told of a refused input.
@@ -46,10 +48,8 @@ fn explain_status(rt: &impl Eprint, status: ToolStatus) -> io::Result<()> {
 fn explain_fault(rt: &impl Eprint, fault: Fault) -> io::Result<()> {
     let line = fault.line;
     match fault.code {
-        Code::Refused(Refusal::Step(cause)) => {
-            rt.eprintln(format_args!("rnlp: record {line}: the event is refused: {cause}"))
-        }
-        Code::Refused(Refusal::Request(cause)) => {
+        Code::Refused(refusal) => {
+            let cause = meaning_of_refusal(refusal);
             rt.eprintln(format_args!("rnlp: record {line}: the event is refused: {cause}"))
         }
         code => rt.eprintln(format_args!("rnlp: record {line}: {}", meaning_of(code))),
@@ -68,5 +68,24 @@ fn meaning_of(code: Code) -> &'static str {
             "the answer of this act is wrong, or the section does not hold the resource",
         Code::WrongLedger => "another ledger is due here",
         Code::NoEnd => "the input has no end record",
+    }
+}
+
+fn meaning_of_refusal(refusal: Refusal) -> &'static str {
+    match refusal {
+        Refusal::Step(Refused::SeatBusy) => "the task has a request already",
+        Refusal::Step(Refused::Full) => "as many requests are incomplete as the cap allows",
+        Refusal::Step(Refused::NotHolding) => "the task holds nothing, or an ask of it is pending",
+        Refusal::Step(Refused::NotUpgradeable) => "the request is no upgrade, or has risen",
+        Refusal::Step(Refused::NotNested) => "the request is not nested",
+        Refusal::Step(Refused::AskOutside) =>
+            "what is asked for is empty, or not within the request",
+        Refusal::Request(RequestErr::EmptyRequest) => "the request is about nothing",
+        Refusal::Request(RequestErr::Undeclared) => {
+            "the resources to read are not declared together"
+        }
+        Refusal::Request(RequestErr::FirstOutside) => {
+            "the first part is empty, or not within the request"
+        }
     }
 }
