@@ -8,6 +8,8 @@
 #[cfg(test)]
 mod claims;
 #[cfg(test)]
+mod drills;
+#[cfg(test)]
 mod ends;
 #[cfg(test)]
 mod groups;
