@@ -1,3 +1,4 @@
 pub mod WordBack
 pub mod LineBack
 pub mod Decided
+pub mod Fields

@@ -1,5 +1,6 @@
 // What a record is, by the number of its fields and the words in them.
 ghost use Rattle.std.specs.Prelude.{◌≡◌};
+ghost use Rattle.std.specs.Str.{bytes_eq};
 ghost use Rattle.csv.specs.Records.{fields_of};
 ghost use Rattle.rforms.specs.Words.{word_in};
 ghost use Rattle.rforms.specs.Decided.{word_of_one, word_of_two, word_of_three, word_of_four, word_of_five, word_of_six, word_of_seven, field_of};
@@ -33,7 +34,7 @@ pub fn word_in(whole: bool, fields: &ByteRecord) -> Option<Word>
 fn word_of_one(first: &[u8]) -> Option<Word>
     ensures { result ≡ word_of_one first.now }
 {
-    if first == b"end".as_slice() {
+    if is(first, b"end") {
         Some(Word::End)
     } else {
         None
@@ -44,19 +45,19 @@ fn word_of_one(first: &[u8]) -> Option<Word>
 fn word_of_two(first: &[u8], second: &[u8]) -> Option<Word>
     ensures { result ≡ word_of_two first.now second.now }
 {
-    if first == b"rnlp".as_slice() && second == b"1".as_slice() {
+    if is(first, b"rnlp") && is(second, b"1") {
         Some(Word::Version)
-    } else if first == b"resource".as_slice() {
+    } else if is(first, b"resource") {
         Some(Word::Resource)
-    } else if first == b"group".as_slice() {
+    } else if is(first, b"group") {
         Some(Word::Group)
-    } else if first == b"task".as_slice() {
+    } else if is(first, b"task") {
         Some(Word::Task)
-    } else if first == b"cap".as_slice() {
+    } else if is(first, b"cap") {
         Some(Word::Cap)
-    } else if first == b"finish".as_slice() {
+    } else if is(first, b"finish") {
         Some(Word::Finish)
-    } else if first == b"rise".as_slice() {
+    } else if is(first, b"rise") {
         Some(Word::Rise)
     } else {
         None
@@ -67,11 +68,11 @@ fn word_of_two(first: &[u8], second: &[u8]) -> Option<Word>
 fn word_of_three(whole: bool, first: &[u8]) -> Option<Word>
     ensures { result ≡ word_of_three whole first.now }
 {
-    if first == b"ask".as_slice() {
+    if is(first, b"ask") {
         Some(Word::Ask)
-    } else if whole && first == b"show".as_slice() {
+    } else if whole && is(first, b"show") {
         Some(Word::Show)
-    } else if whole && first == b"grant".as_slice() {
+    } else if whole && is(first, b"grant") {
         Some(Word::Grant)
     } else {
         None
@@ -82,43 +83,27 @@ fn word_of_three(whole: bool, first: &[u8]) -> Option<Word>
 fn word_of_four(whole: bool, first: &[u8], third: &[u8], fourth: &[u8]) -> Option<Word>
     ensures { result ≡ word_of_four whole first.now third.now fourth.now }
 {
-    if whole & (first == b"add".as_slice()) & (fourth == b"yes".as_slice()) {
+    if whole & is(first, b"add") & is(fourth, b"yes") {
         Some(Word::Add { done: true })
-    } else if whole & (first == b"add".as_slice()) & (fourth == b"no".as_slice()) {
+    } else if whole & is(first, b"add") & is(fourth, b"no") {
         Some(Word::Add { done: false })
-    } else if whole & (first == b"take".as_slice()) & (fourth == b"yes".as_slice()) {
+    } else if whole & is(first, b"take") & is(fourth, b"yes") {
         Some(Word::Take { done: true })
-    } else if whole & (first == b"take".as_slice()) & (fourth == b"no".as_slice()) {
+    } else if whole & is(first, b"take") & is(fourth, b"no") {
         Some(Word::Take { done: false })
-    } else if whole & (first == b"set".as_slice()) & (fourth == b"yes".as_slice()) {
+    } else if whole & is(first, b"set") & is(fourth, b"yes") {
         Some(Word::Put { done: true })
-    } else if whole & (first == b"set".as_slice()) & (fourth == b"no".as_slice()) {
+    } else if whole & is(first, b"set") & is(fourth, b"no") {
         Some(Word::Put { done: false })
-    } else if whole
-        & (first == b"now".as_slice())
-        & (third == b"write".as_slice())
-        & (fourth == b"entitled".as_slice())
-    {
+    } else if whole & is(first, b"now") & is(third, b"write") & is(fourth, b"entitled") {
         Some(Word::Entitled { write_half: true })
-    } else if whole
-        & (first == b"now".as_slice())
-        & (third == b"read".as_slice())
-        & (fourth == b"entitled".as_slice())
-    {
+    } else if whole & is(first, b"now") & is(third, b"read") & is(fourth, b"entitled") {
         Some(Word::Entitled { write_half: false })
-    } else if whole
-        & (first == b"now".as_slice())
-        & (third == b"write".as_slice())
-        & (fourth == b"satisfied".as_slice())
-    {
+    } else if whole & is(first, b"now") & is(third, b"write") & is(fourth, b"satisfied") {
         Some(Word::Satisfied { write_half: true })
-    } else if whole
-        & (first == b"now".as_slice())
-        & (third == b"read".as_slice())
-        & (fourth == b"satisfied".as_slice())
-    {
+    } else if whole & is(first, b"now") & is(third, b"read") & is(fourth, b"satisfied") {
         Some(Word::Satisfied { write_half: false })
-    } else if whole & (first == b"ledger".as_slice()) {
+    } else if whole & is(first, b"ledger") {
         Some(Word::Ledger)
     } else {
         None
@@ -129,9 +114,9 @@ fn word_of_four(whole: bool, first: &[u8], third: &[u8], fourth: &[u8]) -> Optio
 fn word_of_five(first: &[u8], third: &[u8]) -> Option<Word>
     ensures { result ≡ word_of_five first.now third.now }
 {
-    if first == b"issue".as_slice() && third == b"read".as_slice() {
+    if is(first, b"issue") && is(third, b"read") {
         Some(Word::Issue(Kind::Read))
-    } else if first == b"issue".as_slice() && third == b"write".as_slice() {
+    } else if is(first, b"issue") && is(third, b"write") {
         Some(Word::Issue(Kind::Write))
     } else {
         None
@@ -142,9 +127,9 @@ fn word_of_five(first: &[u8], third: &[u8]) -> Option<Word>
 fn word_of_six(first: &[u8], third: &[u8]) -> Option<Word>
     ensures { result ≡ word_of_six first.now third.now }
 {
-    if first == b"issue".as_slice() && third == b"mixed".as_slice() {
+    if is(first, b"issue") && is(third, b"mixed") {
         Some(Word::Issue(Kind::Mixed))
-    } else if first == b"issue".as_slice() && third == b"upgrade".as_slice() {
+    } else if is(first, b"issue") && is(third, b"upgrade") {
         Some(Word::Issue(Kind::Upgrade))
     } else {
         None
@@ -155,11 +140,18 @@ fn word_of_six(first: &[u8], third: &[u8]) -> Option<Word>
 fn word_of_seven(first: &[u8], third: &[u8]) -> Option<Word>
     ensures { result ≡ word_of_seven first.now third.now }
 {
-    if first == b"issue".as_slice() && third == b"nested".as_slice() {
+    if is(first, b"issue") && is(third, b"nested") {
         Some(Word::Issue(Kind::Nested))
     } else {
         None
     }
+}
+
+// Whether a field is this word. Its length is known, so that a few bytes at once are compared, with no call.
+fn is<const N: usize>(field: &[u8], word: &[u8; N]) -> bool
+    ensures { result ≡ bytes_eq field.now word.now }
+{
+    field.len() == N && field.starts_with(word)
 }
 
 /// The field at a place counted from 0; empty where there is none.

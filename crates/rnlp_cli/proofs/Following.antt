@@ -1,7 +1,6 @@
 -- What a record of an event list adds to the text of its history.
-use Rattle.std.proofs.Common.{◌≡◌, ◌⊎◌, inl, inr, ◌≤◌, true, false, List, [], ◌∷◌, ◌++◌, length, Option, Some, None, refl, sym, ap, subst, ◌∙◌, arith, true≢false, length-append, cond}
-use Rattle.std.specs.Prelude.{Bool, find, option_map, option_to_list, IsSome}
-use Rattle.std.specs.List.{AllByRecursion}
+use Rattle.std.proofs.Common.{◌≡◌, ◌⊎◌, inl, inr, ◌≤◌, true, false, List, [], ◌∷◌, ◌++◌, length, Option, Some, None, refl, sym, ap, subst, ◌∙◌, arith, true≢false, length-append}
+use Rattle.std.specs.Prelude.{option_map, option_to_list, IsSome}
 use Rattle.rclaim.specs.declared.event.Event.{Event}
 use Rattle.rclaim.specs.declared.event.Event.TheVariants as event
 use Rattle.rmodel.specs.Changes.{changes_between}
@@ -9,48 +8,20 @@ use Rattle.rmodel.specs.Steps.{next}
 use Rattle.rvalue.specs.declared.act.Act.{Act}
 use Rattle.rvalue.specs.declared.ledger.Edit.{Edit}
 use Rattle.rforms.specs.Records.{Row}
-use Rattle.rforms.specs.Fields.{Names, Values, has_form}
-use Rattle.rforms.specs.Words.{fields_of, word_in, list_words}
-use Rattle.rforms.specs.declared.word.Word.{Word}
+use Rattle.rforms.specs.Fields.{Names}
 use Rattle.rforms.specs.Heads.{Head}
-use Rattle.rforms.specs.Lines.{Line, Opens, HasResource, HasGroup, HasTask, HasCap, Happens, Does, BecomesEntitled, BecomesSatisfied, Grants, Leaves, Ends, line_by, meaning}
+use Rattle.rforms.specs.Lines.{Line, Opens, HasResource, HasGroup, HasTask, HasCap, Happens, Does, BecomesEntitled, BecomesSatisfied, Grants, Leaves, Ends}
 use Rattle.rforms.specs.Reports.{Entry, history_lines, change_lines, told_changes, lock_after}
 use Rattle.rforms.specs.SoFar.{SoFar, entries_in, head_in, lock_in, names_in, bare, with_act, with_line, with_meaning, with_row}
 use Rattle.rforms.specs.Faults.{code_of, is_act}
 use Rattle.rforms.proofs.facts.Fine.{IsFine}
-use Rattle.rforms.proofs.facts.Said.{clean, says}
+use Rattle.rforms.proofs.facts.Said.{clean}
 use Rattle.rforms.proofs.lists.Histories.{history-push}
+use Rattle.rforms.proofs.lists.NoActs.{no_act}
 use Rattle.rforms.proofs.lists.Places.{placed, none_due, up_to_five}
 use Rattle.rreport.specs.Told.{told}
 use Rattle.rreport.proofs.Growing.{told-append}
 use Rattle.rnlp_cli.specs.Replaying.{history_text}
-
-none_is_some : {X : Type 0} {x : X} → None ≡ Some x → ⊥
-none_is_some e = cc
-
-some_same : {X : Type 0} {x y : X} → Some x ≡ Some y → x ≡ y
-some_same e = cc
-
--- what is found passes whatever all items pass
-found_all : (P : Word → Type 0) (p : Word → Bool) (xs : List Word) → AllByRecursion P xs → (w : Word) → find p xs ≡ Some w → P w
-found_all P p [] all w h = absurd (none_is_some h)
-found_all P p (x ∷ xs) all w h = at (p x) h (found_all P p xs all.1 w)
-  where
-    at : (b : Bool) → cond b (Some x) (find p xs) ≡ Some w → (find p xs ≡ Some w → P w) → P w
-    at true e more = subst P (some_same e) all.0
-    at false e more = more e
-
-abbrev SaysNoAct : Word → Type 0
-SaysNoAct w = (v : Values (fields_of w)) → is_act (line_by w v) ≡ false
-
--- no record of an event list says an act
-no_act : (names : Names) (row : Row) (line : Line) → meaning false names row ≡ Some line → is_act line ≡ false
-unfolding word_in
-no_act names row line h =
-    let told = says false names row line h in
-    ap is_act (sym told.tells)
-    ∙ found_all SaysNoAct (λ w. has_form (fields_of w) row) list_words
-    (λ v. refl, (λ v. refl, (λ v. refl, (λ v. refl, (λ v. refl, (λ v. refl, (λ v. refl, (λ v. refl, (λ v. refl, (λ v. refl, (λ v. refl, (λ v. refl, (λ v. refl, (λ v. refl, tt)))))))))))))) told.of told.is told.values
 
 -- no list is longer by one item than itself
 no_longer : {X : Type 0} (xs : List X) (x : X) → xs ≡ xs ++ x ∷ [] → ⊥

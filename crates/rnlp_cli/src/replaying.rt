@@ -41,6 +41,8 @@ pub struct Replaying {
     // Made at the first event, behind which no name is declared.
     names: Option<NameRows>,
     history: Page,
+    // What the latest record told.
+    taken: Taken,
 }
 
 impl Replaying {
@@ -57,6 +59,7 @@ impl Replaying {
             reading: Reading::new(alloc, false),
             names: None,
             history: Page::new(alloc),
+            taken: Taken::Other,
         }
     }
 
@@ -66,23 +69,25 @@ impl Replaying {
         ensures taken { OnOk result ((s : SoFar) → KnowsReplay self.old s → (code_of false s (fields_of fields.now) ≡ None) × KnowsReplay self.new (with_row false s (fields_of fields.now))) }
         ensures bad { (code : Code) → result ≡ Err (RowErr.Bad code) → (s : SoFar) → KnowsReplay self.old s → code_of false s (fields_of fields.now) ≡ Some code }
     {
-        match self.reading.take(self.alloc, fields) {
-            Ok(Taken::Event(event)) => {
+        if let Err(e) = self.reading.take(self.alloc, fields, &mut self.taken) {
+            return Err(e);
+        }
+        match &self.taken {
+            Taken::Event(event) => {
                 let told = tell(
                     self.alloc,
                     &self.reading,
                     &mut self.names,
                     &mut self.history,
-                    &event,
+                    event,
                 );
                 match told {
                     Ok(()) => Ok(()),
                     Err(_) => Err(RowErr::Memory),
                 }
             }
-            Ok(Taken::Act(_)) => Ok(()),
-            Ok(Taken::Other) => Ok(()),
-            Err(e) => Err(e),
+            Taken::Act(_) => Ok(()),
+            Taken::Other => Ok(()),
         }
     }
 
@@ -115,9 +120,25 @@ fn tell(
     ensures names { OnOk result (IfSome names.new (λ rows. rows ≡ names_read reading.now)) }
     ensures text { OnOk result (history.new ≡ history.old ++ told (names_read reading.now) (Happens event.now ∷ told_changes (changes_in reading.now.machine))) }
 {
-    if let Some(rows) = names {
-        return push(alloc, history, rows, reading, event);
+    match names {
+        Some(rows) => push(alloc, history, rows, reading, event),
+        None => tell_first(alloc, reading, names, history, event),
     }
+}
+
+// The same of the first event, where names stand ready for the next ones from now on.
+#[cold]
+#[inline(never)]
+fn tell_first(
+    alloc: Global,
+    reading: &Reading,
+    names: &mut Option<NameRows>,
+    history: &mut Page,
+    event: &Event,
+) -> Result<(), AllocError>
+    ensures names { OnOk result (IfSome names.new (λ rows. rows ≡ names_read reading.now)) }
+    ensures text { OnOk result (history.new ≡ history.old ++ told (names_read reading.now) (Happens event.now ∷ told_changes (changes_in reading.now.machine))) }
+{
     let rows = NameRows::new(alloc, &reading.resources, &reading.tasks)?;
     push(alloc, history, &rows, reading, event)?;
     *names = Some(rows);

@@ -53,11 +53,14 @@ impl Collecting {
         ensures taken { OnOk result ((whole : Bool) (s : SoFar) → KnowsAll whole self.old s → (code_of whole s (fields_of fields.now) ≡ None) × KnowsAll whole self.new (with_row whole s (fields_of fields.now))) }
         ensures bad { (code : Code) → result ≡ Err (RowErr.Bad code) → (whole : Bool) (s : SoFar) → KnowsAll whole self.old s → code_of whole s (fields_of fields.now) ≡ Some code }
     {
-        match self.reading.take(self.alloc, fields) {
-            Ok(Taken::Event(event)) => self.begin(event),
-            Ok(Taken::Act(act)) => self.add(act),
-            Ok(Taken::Other) => Ok(()),
-            Err(e) => Err(e),
+        let mut taken = Taken::Other;
+        if let Err(e) = self.reading.take(self.alloc, fields, &mut taken) {
+            return Err(e);
+        }
+        match taken {
+            Taken::Event(event) => self.begin(event),
+            Taken::Act(act) => self.add(act),
+            Taken::Other => Ok(()),
         }
     }
 

@@ -21,6 +21,8 @@ pub struct Counting {
     pub alloc: Global,
     pub reading: Reading,
     pub events: u64,
+    /// What the latest record told.
+    pub taken: Taken,
 }
 
 impl Records for Counting {
@@ -38,14 +40,13 @@ impl Records for Counting {
     ghost knows = { KnowsSaid true KnowsCount };
 
     fn take(&mut self, fields: &ByteRecord) -> Result<(), RowErr> {
-        match self.reading.take(self.alloc, fields) {
-            Ok(Taken::Event(_)) => {
-                self.events += 1;
-                Ok(())
-            }
-            Ok(Taken::Act(_)) | Ok(Taken::Other) => Ok(()),
-            Err(e) => Err(e),
+        if let Err(e) = self.reading.take(self.alloc, fields, &mut self.taken) {
+            return Err(e);
         }
+        if let Taken::Event(_) = &self.taken {
+            self.events += 1;
+        }
+        Ok(())
     }
 
     fn has_ended(&self) -> bool {
@@ -66,6 +67,7 @@ impl Counting {
             alloc,
             reading: Reading::new(alloc, true),
             events: 0,
+            taken: Taken::Other,
         }
     }
 }

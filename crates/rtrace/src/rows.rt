@@ -1,5 +1,5 @@
 // Taking records: each is read as a line, and the line is taken.
-ghost use Rattle.std.specs.Prelude.{◌≡◌, ◌<◌, ◌==◌, false, Bool, true, length, Some, IfOk};
+ghost use Rattle.std.specs.Prelude.{◌≡◌, ◌<◌, ◌==◌, false, Bool, true, length, Some, OnOk};
 ghost use Rattle.csv.specs.Records.{fields_of};
 ghost use Rattle.rexpand.specs.declared.TheConstants.{GROUPS};
 ghost use Rattle.rforms.specs.SoFar.{SoFar};
@@ -19,14 +19,20 @@ use rrecords::{EventTold, act_of, cap_of, change_of, event_of, grant_of, group_o
 use std::alloc::Global;
 
 impl Reading {
-    /// Takes the next record, and answers what it tells of the history.
+    /// Takes the next record, and puts into `taken` what it tells of the history.
     ///
     /// # Errors
     ///
-    /// The first thing that is wrong with it, or want of memory: that may come in the head, and at the first event.
-    pub fn take(&mut self, alloc: Global, fields: &ByteRecord) -> Result<Taken, RowErr>
+    /// The first thing that is wrong with it, or want of memory: that may come in the head, and at the first event. Nothing
+    /// is said then of `taken`.
+    pub fn take(
+        &mut self,
+        alloc: Global,
+        fields: &ByteRecord,
+        taken: &mut Taken,
+    ) -> Result<(), RowErr>
         requires { IsReady self.old }
-        ensures taken { IfOk result (TakesRow self.old self.new (fields_of fields.now)) }
+        ensures taken { OnOk result (TakesRow self.old self.new (fields_of fields.now) taken.new) }
         ensures bad { (code : Code) → result ≡ Err (RowErr.Bad code) → RefusesRow self.old (fields_of fields.now) code }
     {
         let Some(word) = word_in(self.whole, fields) else {
@@ -34,11 +40,37 @@ impl Reading {
         };
         match word {
             Word::Issue(_) | Word::Finish | Word::Rise | Word::Ask => {
-                self.take_event(alloc, word, fields)
+                self.take_event(alloc, word, fields, taken)
             }
             Word::Show | Word::Add { .. } | Word::Take { .. } | Word::Put { .. } => {
-                self.take_act(word, fields)
+                self.take_act(word, fields, taken)
             }
+            Word::Entitled { .. }
+            | Word::Satisfied { .. }
+            | Word::Grant
+            | Word::Ledger
+            | Word::Group
+            | Word::Version
+            | Word::Resource
+            | Word::Task
+            | Word::Cap
+            | Word::End => {
+                *taken = Taken::Other;
+                self.take_other(alloc, word, fields)
+            }
+        }
+    }
+
+    // Takes a record that tells nothing of the history.
+    fn take_other(&mut self, alloc: Global, word: Word, fields: &ByteRecord) -> Result<(), RowErr>
+        requires ready { IsReady self.old }
+        requires word { word_in self.old.whole (fields_of fields.now) ≡ Some word }
+        requires event { is_event word ≡ false }
+        requires act { is_act word ≡ false }
+        ensures taken { OnOk result (TakesRow self.old self.new (fields_of fields.now) Taken.Other) }
+        ensures bad { (code : Code) → result ≡ Err (RowErr.Bad code) → RefusesRow self.old (fields_of fields.now) code }
+    {
+        match word {
             Word::Entitled { .. } | Word::Satisfied { .. } => self.take_status(word, fields),
             Word::Grant => self.take_grant(fields),
             Word::Ledger => self.take_ledger(fields),
@@ -48,6 +80,8 @@ impl Reading {
             Word::Task => self.take_task(alloc, fields),
             Word::Cap => self.take_cap(fields),
             Word::End => self.take_end(fields),
+            Word::Issue(_) | Word::Finish | Word::Rise | Word::Ask => unreachable!(),
+            Word::Show | Word::Add { .. } | Word::Take { .. } | Word::Put { .. } => unreachable!(),
         }
     }
 
@@ -57,11 +91,12 @@ impl Reading {
         alloc: Global,
         word: Word,
         fields: &ByteRecord,
-    ) -> Result<Taken, RowErr>
+        taken: &mut Taken,
+    ) -> Result<(), RowErr>
         requires ready { IsReady self.old }
         requires word { word_in self.old.whole (fields_of fields.now) ≡ Some word }
         requires event { is_event word ≡ true }
-        ensures taken { IfOk result (TakesRow self.old self.new (fields_of fields.now)) }
+        ensures taken { OnOk result (TakesRow self.old self.new (fields_of fields.now) taken.new) }
         ensures bad { (code : Code) → result ≡ Err (RowErr.Bad code) → RefusesRow self.old (fields_of fields.now) code }
     {
         let told = match event_of(&self.resources, &self.tasks, word, fields) {
@@ -73,7 +108,10 @@ impl Reading {
         }
         match told {
             EventTold::Event(event) => match self.happen(alloc, &event) {
-                Ok(()) => Ok(Taken::Event(event)),
+                Ok(()) => {
+                    *taken = Taken::Event(event);
+                    Ok(())
+                }
                 Err(e) => Err(e),
             },
             EventTold::Refused(cause) => {
@@ -83,16 +121,19 @@ impl Reading {
     }
 
     // Takes the record of an act.
-    fn take_act(&mut self, word: Word, fields: &ByteRecord) -> Result<Taken, RowErr>
+    fn take_act(&mut self, word: Word, fields: &ByteRecord, taken: &mut Taken) -> Result<(), RowErr>
         requires ready { IsReady self.old }
         requires word { word_in self.old.whole (fields_of fields.now) ≡ Some word }
         requires act { is_act word ≡ true }
-        ensures taken { IfOk result (TakesRow self.old self.new (fields_of fields.now)) }
+        ensures taken { OnOk result (TakesRow self.old self.new (fields_of fields.now) taken.new) }
         ensures bad { (code : Code) → result ≡ Err (RowErr.Bad code) → RefusesRow self.old (fields_of fields.now) code }
     {
         match act_of(&self.resources, &self.tasks, word, fields) {
             Ok(act) => match self.act(&act) {
-                Ok(()) => Ok(Taken::Act(act)),
+                Ok(()) => {
+                    *taken = Taken::Act(act);
+                    Ok(())
+                }
                 Err(code) => Err(RowErr::Bad(code)),
             },
             Err(code) => Err(RowErr::Bad(code)),
@@ -100,15 +141,15 @@ impl Reading {
     }
 
     // Takes the record of a change of a status.
-    fn take_status(&mut self, word: Word, fields: &ByteRecord) -> Result<Taken, RowErr>
+    fn take_status(&mut self, word: Word, fields: &ByteRecord) -> Result<(), RowErr>
         requires word { word_in self.old.whole (fields_of fields.now) ≡ Some word }
         requires change { is_status word ≡ true }
-        ensures taken { IfOk result (TakesRow self.old self.new (fields_of fields.now)) }
+        ensures taken { OnOk result (TakesRow self.old self.new (fields_of fields.now) Taken.Other) }
         ensures bad { (code : Code) → result ≡ Err (RowErr.Bad code) → RefusesRow self.old (fields_of fields.now) code }
     {
         match change_of(&self.resources, &self.tasks, word, fields) {
             Ok(change) => match self.status(change) {
-                Ok(()) => Ok(Taken::Other),
+                Ok(()) => Ok(()),
                 Err(code) => Err(RowErr::Bad(code)),
             },
             Err(code) => Err(RowErr::Bad(code)),
@@ -116,14 +157,14 @@ impl Reading {
     }
 
     // Takes the record of a grant.
-    fn take_grant(&mut self, fields: &ByteRecord) -> Result<Taken, RowErr>
+    fn take_grant(&mut self, fields: &ByteRecord) -> Result<(), RowErr>
         requires { word_in self.old.whole (fields_of fields.now) ≡ Some Word.Grant }
-        ensures taken { IfOk result (TakesRow self.old self.new (fields_of fields.now)) }
+        ensures taken { OnOk result (TakesRow self.old self.new (fields_of fields.now) Taken.Other) }
         ensures bad { (code : Code) → result ≡ Err (RowErr.Bad code) → RefusesRow self.old (fields_of fields.now) code }
     {
         match grant_of(&self.resources, &self.tasks, fields) {
             Ok(told) => match self.grant(told.seat, told.set) {
-                Ok(()) => Ok(Taken::Other),
+                Ok(()) => Ok(()),
                 Err(code) => Err(RowErr::Bad(code)),
             },
             Err(code) => Err(RowErr::Bad(code)),
@@ -131,14 +172,14 @@ impl Reading {
     }
 
     // Takes the record of a ledger.
-    fn take_ledger(&mut self, fields: &ByteRecord) -> Result<Taken, RowErr>
+    fn take_ledger(&mut self, fields: &ByteRecord) -> Result<(), RowErr>
         requires { word_in self.old.whole (fields_of fields.now) ≡ Some Word.Ledger }
-        ensures taken { IfOk result (TakesRow self.old self.new (fields_of fields.now)) }
+        ensures taken { OnOk result (TakesRow self.old self.new (fields_of fields.now) Taken.Other) }
         ensures bad { (code : Code) → result ≡ Err (RowErr.Bad code) → RefusesRow self.old (fields_of fields.now) code }
     {
         match ledger_of(&self.resources, &self.tasks, fields) {
             Ok((place, ledger)) => match self.leave(place, ledger) {
-                Ok(()) => Ok(Taken::Other),
+                Ok(()) => Ok(()),
                 Err(code) => Err(RowErr::Bad(code)),
             },
             Err(code) => Err(RowErr::Bad(code)),
@@ -146,10 +187,10 @@ impl Reading {
     }
 
     // Takes the record of a group.
-    fn take_group(&mut self, alloc: Global, fields: &ByteRecord) -> Result<Taken, RowErr>
+    fn take_group(&mut self, alloc: Global, fields: &ByteRecord) -> Result<(), RowErr>
         requires ready { IsReady self.old }
         requires word { word_in self.old.whole (fields_of fields.now) ≡ Some Word.Group }
-        ensures taken { IfOk result (TakesRow self.old self.new (fields_of fields.now)) }
+        ensures taken { OnOk result (TakesRow self.old self.new (fields_of fields.now) Taken.Other) }
         ensures bad { (code : Code) → result ≡ Err (RowErr.Bad code) → RefusesRow self.old (fields_of fields.now) code }
     {
         if self.has_all_groups() {
@@ -157,7 +198,7 @@ impl Reading {
         }
         match group_of(&self.resources, &self.tasks, fields) {
             Ok(set) => match self.group(alloc, set) {
-                Ok(()) => Ok(Taken::Other),
+                Ok(()) => Ok(()),
                 Err(e) => Err(e),
             },
             Err(code) => Err(RowErr::Bad(code)),
@@ -165,50 +206,50 @@ impl Reading {
     }
 
     // Takes the record of the version.
-    fn take_version(&mut self, fields: &ByteRecord) -> Result<Taken, RowErr>
+    fn take_version(&mut self, fields: &ByteRecord) -> Result<(), RowErr>
         requires { word_in self.old.whole (fields_of fields.now) ≡ Some Word.Version }
-        ensures taken { IfOk result (TakesRow self.old self.new (fields_of fields.now)) }
+        ensures taken { OnOk result (TakesRow self.old self.new (fields_of fields.now) Taken.Other) }
         ensures bad { (code : Code) → result ≡ Err (RowErr.Bad code) → RefusesRow self.old (fields_of fields.now) code }
     {
         match self.open() {
-            Ok(()) => Ok(Taken::Other),
+            Ok(()) => Ok(()),
             Err(code) => Err(RowErr::Bad(code)),
         }
     }
 
     // Takes the record of a resource.
-    fn take_resource(&mut self, fields: &ByteRecord) -> Result<Taken, RowErr>
+    fn take_resource(&mut self, fields: &ByteRecord) -> Result<(), RowErr>
         requires { word_in self.old.whole (fields_of fields.now) ≡ Some Word.Resource }
-        ensures taken { IfOk result (TakesRow self.old self.new (fields_of fields.now)) }
+        ensures taken { OnOk result (TakesRow self.old self.new (fields_of fields.now) Taken.Other) }
         ensures bad { (code : Code) → result ≡ Err (RowErr.Bad code) → RefusesRow self.old (fields_of fields.now) code }
     {
         match self.resource(field_of(fields, 1)) {
-            Ok(()) => Ok(Taken::Other),
+            Ok(()) => Ok(()),
             Err(e) => Err(e),
         }
     }
 
     // Takes the record of a task.
-    fn take_task(&mut self, alloc: Global, fields: &ByteRecord) -> Result<Taken, RowErr>
+    fn take_task(&mut self, alloc: Global, fields: &ByteRecord) -> Result<(), RowErr>
         requires { word_in self.old.whole (fields_of fields.now) ≡ Some Word.Task }
-        ensures taken { IfOk result (TakesRow self.old self.new (fields_of fields.now)) }
+        ensures taken { OnOk result (TakesRow self.old self.new (fields_of fields.now) Taken.Other) }
         ensures bad { (code : Code) → result ≡ Err (RowErr.Bad code) → RefusesRow self.old (fields_of fields.now) code }
     {
         match self.task(alloc, field_of(fields, 1)) {
-            Ok(()) => Ok(Taken::Other),
+            Ok(()) => Ok(()),
             Err(e) => Err(e),
         }
     }
 
     // Takes the record of the cap.
-    fn take_cap(&mut self, fields: &ByteRecord) -> Result<Taken, RowErr>
+    fn take_cap(&mut self, fields: &ByteRecord) -> Result<(), RowErr>
         requires { word_in self.old.whole (fields_of fields.now) ≡ Some Word.Cap }
-        ensures taken { IfOk result (TakesRow self.old self.new (fields_of fields.now)) }
+        ensures taken { OnOk result (TakesRow self.old self.new (fields_of fields.now) Taken.Other) }
         ensures bad { (code : Code) → result ≡ Err (RowErr.Bad code) → RefusesRow self.old (fields_of fields.now) code }
     {
         match cap_of(field_of(fields, 1)) {
             Some(cap) => match self.limit(cap) {
-                Ok(()) => Ok(Taken::Other),
+                Ok(()) => Ok(()),
                 Err(code) => Err(RowErr::Bad(code)),
             },
             None => Err(RowErr::Bad(Code::BadField)),
@@ -216,13 +257,13 @@ impl Reading {
     }
 
     // Takes the record of the end.
-    fn take_end(&mut self, fields: &ByteRecord) -> Result<Taken, RowErr>
+    fn take_end(&mut self, fields: &ByteRecord) -> Result<(), RowErr>
         requires { word_in self.old.whole (fields_of fields.now) ≡ Some Word.End }
-        ensures taken { IfOk result (TakesRow self.old self.new (fields_of fields.now)) }
+        ensures taken { OnOk result (TakesRow self.old self.new (fields_of fields.now) Taken.Other) }
         ensures bad { (code : Code) → result ≡ Err (RowErr.Bad code) → RefusesRow self.old (fields_of fields.now) code }
     {
         match self.end() {
-            Ok(()) => Ok(Taken::Other),
+            Ok(()) => Ok(()),
             Err(code) => Err(RowErr::Bad(code)),
         }
     }

@@ -27,7 +27,8 @@ found_all P p (x ∷ xs) all w h = at (p x) h (found_all P p xs all.1 w)
 abbrev SaysNoAct : Word → Type 0
 SaysNoAct w = (v : Values (fields_of w)) → is_act (line_by w v) ≡ false
 
-no_act : (names : Names) (row : Row) (line : Line) → meaning false names row ≡ Some line → is_act line ≡ false
+-- no record of an event list says an act
+pub no_act : (names : Names) (row : Row) (line : Line) → meaning false names row ≡ Some line → is_act line ≡ false
 unfolding word_in
 no_act names row line h =
     let told = says false names row line h in

@@ -8,14 +8,14 @@ pub tell-told-requires : goal.tell-told-requires
 tell-told-requires c =
     let s = c.requires.0 in
     let k = c.requires.1 in
-    let taken = c.in-Ok-Event.ensures.taken false s k.reading in
+    let taken = c.in_default.ensures.taken false s k.reading in
     names_stay s (fields_of c.args.fields.now) taken.0 c.args.self.now.reading c.take.new.self k.reading taken.1 c.args.self.now.names k.names
 
 pub returns-in-Ok-clause-taken : goal.returns-in-Ok-clause-taken
 returns-in-Ok-clause-taken c = λ s k.
     let row = fields_of c.args.fields.now in
-    let event = c.in-Ok-Event.event in
-    let taken = (rw c.in-Ok-Event.field-0-is at c.in-Ok-Event.ensures.taken) false s k.reading in (
+    let event = c.in-Event.event in
+    let taken = (rw c.in-Event.is at c.in_default.ensures.taken) false s k.reading in (
       taken.0,
       record {
         reading = taken.1;
@@ -24,15 +24,15 @@ returns-in-Ok-clause-taken c = λ s k.
       },
     )
 
-pub returns-in-Ok-Act-clause-taken : goal.returns-in-Ok-Act-clause-taken
-returns-in-Ok-Act-clause-taken c = λ s k.
-    let taken = (rw c.in-Ok-Act.field-0-is at c.in-Ok-Act.ensures.taken) false s k.reading in
-    absurd (never_act s (fields_of c.args.fields.now) taken.0 c.in-Ok-Act.field-0-0 taken.2.0 taken.2.1 taken.2.2)
+pub returns-in-Act-clause-taken : goal.returns-in-Act-clause-taken
+returns-in-Act-clause-taken c = λ s k.
+    let taken = (rw c.in-Act.is at c.in_default.ensures.taken) false s k.reading in
+    absurd (never_act s (fields_of c.args.fields.now) taken.0 c.in-Act.field-0 taken.2.0 taken.2.1 taken.2.2)
 
-pub returns-in-Ok-Other-clause-taken : goal.returns-in-Ok-Other-clause-taken
-returns-in-Ok-Other-clause-taken c = λ s k.
+pub returns-in-Other-clause-taken : goal.returns-in-Other-clause-taken
+returns-in-Other-clause-taken c = λ s k.
     let row = fields_of c.args.fields.now in
-    let taken = (rw c.in-Ok-Other.field-0-is at c.in-Ok-Other.ensures.taken) false s k.reading in (
+    let taken = (rw c.in-Other.is at c.in_default.ensures.taken) false s k.reading in (
       taken.0,
       record {
         reading = taken.1;
