@@ -1,5 +1,5 @@
 -- What the record of an issue says, from its sets and its lengths.
-use Rattle.std.proofs.Common.{◌≡◌, ℕ, true, false, not, ◌&&◌, List, Option, Some, None, refl, sym, ap, subst, ◌∙◌}
+use Rattle.std.proofs.Common.{◌≡◌, ℕ, true, false, not, ◌&&◌, List, Option, Some, None, refl, sym, ap, subst}
 use Rattle.std.specs.Prelude.{is_none, option_map, option_and_then}
 use Rattle.rset.specs.Names.{number_in}
 use Rattle.rset.specs.Sets.{Set}
@@ -17,41 +17,22 @@ use Rattle.rforms.specs.declared.word.Word.TheVariants as word
 use Rattle.rforms.proofs.facts.Choices.{some_none, and_then_some, map_some}
 use Rattle.rrecords.specs.declared.requests.RequestSets.{RequestSets}
 use Rattle.rrecords.specs.declared.requests.RequestLengths.{RequestLengths}
-use Rattle.rrecords.specs.Requests.{no_part, with_part, request_sets, request_lengths, length_field, later_told, request_told}
+use Rattle.rrecords.specs.Requests.{no_part, with_part, request_sets, request_lengths, request_told}
 use Rattle.rrecords.specs.Told.{names_by, IsOf, Says, IsUnknown}
+use Rattle.rrecords.proofs.Lengths.{AreLengths, lengths_are, none_one, none_two}
 use Rattle.rrecords.proofs.Places.{read_at, counted_at, says_at, unknown_at, uncounted_at}
-
--- both lengths, where they are told
-pub record AreLengths (kind : Kind) (row : Row) (lengths : RequestLengths) : Type 0 where
-  pub len : length_told (length_field kind row) ≡ Some lengths.len
-  pub later : later_told kind row ≡ Some lengths.later
-
-pub lengths_are : (kind : Kind) (row : Row) (lengths : RequestLengths) → request_lengths kind row ≡ Some lengths → AreLengths kind row lengths
-lengths_are kind row lengths h =
-    let a = and_then_some (λ n. option_map (λ later. record { len = n; later = later }) (later_told kind row)) (length_told (length_field kind row)) lengths h in
-    let b = map_some (λ later. record { len = a.0; later = later }) (later_told kind row) lengths a.2 in
-    record { len = a.1 ∙ ap (λ (l : RequestLengths). Some l.len) b.2; later = b.1 ∙ ap (λ (l : RequestLengths). Some l.later) b.2 }
 
 counted_one : (o : Option ℕ) (n : ℕ) → o ≡ Some n → (not (is_none o) && true) ≡ true
 counted_one o n h = ap (λ p. not (is_none p) && true) h
 
-pub lengths_counted : (kind : Kind) (row : Row) (lengths : RequestLengths) → AreLengths kind row lengths → counted_at (fields_of (word.Issue kind)) 0 row ≡ true
+pub lengths_counted : (kind : Kind) (row : Row) (lengths : RequestLengths) → AreLengths kind 3 row lengths → counted_at (fields_of (word.Issue kind)) 0 row ≡ true
 lengths_counted Read row lengths h = counted_one _ _ h.len
 lengths_counted Write row lengths h = counted_one _ _ h.len
 lengths_counted Mixed row lengths h = counted_one _ _ h.len
 lengths_counted Upgrade row lengths h = λ i. not (is_none (h.len i)) && (not (is_none (h.later i)) && true)
 lengths_counted Nested row lengths h = counted_one _ _ h.len
 
-none_one : (o : Option ℕ) → option_and_then (λ len. option_map (λ later. let l : RequestLengths = record { len = len; later = later } in l) (Some 0)) o ≡ None → (not (is_none o) && true) ≡ false
-none_one None h = refl
-none_one (Some n) h = absurd (some_none (sym h))
-
-none_two : (o p : Option ℕ) → option_and_then (λ len. option_map (λ later. let l : RequestLengths = record { len = len; later = later } in l) p) o ≡ None → (not (is_none o) && (not (is_none p) && true)) ≡ false
-none_two None p h = refl
-none_two (Some n) None h = refl
-none_two (Some n) (Some m) h = absurd (some_none (sym h))
-
-uncounted : (kind : Kind) (row : Row) → request_lengths kind row ≡ None → counted_at (fields_of (word.Issue kind)) 0 row ≡ false
+uncounted : (kind : Kind) (row : Row) → request_lengths kind 3 row ≡ None → counted_at (fields_of (word.Issue kind)) 0 row ≡ false
 uncounted Read row h = none_one (length_told (field_of row 4)) h
 uncounted Write row h = none_one (length_told (field_of row 4)) h
 uncounted Mixed row h = none_one (length_told (field_of row 5)) h
@@ -74,7 +55,7 @@ three_none (Some s) (Some t) None rest h = refl
 three_none (Some s) (Some t) (Some u) rest h = absurd (some_none (sym h))
 
 module _ (rs ts : List (List ℕ)) (row : Row) where
-  pub issue_uncounted : (kind : Kind) → IsOf (word.Issue kind) row → request_lengths kind row ≡ None → all_counted (fields_of (word.Issue kind)) row ≡ false
+  pub issue_uncounted : (kind : Kind) → IsOf (word.Issue kind) row → request_lengths kind 3 row ≡ None → all_counted (fields_of (word.Issue kind)) row ≡ false
   issue_uncounted kind form none = uncounted_at (names_by rs ts) (word.Issue kind) row form (uncounted kind row none)
 
   no_task : (kind : Kind) → number_in ts (field_of row 1) ≡ None → read_at (names_by rs ts) (fields_of (word.Issue kind)) 0 row ≡ None
@@ -84,25 +65,25 @@ module _ (rs ts : List (List ℕ)) (row : Row) where
   no_task Upgrade none = ap (λ o. paired o (paired (set_told rs (field_of row 3)) (paired (length_told (field_of row 4)) (paired (length_told (field_of row 5)) (Some tt))))) none
   no_task Nested none = ap (λ o. paired o (paired (set_told rs (field_of row 3)) (paired (set_told rs (field_of row 4)) (paired (set_told rs (field_of row 5)) (paired (length_told (field_of row 6)) (Some tt)))))) none
 
-  pub issue_no_task : (kind : Kind) (lengths : RequestLengths) → IsOf (word.Issue kind) row → request_lengths kind row ≡ Some lengths → number_in ts (field_of row 1) ≡ None → IsUnknown (names_by rs ts) (word.Issue kind) row
-  issue_no_task kind lengths form told none = unknown_at (names_by rs ts) (word.Issue kind) row form (lengths_counted kind row lengths (lengths_are kind row lengths told)) (no_task kind none)
+  pub issue_no_task : (kind : Kind) (lengths : RequestLengths) → IsOf (word.Issue kind) row → request_lengths kind 3 row ≡ Some lengths → number_in ts (field_of row 1) ≡ None → IsUnknown (names_by rs ts) (word.Issue kind) row
+  issue_no_task kind lengths form told none = unknown_at (names_by rs ts) (word.Issue kind) row form (lengths_counted kind row lengths (lengths_are kind 3 row lengths told)) (no_task kind none)
 
-  no_sets : (kind : Kind) (seat : ℕ) → number_in ts (field_of row 1) ≡ Some seat → request_sets rs kind row ≡ None → read_at (names_by rs ts) (fields_of (word.Issue kind)) 0 row ≡ None
+  no_sets : (kind : Kind) (seat : ℕ) → number_in ts (field_of row 1) ≡ Some seat → request_sets rs kind 3 row ≡ None → read_at (names_by rs ts) (fields_of (word.Issue kind)) 0 row ≡ None
   no_sets Read seat task none = λ i. paired (task i) (one_none (λ set. no_part set set) (set_told rs (field_of row 3)) (paired (length_told (field_of row 4)) (Some tt)) none i)
   no_sets Write seat task none = λ i. paired (task i) (one_none (λ set. no_part set set) (set_told rs (field_of row 3)) (paired (length_told (field_of row 4)) (Some tt)) none i)
   no_sets Mixed seat task none = λ i. paired (task i) (two_none (set_told rs (field_of row 3)) (set_told rs (field_of row 4)) (paired (length_told (field_of row 5)) (Some tt)) none i)
   no_sets Upgrade seat task none = λ i. paired (task i) (one_none (λ set. no_part set set) (set_told rs (field_of row 3)) (paired (length_told (field_of row 4)) (paired (length_told (field_of row 5)) (Some tt))) none i)
   no_sets Nested seat task none = λ i. paired (task i) (three_none (set_told rs (field_of row 3)) (set_told rs (field_of row 4)) (set_told rs (field_of row 5)) (paired (length_told (field_of row 6)) (Some tt)) none i)
 
-  pub issue_unknown : (kind : Kind) (lengths : RequestLengths) (seat : ℕ) → IsOf (word.Issue kind) row → request_lengths kind row ≡ Some lengths → number_in ts (field_of row 1) ≡ Some seat → request_sets rs kind row ≡ None
+  pub issue_unknown : (kind : Kind) (lengths : RequestLengths) (seat : ℕ) → IsOf (word.Issue kind) row → request_lengths kind 3 row ≡ Some lengths → number_in ts (field_of row 1) ≡ Some seat → request_sets rs kind 3 row ≡ None
       → IsUnknown (names_by rs ts) (word.Issue kind) row
-  issue_unknown kind lengths seat form told task none = unknown_at (names_by rs ts) (word.Issue kind) row form (lengths_counted kind row lengths (lengths_are kind row lengths told)) (no_sets kind seat task none)
+  issue_unknown kind lengths seat form told task none = unknown_at (names_by rs ts) (word.Issue kind) row form (lengths_counted kind row lengths (lengths_are kind 3 row lengths told)) (no_sets kind seat task none)
 
   -- the event of an issue of this kind, with these sets and lengths
   abbrev tells : Kind → ℕ → RequestSets → RequestLengths → Type 0
   tells kind seat sets lengths = option_map (line_by (word.Issue kind)) (read_at (names_by rs ts) (fields_of (word.Issue kind)) 0 row) ≡ Some (Happens (event.Issue seat (request_told kind sets lengths)))
 
-  issue_tells : (kind : Kind) (seat : ℕ) (sets : RequestSets) (lengths : RequestLengths) → number_in ts (field_of row 1) ≡ Some seat → request_sets rs kind row ≡ Some sets → AreLengths kind row lengths → tells kind seat sets lengths
+  issue_tells : (kind : Kind) (seat : ℕ) (sets : RequestSets) (lengths : RequestLengths) → number_in ts (field_of row 1) ≡ Some seat → request_sets rs kind 3 row ≡ Some sets → AreLengths kind 3 row lengths → tells kind seat sets lengths
   issue_tells Read seat sets lengths task members told =
       let a = map_some (λ set. no_part set set) (set_told rs (field_of row 3)) sets members in
       subst (λ (s : RequestSets). tells Read seat s lengths) a.2 (λ i. option_map (line_by (word.Issue Read)) (paired (task i) (paired (a.1 i) (paired (told.len i) (Some tt)))))
@@ -122,8 +103,8 @@ module _ (rs ts : List (List ℕ)) (row : Row) where
       let d = map_some (with_part a.0 b.0) (set_told rs (field_of row 5)) sets b.2 in
       subst (λ (s : RequestSets). tells Nested seat s lengths) d.2 (λ i. option_map (line_by (word.Issue Nested)) (paired (task i) (paired (a.1 i) (paired (b.1 i) (paired (d.1 i) (paired (told.len i) (Some tt)))))))
 
-  pub issue_says : (kind : Kind) (lengths : RequestLengths) (seat : ℕ) (sets : RequestSets) → IsOf (word.Issue kind) row → request_lengths kind row ≡ Some lengths → number_in ts (field_of row 1) ≡ Some seat → request_sets rs kind row ≡ Some sets
+  pub issue_says : (kind : Kind) (lengths : RequestLengths) (seat : ℕ) (sets : RequestSets) → IsOf (word.Issue kind) row → request_lengths kind 3 row ≡ Some lengths → number_in ts (field_of row 1) ≡ Some seat → request_sets rs kind 3 row ≡ Some sets
       → Says (names_by rs ts) (word.Issue kind) row (Happens (event.Issue seat (request_told kind sets lengths)))
   issue_says kind lengths seat sets form told task members =
-      let are = lengths_are kind row lengths told in
+      let are = lengths_are kind 3 row lengths told in
       says_at (names_by rs ts) (word.Issue kind) row form _ (lengths_counted kind row lengths are) (issue_tells kind seat sets lengths task members are)

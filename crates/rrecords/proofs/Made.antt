@@ -16,10 +16,10 @@ use Rattle.rrecords.specs.declared.requests.RequestSets.{RequestSets}
 use Rattle.rrecords.specs.declared.requests.RequestLengths.{RequestLengths}
 use Rattle.rrecords.specs.Requests.{request_told, IsMade}
 
-has_members : (s : Set) → s ≢ empty → (len s == 0) ≡ false
+pub has_members : (s : Set) → s ≢ empty → (len s == 0) ≡ false
 has_members s h = elim (len s == 0) as (λ b. (len s == 0) ≡ b → b ≡ false) [ true ↦ λ e. absurd (h (empty_of_len s (grind (arith, nat_tests)))) | false ↦ λ _. refl ] refl
 
-no_members : (s : Set) → s ≡ empty → (len s == 0) ≡ true
+pub no_members : (s : Set) → s ≡ empty → (len s == 0) ≡ true
 no_members s e = ap (λ t. len t == 0) e ∙ ap (λ n. n == 0) (len-empty nat_cmp)
 
 refused_empty : (groups : List Set) (kind : Kind) (sets : RequestSets) (lengths : RequestLengths) → asked_set kind sets.reads sets.writes ≡ empty → request_refusal groups (request_told kind sets lengths) ≡ Some EmptyRequest

@@ -1,20 +1,21 @@
 // The event that a record tells.
-ghost use Rattle.std.specs.Prelude.{◌≡◌, ◌≤◌, IfOk, IfErr, true, List};
+ghost use Rattle.std.specs.Prelude.{◌≡◌, IfOk, IfErr, true, List};
 ghost use Rattle.csv.specs.Records.{fields_of};
 ghost use Rattle.rset.specs.Sets.{Set};
 ghost use Rattle.rclaim.specs.Requests.{IsNormal};
-ghost use Rattle.rclaim.specs.declared.TheConstants.{LENGTH_LIMIT};
 ghost use Rattle.rclaim.specs.declared.event.Event.{Event};
 ghost use Rattle.rforms.specs.Lines.{Happens};
-ghost use Rattle.rrecords.specs.Requests.{IsMade};
 ghost use Rattle.rrecords.specs.Told.{IsOf, Says, IsWrong, IsTold, is_event, names_by};
 
-use crate::requests::{RequestLengths, RequestSets, lengths_of, sets_of};
+use crate::requests::{lengths_of, request_of, sets_of};
 use crate::sets::set_of;
 use csv::ByteRecord;
-use rclaim::{Event, Kind, Request, RequestErr};
+use rclaim::{Event, Kind, RequestErr};
 use rforms::{Code, Word, field_of};
 use rset::NameTable;
+
+// The place of the first set in the record of an issue: behind its task and its kind.
+const FIRST_SET: u8 = 3;
 
 /// What the record of an event tells.
 #[derive(Clone, Copy)]
@@ -68,37 +69,17 @@ fn issue_of(
     ensures told { IfOk result (λ told. (e : Event) × Says (names_by resources.now tasks.now) (Word.Issue kind) (fields_of fields.now) (Happens e) × IsTold told e) }
     ensures wrong { IfErr result (λ code. IsWrong (names_by resources.now tasks.now) (Word.Issue kind) (fields_of fields.now) code) }
 {
-    let Some(lengths) = lengths_of(kind, fields) else {
+    let Some(lengths) = lengths_of(kind, fields, FIRST_SET) else {
         return Err(Code::BadField);
     };
     let Some(seat) = tasks.number_of(field_of(fields, 1)) else {
         return Err(Code::UnknownName);
     };
-    let Some(sets) = sets_of(resources, kind, fields) else {
+    let Some(sets) = sets_of(resources, kind, fields, FIRST_SET) else {
         return Err(Code::UnknownName);
     };
     match request_of(kind, &sets, &lengths) {
         Ok(request) => Ok(EventTold::Event(Event::Issue { seat, request })),
         Err(cause) => Ok(EventTold::Refused(cause)),
     }
-}
-
-// The request of this kind for these sets and lengths.
-fn request_of(
-    kind: Kind,
-    sets: &RequestSets,
-    lengths: &RequestLengths,
-) -> Result<Request, RequestErr>
-    requires len { lengths.now.len ≤ LENGTH_LIMIT }
-    requires later { lengths.now.later ≤ LENGTH_LIMIT }
-    ensures { IsMade kind sets.now lengths.now result }
-{
-    Request::new(
-        kind,
-        sets.reads,
-        sets.writes,
-        sets.first,
-        lengths.len,
-        lengths.later,
-    )
 }

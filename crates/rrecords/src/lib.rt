@@ -15,5 +15,6 @@ mod state;
 pub use act::act_of;
 pub use event::{EventTold, event_of};
 pub use numbers::{cap_of, length_of, number_of};
+pub use requests::{RequestLengths, RequestSets, lengths_of, request_of, sets_of};
 pub use sets::{group_of, set_of};
 pub use state::{GrantTold, change_of, grant_of, ledger_of};

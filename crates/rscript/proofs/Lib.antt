@@ -3,8 +3,5 @@ pub mod forth
 pub mod back
 pub mod lines
 pub mod texts
-pub mod Digits
-pub mod SetNames
-pub mod Made
 pub mod Takes
 pub mod Tasks

@@ -7,7 +7,6 @@ pub mod ScriptCodes
 pub mod SoFar
 pub mod Faults
 pub mod Decided
-pub mod Requests
 pub mod Told
 pub mod Reading
 pub mod Texts

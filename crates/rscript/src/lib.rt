@@ -9,14 +9,11 @@
 mod code;
 mod faults;
 pub mod laws;
-mod numbers;
 mod place;
 mod reading;
 mod record;
-mod requests;
 mod script;
 mod section;
-mod sets;
 mod statement;
 mod taker;
 mod told;

@@ -15,13 +15,13 @@ ghost use Rattle.rscript.specs.Reading.{groups_in, Knows, Adds, Closes, Takes, R
 use crate::faults::fault_of;
 use crate::place::{is_there, stand_of};
 use crate::section::{Section, section_after};
-use crate::sets::set_of;
 use crate::told::statement_of;
 use crate::word::Word;
 use crate::{Code, Statement};
 use csv::ByteRecord;
 use rexpand::{GROUPS, GroupErr, Groups};
 use rforms::{RowErr, field_of};
+use rrecords::set_of;
 use rset::{NameErr, NameTable, ResourceSet};
 use std::alloc::Global;
 use std::mem;

@@ -6,16 +6,17 @@ ghost use Rattle.rscript.specs.Faults.{request_code};
 ghost use Rattle.rscript.specs.Words.{word_in};
 ghost use Rattle.rscript.specs.Told.{is_edit, is_statement, edit_by, HasPlace, Tells, IsWrong};
 
-use crate::numbers::number_of;
-use crate::requests::{lengths_of, request_of, sets_of};
-use crate::sets::set_of;
 use crate::word::Word;
 use crate::{Code, Statement};
 use csv::ByteRecord;
 use rclaim::{Kind, RequestErr};
 use rforms::field_of;
+use rrecords::{lengths_of, number_of, request_of, set_of, sets_of};
 use rset::NameTable;
 use rvalue::Edit;
+
+// The place of the first set in the record of a section's beginning: behind its kind.
+const FIRST_SET: u8 = 1;
 
 /// The statement that a record tells, by the resources that are declared. No memory is taken.
 ///
@@ -53,10 +54,10 @@ fn begin_of(resources: &NameTable, kind: Kind, fields: &ByteRecord) -> Result<St
     ensures place { IfOk result (HasPlace RESOURCES) }
     ensures wrong { IfErr result (IsWrong resources.now (Word.Begin kind) (fields_of fields.now)) }
 {
-    let Some(sets) = sets_of(resources, kind, fields) else {
+    let Some(sets) = sets_of(resources, kind, fields, FIRST_SET) else {
         return Err(Code::UnknownName);
     };
-    let Some(lengths) = lengths_of(kind, fields) else {
+    let Some(lengths) = lengths_of(kind, fields, FIRST_SET) else {
         return Err(Code::BadNumber);
     };
     match request_of(kind, &sets, &lengths) {

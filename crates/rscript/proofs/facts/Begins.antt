@@ -15,38 +15,17 @@ use Rattle.rforms.specs.Walks.{first_of}
 use Rattle.rforms.proofs.facts.Choices.{some_none, and_then_some, map_some}
 use Rattle.rscript.specs.Words.{fields_of, word_in}
 use Rattle.rscript.specs.Lines.{names_of, line_by, Does}
-use Rattle.rscript.specs.Requests.{no_part, with_part, request_sets, request_lengths, length_field, later_told, request_told}
+use Rattle.rrecords.specs.Requests.{no_part, with_part, request_sets, request_lengths, request_told}
+use Rattle.rrecords.proofs.Lengths.{AreLengths, lengths_are, none_one, none_two}
 use Rattle.rscript.specs.Faults.{request_code}
 use Rattle.rscript.specs.Told.{Tells, IsWrong}
 use Rattle.rscript.specs.declared.code.Code.TheVariants.{UnknownName, BadNumber}
-use Rattle.rscript.specs.declared.requests.RequestSets.{RequestSets}
-use Rattle.rscript.specs.declared.requests.RequestLengths.{RequestLengths}
+use Rattle.rrecords.specs.declared.requests.RequestSets.{RequestSets}
+use Rattle.rrecords.specs.declared.requests.RequestLengths.{RequestLengths}
 use Rattle.rscript.specs.declared.statement.Statement.TheVariants as statement
 use Rattle.rscript.specs.declared.word.Word.TheVariants as word
 use Rattle.rscript.proofs.facts.Shapes.{long_of, three_row, four_row, five_row}
 use Rattle.rscript.proofs.facts.Tells.{unknown_wrong, uncounted_wrong, told_causes}
-
--- ---- lengths
-
--- both lengths, where they are told
-record AreLengths (kind : Kind) (row : Row) (lengths : RequestLengths) : Type 0 where
-  pub len : length_told (length_field kind row) ≡ Some lengths.len
-  pub later : later_told kind row ≡ Some lengths.later
-
-lengths_are : (kind : Kind) (row : Row) (lengths : RequestLengths) → request_lengths kind row ≡ Some lengths → AreLengths kind row lengths
-lengths_are kind row lengths h =
-    let a = and_then_some (λ n. option_map (λ later. record { len = n; later = later }) (later_told kind row)) (length_told (length_field kind row)) lengths h in
-    let b = map_some (λ later. record { len = a.0; later = later }) (later_told kind row) lengths a.2 in
-    record { len = a.1 ∙ ap (λ (l : RequestLengths). Some l.len) b.2; later = b.1 ∙ ap (λ (l : RequestLengths). Some l.later) b.2 }
-
-none_one : (o : Option ℕ) → option_and_then (λ len. option_map (λ later. let l : RequestLengths = record { len = len; later = later } in l) (Some 0)) o ≡ None → (not (is_none o) && true) ≡ false
-none_one None h = refl
-none_one (Some n) h = absurd (some_none (sym h))
-
-none_two : (o p : Option ℕ) → option_and_then (λ len. option_map (λ later. let l : RequestLengths = record { len = len; later = later } in l) p) o ≡ None → (not (is_none o) && (not (is_none p) && true)) ≡ false
-none_two None p h = refl
-none_two (Some n) None h = refl
-none_two (Some n) (Some m) h = absurd (some_none (sym h))
 
 -- ---- sets
 
@@ -77,7 +56,7 @@ three_are o p q sets h =
     let c = map_some (with_part a.0 b.0) q sets b.2 in
     (a.1 ∙ ap (λ (s : RequestSets). Some s.reads) c.2, b.1 ∙ ap (λ (s : RequestSets). Some s.writes) c.2, c.1 ∙ ap (λ (s : RequestSets). Some s.first) c.2)
 
-sets_are : (rs : List (List ℕ)) (kind : Kind) (row : Row) (sets : RequestSets) → request_sets rs kind row ≡ Some sets → AreSets rs kind row sets
+sets_are : (rs : List (List ℕ)) (kind : Kind) (row : Row) (sets : RequestSets) → request_sets rs kind 1 row ≡ Some sets → AreSets rs kind row sets
 sets_are rs Read row sets h = (one_are (set_told rs (field_of row 1)) sets h).0
 sets_are rs Write row sets h = (one_are (set_told rs (field_of row 1)) sets h).1
 sets_are rs Mixed row sets h = two_are (set_told rs (field_of row 1)) (set_told rs (field_of row 2)) sets h
@@ -126,7 +105,7 @@ module _ (rs : List (List ℕ)) (row : Row) where
   fields_known Upgrade sets h = ap (λ o. not (is_none o) && true) h
   fields_known Nested sets h = λ i. not (is_none (h.0 i)) && (not (is_none (h.1 i)) && (not (is_none (h.2 i)) && true))
 
-  fields_unknown : (kind : Kind) → request_sets rs kind row ≡ None → all_known (names_of rs) (fields_of (word.Begin kind)) (fields_told kind row) ≡ false
+  fields_unknown : (kind : Kind) → request_sets rs kind 1 row ≡ None → all_known (names_of rs) (fields_of (word.Begin kind)) (fields_told kind row) ≡ false
   unfolding all_known
   fields_unknown Read h = one_none (λ set. no_part set set) (set_told rs (field_of row 1)) true h
   fields_unknown Write h = one_none (λ set. no_part set set) (set_told rs (field_of row 1)) true h
@@ -134,7 +113,7 @@ module _ (rs : List (List ℕ)) (row : Row) where
   fields_unknown Upgrade h = one_none (λ set. no_part set set) (set_told rs (field_of row 1)) true h
   fields_unknown Nested h = three_none (set_told rs (field_of row 1)) (set_told rs (field_of row 2)) (set_told rs (field_of row 3)) true h
 
-  fields_counted : (kind : Kind) (lengths : RequestLengths) → AreLengths kind row lengths → all_counted (fields_of (word.Begin kind)) (fields_told kind row) ≡ true
+  fields_counted : (kind : Kind) (lengths : RequestLengths) → AreLengths kind 1 row lengths → all_counted (fields_of (word.Begin kind)) (fields_told kind row) ≡ true
   unfolding all_counted
   fields_counted Read lengths h = ap (λ o. not (is_none o) && true) h.len
   fields_counted Write lengths h = ap (λ o. not (is_none o) && true) h.len
@@ -142,7 +121,7 @@ module _ (rs : List (List ℕ)) (row : Row) where
   fields_counted Upgrade lengths h = λ i. not (is_none (h.len i)) && (not (is_none (h.later i)) && true)
   fields_counted Nested lengths h = ap (λ o. not (is_none o) && true) h.len
 
-  fields_uncounted : (kind : Kind) → request_lengths kind row ≡ None → all_counted (fields_of (word.Begin kind)) (fields_told kind row) ≡ false
+  fields_uncounted : (kind : Kind) → request_lengths kind 1 row ≡ None → all_counted (fields_of (word.Begin kind)) (fields_told kind row) ≡ false
   unfolding all_counted
   fields_uncounted Read h = none_one (length_told (field_of row 2)) h
   fields_uncounted Write h = none_one (length_told (field_of row 2)) h
@@ -150,7 +129,7 @@ module _ (rs : List (List ℕ)) (row : Row) where
   fields_uncounted Upgrade h = none_two (length_told (field_of row 2)) (length_told (field_of row 3)) h
   fields_uncounted Nested h = none_one (length_told (field_of row 4)) h
 
-  fields_mean : (kind : Kind) (sets : RequestSets) (lengths : RequestLengths) → AreSets rs kind row sets → AreLengths kind row lengths
+  fields_mean : (kind : Kind) (sets : RequestSets) (lengths : RequestLengths) → AreSets rs kind row sets → AreLengths kind 1 row lengths
       → option_map (line_by (word.Begin kind)) (read (names_of rs) (fields_of (word.Begin kind)) (fields_told kind row)) ≡ Some (Does (statement.Begin (request_told kind sets lengths)))
   unfolding read
   fields_mean Read sets lengths h k = λ i. option_map (line_by (word.Begin Read)) (paired (h i) (paired (k.len i) (Some tt)))
@@ -160,20 +139,20 @@ module _ (rs : List (List ℕ)) (row : Row) where
   fields_mean Nested sets lengths h k = λ i. option_map (line_by (word.Begin Nested)) (paired (h.0 i) (paired (h.1 i) (paired (h.2 i) (paired (k.len i) (Some tt)))))
 
   module _ (kind : Kind) (is : word_in row ≡ Some (word.Begin kind)) where
-    pub begin_unknown : request_sets rs kind row ≡ None → IsWrong rs (word.Begin kind) row UnknownName
+    pub begin_unknown : request_sets rs kind 1 row ≡ None → IsWrong rs (word.Begin kind) row UnknownName
     begin_unknown h = unknown_wrong rs (word.Begin kind) row (ap (all_known (names_of rs) (fields_of (word.Begin kind))) (are_fields kind row is) ∙ fields_unknown kind h)
 
-    begin_known : (sets : RequestSets) → request_sets rs kind row ≡ Some sets → all_known (names_of rs) (fields_of (word.Begin kind)) row ≡ true
+    begin_known : (sets : RequestSets) → request_sets rs kind 1 row ≡ Some sets → all_known (names_of rs) (fields_of (word.Begin kind)) row ≡ true
     begin_known sets h = ap (all_known (names_of rs) (fields_of (word.Begin kind))) (are_fields kind row is) ∙ fields_known kind sets (sets_are rs kind row sets h)
 
-    pub begin_uncounted : (sets : RequestSets) → request_sets rs kind row ≡ Some sets → request_lengths kind row ≡ None → IsWrong rs (word.Begin kind) row BadNumber
+    pub begin_uncounted : (sets : RequestSets) → request_sets rs kind 1 row ≡ Some sets → request_lengths kind 1 row ≡ None → IsWrong rs (word.Begin kind) row BadNumber
     begin_uncounted sets h none =
         uncounted_wrong rs (word.Begin kind) row (begin_known sets h) (ap (all_counted (fields_of (word.Begin kind))) (are_fields kind row is) ∙ fields_uncounted kind none)
 
-    pub begin_tells : (sets : RequestSets) (lengths : RequestLengths) → request_sets rs kind row ≡ Some sets → request_lengths kind row ≡ Some lengths
+    pub begin_tells : (sets : RequestSets) (lengths : RequestLengths) → request_sets rs kind 1 row ≡ Some sets → request_lengths kind 1 row ≡ Some lengths
         → Tells rs (word.Begin kind) row (statement.Begin (request_told kind sets lengths))
     begin_tells sets lengths h k =
-        let told = lengths_are kind row lengths k in
+        let told = lengths_are kind 1 row lengths k in
         record {
           known = begin_known sets h;
           counted = ap (all_counted (fields_of (word.Begin kind))) (are_fields kind row is) ∙ fields_counted kind lengths told;
@@ -181,7 +160,7 @@ module _ (rs : List (List ℕ)) (row : Row) where
         }
 
     -- what refuses the request under any groups is what is wrong with the record
-    pub begin_refused : (sets : RequestSets) (lengths : RequestLengths) (cause : RequestErr) → request_sets rs kind row ≡ Some sets → request_lengths kind row ≡ Some lengths
+    pub begin_refused : (sets : RequestSets) (lengths : RequestLengths) (cause : RequestErr) → request_sets rs kind 1 row ≡ Some sets → request_lengths kind 1 row ≡ Some lengths
         → ((groups : List Set) → request_refusal groups (request_told kind sets lengths) ≡ Some cause) → IsWrong rs (word.Begin kind) row (request_code cause)
     begin_refused sets lengths cause h k refused = λ s same.
         told_causes rs (word.Begin kind) row (statement.Begin (request_told kind sets lengths)) (begin_tells sets lengths h k) s same

@@ -1,5 +1,5 @@
 use Rattle.rrecords.proofs.Made.{is_made}
-use Rattle.rrecords.proofs.event.request_of.Goals as goal
+use Rattle.rrecords.proofs.requests.request_of.Goals as goal
 
 pub returns : goal.returns
 returns c =
