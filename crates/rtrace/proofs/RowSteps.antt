@@ -6,7 +6,7 @@ use Rattle.std.proofs.lemmas.Bool.Decides.{nat_tests}
 use Rattle.std.specs.List.{AllByRecursion}
 use Rattle.std.specs.FinSet.{empty}
 use Rattle.rset.specs.Sets.{Set, all_below}
-use Rattle.rset.proofs.SetLemmas.{all_below_empty, all_below_difference}
+use Rattle.rset.proofs.SetLemmas.{all_below_empty}
 use Rattle.rclaim.specs.Events.{IsNormalEvent}
 use Rattle.rclaim.specs.Requests.{normalised, IsNormal}
 use Rattle.rclaim.specs.declared.request.Kind.{Kind}
@@ -35,6 +35,7 @@ use Rattle.rforms.specs.declared.word.Word.TheVariants as word
 use Rattle.rforms.specs.declared.fault.Code.{Code}
 use Rattle.rforms.specs.declared.fault.Code.TheVariants.{BadField, UnknownName}
 use Rattle.rforms.specs.declared.fault.Refusal.TheVariants.{Request}
+use Rattle.rforms.proofs.facts.Coming.{kind_below}
 use Rattle.rforms.proofs.facts.Choices.{some_is, some_none, map_some}
 use Rattle.rforms.proofs.facts.ReadGood.{read_good}
 use Rattle.rforms.proofs.lists.Histories.{lock-resources, lock-tasks, lock-issued}
@@ -210,14 +211,6 @@ alone_refused s (event.Issue seat r) cause h = ap (refusal_by s (event.Issue sea
 alone_refused s (event.Finish seat) cause h = absurd h
 alone_refused s (event.Rise seat) cause h = absurd h
 alone_refused s (event.Ask seat part) cause h = absurd h
-
-kind_below : (q : ℕ) (kind : Kind) (reads writes first : Set) (n later : ℕ) → all_below q reads ≡ true → all_below q writes ≡ true
-    → IsTrue (all_below q (normalised kind reads writes first n later).reads) × IsTrue (all_below q (normalised kind reads writes first n later).writes)
-kind_below q Read reads writes first n later a b = (a, all_below_empty q)
-kind_below q Write reads writes first n later a b = (all_below_empty q, b)
-kind_below q Mixed reads writes first n later a b = (all_below_difference q reads writes a, b)
-kind_below q Upgrade reads writes first n later a b = (a, all_below_empty q)
-kind_below q Nested reads writes first n later a b = (all_below_difference q reads writes a, b)
 
 -- the event of a line fits where its request is in normal form
 abbrev FitsLine : LockState → Line → Type 0
