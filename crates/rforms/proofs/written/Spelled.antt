@@ -96,10 +96,11 @@ module _ (names : Names) where
   unfolding history_lines
   entries_tellable whole head earlier [] all = tt
   entries_tellable whole head earlier (entry ∷ entries) all =
-      let own = front (IsLimited names) (map Does entry.acts ++ change_lines whole (lock_after head earlier) entry.event) (history_lines whole head (earlier ++ entry ∷ []) entries) all.1 in
-      (acts_tellable entry.acts (front (IsLimited names) (map Does entry.acts) (change_lines whole (lock_after head earlier) entry.event) own),
+      let own = front (IsLimited names) (map Does entry.acts ++ change_lines whole (lock_after head earlier) entry.event) (history_lines whole head (earlier ++ entry ∷ []) entries) all.1 in (
+        acts_tellable entry.acts (front (IsLimited names) (map Does entry.acts) (change_lines whole (lock_after head earlier) entry.event) own),
         entries_tellable whole head (earlier ++ entry ∷ []) entries
-        (rest (IsLimited names) (map Does entry.acts ++ change_lines whole (lock_after head earlier) entry.event) (history_lines whole head (earlier ++ entry ∷ []) entries) all.1))
+            (rest (IsLimited names) (map Does entry.acts ++ change_lines whole (lock_after head earlier) entry.event) (history_lines whole head (earlier ++ entry ∷ []) entries) all.1),
+      )
 
 some_length : {X : Type 0} (xs : List X) → is_nil xs ≡ false → 1 ≤ length xs
 some_length [] h = absurd (true≢false h)
@@ -115,9 +116,9 @@ spelled_may_be whole rows r spells =
     let P = IsLimited (names_of r.head) in
     let all = said_limited whole (names_of r.head) rows (lines_of whole spells.told r) spells.said in
     let head = front P (map HasResource r.head.resources ++ (map HasGroup r.head.groups ++ (map HasTask r.head.tasks ++ map HasCap (option_to_list spells.told))))
-        (history_lines whole r.head [] r.entries ++ (ledger_lines whole r.head r.entries ++ Ends ∷ [])) all.1 in
+    (history_lines whole r.head [] r.entries ++ (ledger_lines whole r.head r.entries ++ Ends ∷ [])) all.1 in
     let tail = rest P (map HasResource r.head.resources ++ (map HasGroup r.head.groups ++ (map HasTask r.head.tasks ++ map HasCap (option_to_list spells.told))))
-        (history_lines whole r.head [] r.entries ++ (ledger_lines whole r.head r.entries ++ Ends ∷ [])) all.1 in
+    (history_lines whole r.head [] r.entries ++ (ledger_lines whole r.head r.entries ++ Ends ∷ [])) all.1 in
     let behind = rest P (map HasResource r.head.resources) (map HasGroup r.head.groups ++ (map HasTask r.head.tasks ++ map HasCap (option_to_list spells.told))) head in
     let caps = rest P (map HasTask r.head.tasks) (map HasCap (option_to_list spells.told)) (rest P (map HasGroup r.head.groups) (map HasTask r.head.tasks ++ map HasCap (option_to_list spells.told)) behind) in
     let bounds = cap_bounds r.head spells.told spells.head caps in
