@@ -5,6 +5,7 @@ pub mod IssueSteps
 pub mod Issued
 pub mod Marked
 pub mod NewSettled
+pub mod OneSwept
 pub mod Own
 pub mod PlainSteps
 pub mod Removed

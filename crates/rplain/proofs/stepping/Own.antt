@@ -19,7 +19,7 @@ use Rattle.rplain.specs.Sweep.{none_gone, with_left, left_by, is_of, IsLone}
 use Rattle.rmodel.specs.WellFormed.{EachPair, Distinct}
 use Rattle.rplain.proofs.stepping.Barred.{between}
 use Rattle.rmodel.proofs.ListFacts.{contrary, false_from, all_at, all_from}
-use Rattle.rplain.proofs.stepping.Sweeping.{pairs_at}
+use Rattle.rplain.proofs.stepping.OneSwept.{pairs_at}
 use Rattle.rmodel.proofs.reaching.OneOfSeat.{nothing_both, rest_holds}
 
 module _ (seat : ℕ) where

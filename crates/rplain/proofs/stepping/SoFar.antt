@@ -24,7 +24,7 @@ use Rattle.rmodel.proofs.settling.Giving.{given_none, settled_asks, same_given}
 use Rattle.rmodel.proofs.ListFacts.{all_append, all_of_zip}
 use Rattle.rmodel.proofs.settling.Settlement.{ReadsOnly, settles_settled}
 use Rattle.rmodel.proofs.reaching.Soundness.{same_claims, sound_changed}
-use Rattle.rplain.proofs.stepping.Sweeping.{none_near}
+use Rattle.rplain.proofs.stepping.OneSwept.{none_near}
 
 -- ---- what an event leaves, before it is settled
 

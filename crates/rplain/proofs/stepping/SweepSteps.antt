@@ -17,7 +17,8 @@ use Rattle.rmodel.proofs.settling.Standing.{SameStanding}
 use Rattle.rmodel.proofs.ListFacts.{behind}
 use Rattle.rmodel.proofs.settling.Settlement.{ReadsOnly}
 use Rattle.rplain.proofs.stepping.Barred.{between}
-use Rattle.rplain.proofs.stepping.Sweeping.{fold_zip, swept_at, reads_only, as_long}
+use Rattle.rplain.proofs.stepping.OneSwept.{fold_zip}
+use Rattle.rplain.proofs.stepping.Sweeping.{swept_at, reads_only, as_long}
 
 -- the pass over the claims `first` has come to the place i: those before are settled, and this is seen of them and was told
 pub record SweptTo (first xs : List Claimed) (i : ℕ) (seen : Seen) (told : ChangeLists) : Type 0 where
