@@ -1,0 +1,4 @@
+-- Lists: what passes a test.
+pub mod Found
+pub mod Different
+pub mod Counting

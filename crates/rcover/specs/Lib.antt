@@ -1,0 +1,9 @@
+pub mod Moments
+pub mod Waits
+pub mod Sections
+pub mod Line
+pub mod Covers
+pub mod History
+pub mod Within
+pub mod Told
+pub mod Promises
