@@ -19,3 +19,4 @@ pub mod Going
 pub mod Seeing
 pub mod Having
 pub mod Raising
+pub mod Held

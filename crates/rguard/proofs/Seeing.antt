@@ -1,9 +1,9 @@
--- What a guard or a wait has seen is lawful.
+-- What a guard or a wait has seen is lawful, and its own entries there are those that it made.
 use Rattle.std.proofs.Common.{ℕ, Bool, sym, subst, ◌∙◌}
 use Rattle.rstate.specs.Histories.{Beginning, IsLawfulFrom}
 use Rattle.rstate.proofs.homes.Lists.{same_item}
 use Rattle.rguard.specs.declared.kind.GuardKind.{GuardKind}
-use Rattle.rguard.specs.Guards.{HasSeenLawful}
+use Rattle.rguard.specs.Guards.{HasSeenLawful, HasSeenOwn}
 use Rattle.rguard.specs.Sections.{SectionFields, Knows, Holds, Waits}
 
 module _ {V E : Type 0} (after : V → E → V) (taken : V → E → Bool) (number : V → ℕ) (kind : GuardKind) (s : SectionFields V E) where
@@ -15,3 +15,9 @@ module _ {V E : Type 0} (after : V → E → V) (taken : V → E → Bool) (numb
 
   pub lawful_waited : Waits after taken number kind s → HasSeenLawful after taken number s.seat
   lawful_waited w = lawful_known w.began w.from.knows
+
+  pub own_held : Holds after taken number kind s → HasSeenOwn s.seat
+  own_held h = h.from.knows.own
+
+  pub own_waited : Waits after taken number kind s → HasSeenOwn s.seat
+  own_waited w = w.from.knows.own

@@ -2,14 +2,16 @@
 use Rattle.std.specs.Prelude.{◌≡◌, ℕ, Bool, true, Some, List, [], ◌∷◌, slice_get}
 use Rattle.std.specs.FinSet.{contains}
 use Rattle.rset.specs.Sets.{Set}
+use Rattle.rclaim.specs.Events.{seat_of}
 use Rattle.rclaim.specs.Requests.{RequestFields}
 use Rattle.rclaim.specs.declared.request.Kind.{Kind}
 use Rattle.rclaim.specs.declared.request.Kind.TheVariants as kinds
 use Rattle.rclaim.specs.declared.event.Event.TheVariants.{Issue, Ask}
-use Rattle.rlock.specs.Known.{Site}
+use Rattle.rlock.specs.Known.{Site, entries_by}
 use Rattle.rmodel.specs.Holds.{is_part_of}
 use Rattle.rvalue.specs.declared.act.Act.{Act}
 use Rattle.rvalue.specs.Acts.{value_within}
+use Rattle.rvalue.specs.Entries.{EntryFields}
 use Rattle.rvalue.specs.Histories.{value_of}
 use Rattle.rstate.specs.Contents.{is_ready}
 use Rattle.rstate.specs.Histories.{Beginning, lock_after, writes_of, IsLawfulFrom}
@@ -47,6 +49,10 @@ module _ {V E : Type 0} where
   -- what the seat has seen is lawful from how the lock began
   abbrev pub HasSeenLawful : (V → E → V) → (V → E → Bool) → (V → ℕ) → SeatOf V E → Type 0
   HasSeenLawful after taken number seat = AsSeen seat (λ b. IsLawfulFrom after taken number b seat.seen)
+
+  -- of what the seat has seen, its own entries are those that it has made
+  abbrev pub HasSeenOwn : SeatOf V E → Type 0
+  HasSeenOwn seat = entries_by (λ (entry : EntryFields E). seat_of entry.event) seat.number seat.seen ≡ seat.mine
 
   -- the seat holds the resource
   abbrev pub Holding : SeatOf V E → ℕ → Type 0

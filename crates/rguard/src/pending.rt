@@ -2,7 +2,7 @@
 ghost use Rattle.std.specs.Prelude.{◌≡◌, [], IfOk, IfErr};
 ghost use Rattle.rguard.specs.Seats.{IsOf, IsIdle, SuitsSeat, Goes};
 ghost use Rattle.rguard.specs.Awaiting.{awaited_kind, HasNext, no_loans};
-ghost use Rattle.rguard.specs.Guards.{HasSeenLawful, HasBegun, kind_for};
+ghost use Rattle.rguard.specs.Guards.{HasSeenLawful, HasSeenOwn, HasBegun, kind_for};
 ghost use Rattle.rguard.specs.Sections.{Waits, waiting};
 ghost use Rattle.rguard.specs.Looks.{LooksAt};
 
@@ -117,10 +117,12 @@ impl<T: Editable, M: Machine> Lock<State<T, M>> {
 }
 
 impl<'a, T: Editable, M: Machine> Pending<'a, T, M> {
-    /// Lends the seat that waits. It has no turn. What it has seen is lawful from how the lock began. No memory is taken.
+    /// Lends the seat that waits. It has no turn. What it has seen is lawful from how the lock began, and its own
+    /// entries there are those that it made. No memory is taken.
     pub fn seat(&self) -> &Seat<T, M>
         ensures seat { result.now ≡ self.now.seat }
         ensures lawful { HasSeenLawful T.after T.taken T.number self.now.seat }
+        ensures own { HasSeenOwn self.now.seat }
     {
         &self.section.seat
     }

@@ -3,7 +3,7 @@ ghost use Rattle.std.specs.Prelude.{◌≡◌, ◌++◌, ◌∷◌, [], IfOk, On
 ghost use Rattle.rclaim.specs.declared.event.Event.TheVariants.{Finish};
 ghost use Rattle.rvalue.specs.declared.act.Act.TheVariants.{Edited, Shown};
 ghost use Rattle.rguard.specs.Seats.{Goes, IsOneTurn, IsIdle, bare};
-ghost use Rattle.rguard.specs.Guards.{HasSeenLawful, Holding, HoldingToWrite, HasValue};
+ghost use Rattle.rguard.specs.Guards.{HasSeenLawful, HasSeenOwn, Holding, HoldingToWrite, HasValue};
 
 use crate::lock::Seat;
 use crate::section::Section;
@@ -35,10 +35,12 @@ impl<'a, T: Editable, M: Machine> Model for WriteGuard<'a, T, M> {
 }
 
 impl<'a, T: Editable, M: Machine> WriteGuard<'a, T, M> {
-    /// Lends the seat of the guard. It has no turn. What it has seen is lawful from how the lock began. No memory is taken.
+    /// Lends the seat of the guard. It has no turn. What it has seen is lawful from how the lock began, and its own
+    /// entries there are those that it made. No memory is taken.
     pub fn seat(&self) -> &Seat<T, M>
         ensures seat { result.now ≡ self.now.seat }
         ensures lawful { HasSeenLawful T.after T.taken T.number self.now.seat }
+        ensures own { HasSeenOwn self.now.seat }
     {
         &self.section.seat
     }
