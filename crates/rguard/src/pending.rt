@@ -17,6 +17,7 @@ use rvalue::Editable;
 use std::alloc::{AllocError, Global};
 use std::marker::Model;
 use std::sync::Wait;
+use std::thread;
 
 /// A request that was issued, or asks for more, and for which its seat waits. It must be spent.
 pub struct Pending<'a, T: Editable, M: Machine> {
@@ -135,11 +136,13 @@ impl<'a, T: Editable, M: Machine> Pending<'a, T, M> {
         section.look(rt, awaited)
     }
 
-    /// Rests between two looks.
+    /// Rests between two looks: lets another thread have this processor, if one waits for it.
     pub fn rest<R: Wait>(self, rt: &R) -> Pending<'a, T, M>
         ensures { result ≡ self.entry }
     {
         let _ = rt;
+        // Whoever holds what is waited for may need this processor.
+        thread::yield_now();
         self
     }
 }
