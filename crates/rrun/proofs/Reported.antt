@@ -1,0 +1,168 @@
+-- The run of a script, from its seats to its report.
+use Rattle.std.proofs.Common.{◌≡◌, ◌<◌, ℕ, Bool, true, false, List, [], ◌∷◌, ◌++◌, map, length, get_or, replicate, Option, Some, None, refl, sym, ap, subst, ◌∙◌, inl, inr, arith}
+use Rattle.std.proofs.lemmas.Bool.{true≢false}
+use Rattle.std.proofs.lemmas.List.{length-map, length-replicate}
+use Rattle.std.proofs.lemmas.List.FromFn.{fill_by_all}
+use Rattle.std.proofs.lemmas.Option.{get_or_from_slice_get}
+use Rattle.std.specs.List.{range_with_len, list_any}
+use Rattle.std.specs.Prelude.{slice_get, slice_index_or, All, Any}
+use Rattle.rclaim.specs.Events.{seat_of}
+use Rattle.rlock.specs.Known.{Site, GateId, newcomer, entries_by}
+use Rattle.rmodel.specs.State.{LockState, opening}
+use Rattle.rmodel.proofs.ListFacts.{false_from}
+use Rattle.rvalue.specs.declared.ledger.Edit.{Edit}
+use Rattle.rvalue.specs.declared.ledger.Ledger.{Ledger}
+use Rattle.rvalue.specs.Entries.{EntryFields}
+use Rattle.rvalue.specs.Ledgers.{opening_ledger, is_taken, value_after}
+use Rattle.rvalue.specs.Lawful.{AreOpenings}
+use Rattle.rvalue.proofs.InTurnLemmas.{AllInTurn-weaker}
+use Rattle.rstate.specs.Contents.{Contents}
+use Rattle.rstate.specs.Histories.{Beginning, IsListed, IsLawfulFrom, MayFollow}
+use Rattle.rstate.proofs.homes.Lists.{same_item, get_map, get_there, get_replicate, any_here}
+use Rattle.rforms.specs.Heads.{Head, is_nil}
+use Rattle.rforms.specs.Reports.{IsLawful, IsRightEntry, ledger_after}
+use Rattle.rreport.specs.Report.{ReportFields, told_by}
+use Rattle.rscript.specs.Scripts.{ScriptFields, IsScript}
+use Rattle.rscript.specs.declared.statement.Statement.{Statement}
+use Rattle.rguard.specs.Closing.{IsClosedBy, IsLeft}
+use Rattle.rguard.specs.Seats.{SeatOf, IsOf, IsIdle}
+use Rattle.rrun.specs.declared.tasks.Ended.{Ended}
+use Rattle.rrun.specs.Endings.{AreEnded}
+use Rattle.rrun.specs.Reporting.{beginning_of, HasOpened, TellsHeadOf, IsReportOf}
+use Rattle.rrun.specs.Runs.{IsRunOf, HasRun}
+use Rattle.rrun.specs.Tasks.{IsSeatFor, HasEnded}
+use Rattle.rrun.proofs.Ending.{less_from_slice_get}
+
+-- ---- the beginning
+
+-- what the machine and the values of a runtime say of how it began
+abbrev began_by : LockState → List Ledger → Beginning Ledger
+began_by state values = record { groups = state.groups; seats = state.seats; cap = state.cap; values = values }
+
+pub has_opened : (p : ScriptFields) (site : Site) (seats : List (SeatOf Ledger Edit)) (state : LockState) (values : List Ledger) (contents : Contents Ledger Edit) (n : ℕ)
+    → state ≡ opening (record { q = length p.resources; groups = p.groups }) n n → values ≡ replicate (length p.resources) opening_ledger → n ≡ length p.tasks
+    → site.passes ≡ n → length seats ≡ n → All (λ seat. IsOf site seat × IsIdle seat) seats
+    → ((k : ℕ) → k < n → slice_get seats k ≡ Some (newcomer site.gate k (began_by state values) contents))
+    → HasOpened p site seats
+has_opened p site seats state values contents n state_is values_are n_is passes count all each = record {
+  seats_are = record { count = count ∙ n_is; each = for_seat };
+  passes = passes ∙ n_is;
+  begins = begins;
+  nothing_made = λ k seat there. ap (λ (s : SeatOf Ledger Edit). s.mine) (is_new k seat there);
+}
+  where
+    began_is : began_by state values ≡ beginning_of p
+    began_is = (λ i. began_by (state_is i) (values_are i)) ∙ ap (λ (m : ℕ). record { groups = record { q = length p.resources; groups = p.groups }; seats = m; cap = m; values = replicate (length p.resources) opening_ledger }) n_is
+
+    is_new : (k : ℕ) (seat : SeatOf Ledger Edit) → slice_get seats k ≡ Some seat → seat ≡ newcomer site.gate k (began_by state values) contents
+    is_new k seat there = same_item seat (newcomer site.gate k (began_by state values) contents) (sym there ∙ each k (subst (λ m. k < m) count (less_from_slice_get seats k seat there)))
+
+    begins : (k : ℕ) (seat : SeatOf Ledger Edit) → slice_get seats k ≡ Some seat → seat.opening ≡ Some (beginning_of p)
+    begins k seat there = ap (λ (s : SeatOf Ledger Edit). s.opening) (is_new k seat there) ∙ ap Some began_is
+
+    for_seat : (k : ℕ) (seat : SeatOf Ledger Edit) → slice_get seats k ≡ Some seat → IsSeatFor site p k seat
+    for_seat k seat there =
+        let is = subst (λ (s : SeatOf Ledger Edit). IsOf site s × IsIdle s) (get_or_from_slice_get seats k seat seat there) (all k seat (less_from_slice_get seats k seat there)) in
+        record {
+          of = is.0;
+          idle = is.1;
+          number = ap (λ (s : SeatOf Ledger Edit). s.number) (is_new k seat there);
+          over = λ b opens. ap (λ (d : Beginning Ledger). d.groups) (same_item b (beginning_of p) (sym opens ∙ begins k seat there));
+        }
+
+-- ---- the end
+
+module _ {M : Type 0} (p : ScriptFields) (script : IsScript p) (site : Site) (seats : List (SeatOf Ledger Edit)) (opened : HasOpened p site seats) (ended : List (Ended M)) (are : AreEnded {M = M} site p seats ended) where
+  abbrev left_seats : List (SeatOf Ledger Edit)
+  left_seats = map (λ (e : Ended M). e.seat) ended
+
+  at : (k : ℕ) → k < length p.tasks → (e : Ended M) × (slice_get ended k ≡ Some e)
+  at k less = get_there ended k (subst (λ n. k < n) (sym are.count) less)
+
+  index : (k : ℕ) (e : Ended M) (d : SeatOf Ledger Edit) → slice_get ended k ≡ Some e → slice_index_or left_seats k d ≡ e.seat
+  index k e d there = get_or_from_slice_get left_seats k e.seat d (get_map (λ (e : Ended M). e.seat) ended k e there)
+
+  within : (k : ℕ) → k < length left_seats → k < length p.tasks
+  within k less = subst (λ n. k < n) (length-map ended (λ (e : Ended M). e.seat) ∙ are.count) less
+
+  pub all_of : All (λ seat. IsOf site seat) left_seats
+  all_of k d less = let e = at k (within k less) in subst (λ (s : SeatOf Ledger Edit). IsOf site s) (sym (index k e.0 d e.1)) (are.seats_are k e.0 e.1).of
+
+  pub all_idle : All (λ seat. IsIdle seat) left_seats
+  all_idle k d less = let e = at k (within k less) in subst (λ (s : SeatOf Ledger Edit). IsIdle s) (sym (index k e.0 d e.1)) (are.seats_are k e.0 e.1).idle
+
+  pub all_there : (n : ℕ) → n < site.passes → Any (λ seat. seat.number ≡ n) left_seats
+  all_there n less =
+      let e = at n (subst (λ m. n < m) opened.passes less) in
+      (n, e.0.seat, subst (λ m. n < m) (sym (length-map ended (λ (e : Ended M). e.seat) ∙ are.count)) (subst (λ m. n < m) opened.passes less), index n e.0 e.0.seat e.1, (are.seats_are n e.0 e.1).number)
+
+  module _ (whole : list_any (λ (e : Ended M). e.stopped) ended ≡ false) (entries : List (EntryFields Edit)) (values : List Ledger)
+      (closed : All (λ seat. IsClosedBy value_after is_taken (λ (ledger : Ledger). ledger.balance) entries values seat) left_seats) where
+    closed_at : (k : ℕ) (e : Ended M) → slice_get ended k ≡ Some e → IsClosedBy value_after is_taken (λ (ledger : Ledger). ledger.balance) entries values e.seat
+    closed_at k e there =
+        subst (IsClosedBy value_after is_taken (λ (ledger : Ledger). ledger.balance) entries values) (index k e e.seat there)
+        (closed k e.seat (less_from_slice_get left_seats k e.seat (get_map (λ (e : Ended M). e.seat) ended k e there)))
+
+    ran : (k : ℕ) (statements : List Statement) (seat : SeatOf Ledger Edit) (e : Ended M) → slice_get p.steps k ≡ Some statements → slice_get seats k ≡ Some seat → slice_get ended k ≡ Some e → HasRun statements seat e.seat
+    ran k statements seat e steps_is seat_is there =
+        subst (λ (b : Bool). HasEnded statements seat b e.seat) (false_from e.stopped (λ h. true≢false (sym (any_here (λ (e : Ended M). e.stopped) ended k e there h) ∙ whole))) (are.each k statements seat e steps_is seat_is there)
+
+    seat_at : (k : ℕ) → k < length p.tasks → (seat : SeatOf Ledger Edit) × (slice_get seats k ≡ Some seat)
+    seat_at k less = get_there seats k (subst (λ n. k < n) (sym opened.seats_are.count) less)
+
+    steps_within : (k : ℕ) (statements : List Statement) → slice_get p.steps k ≡ Some statements → k < length p.tasks
+    steps_within k statements steps_is = subst (λ n. k < n) script.paired (less_from_slice_get p.steps k statements steps_is)
+
+    pub each_ran : (k : ℕ) (statements : List Statement) → slice_get p.steps k ≡ Some statements → IsRunOf k statements (entries_by (λ (entry : EntryFields Edit). seat_of entry.event) k entries)
+    each_ran k statements steps_is =
+        let less = steps_within k statements steps_is in
+        let seat = seat_at k less in
+        let e = at k less in
+        let run = ran k statements seat.0 e.0 steps_is seat.1 e.1 in
+        let own : entries_by (λ (entry : EntryFields Edit). seat_of entry.event) k entries ≡ run.more =
+        ap (λ n. entries_by (λ (entry : EntryFields Edit). seat_of entry.event) n entries) (sym (are.seats_are k e.0 e.1).number) ∙ (closed_at k e.0 e.1).own ∙ run.goes.mine ∙ ap (λ (es : List (EntryFields Edit)). es ++ run.more) (opened.nothing_made k seat.0 seat.1) in
+        subst (IsRunOf k statements) (sym own) (subst (λ n. IsRunOf n statements run.more) (opened.seats_are.each k seat.0 seat.1).number run.run)
+
+    some_task : 0 < length p.tasks
+    some_task = filled p.tasks script.some_task
+      where
+        filled : {X : Type 0} (xs : List X) → is_nil xs ≡ false → 0 < length xs
+        filled [] h = absurd (true≢false h)
+        filled (x ∷ xs) h = omega arith
+
+    is_left : IsLeft value_after is_taken (λ (ledger : Ledger). ledger.balance) (beginning_of p) entries values
+    is_left =
+        let seat = seat_at 0 some_task in
+        let e = at 0 some_task in
+        let statements = get_there p.steps 0 (subst (λ n. 0 < n) (sym script.paired) some_task) in
+        let run = ran 0 statements.0 seat.0 e.0 statements.1 seat.1 e.1 in
+        (closed_at 0 e.0 e.1).left (beginning_of p) (run.goes.same.2 ∙ opened.begins 0 seat.0 seat.1)
+
+    -- what each value is told to open with
+    told_of : (openings : ℕ → Ledger) → ((l : ℕ) (ledger : Ledger) → ledger ≡ opening_ledger → openings l ≡ ledger) → AreOpenings (IsListed (beginning_of p).values) openings
+    told_of openings opens l value listed = opens l value (get_replicate (length p.resources) l opening_ledger value listed)
+
+    pub lawful_report : (head : Head) → head.resources ≡ p.resources → head.groups ≡ p.groups → head.tasks ≡ p.tasks → head.cap ≡ length p.tasks → IsLawful head entries
+    lawful_report head resources groups tasks cap =
+        subst (λ (h : Head). IsLawful h entries) (λ i. record { resources = sym resources i; groups = sym groups i; tasks = sym tasks i; cap = sym cap i })
+        (AllInTurn-weaker (MayFollow value_after is_taken (λ (ledger : Ledger). ledger.balance) (beginning_of p)) (IsRightEntry (record { resources = p.resources; groups = p.groups; tasks = p.tasks; cap = length p.tasks }))
+        (λ earlier entry right. record { comes = right.comes; stand = right.stand; held = right.held; answers = λ openings opens. right.answers openings (told_of openings opens) })
+        [] entries is_left.lawful)
+
+    pub its_ledgers : values ≡ map (ledger_after entries) (range_with_len 0 (length p.resources))
+    its_ledgers = fill_by_all (ledger_after entries) values (length p.resources) opening_ledger is_left.count (λ l less.
+        get_or_from_slice_get values l (ledger_after entries l) opening_ledger (is_left.each l opening_ledger (opens l less)))
+      where
+        opens : (l : ℕ) → l < length p.resources → slice_get (replicate (length p.resources) opening_ledger) l ≡ Some opening_ledger
+        opens l less =
+            let there = get_there (replicate (length p.resources) opening_ledger) l (subst (λ n. l < n) (sym (length-replicate (length p.resources) opening_ledger)) less) in
+            there.1 ∙ ap Some (get_replicate (length p.resources) l opening_ledger there.0 there.1)
+
+    pub is_report : (r : ReportFields) → TellsHeadOf p r → r.entries ≡ entries → r.ledgers ≡ values → IsReportOf p r
+    is_report r head entries_are ledgers_are = record {
+      head = head;
+      lawful = subst (λ (es : List (EntryFields Edit)). IsLawful (told_by r).head es) (sym entries_are) (lawful_report (told_by r).head head.resources (ap (λ g. g.groups) head.groups) head.tasks head.cap);
+      each = λ k statements steps_is. subst (λ (es : List (EntryFields Edit)). IsRunOf k statements (entries_by (λ (entry : EntryFields Edit). seat_of entry.event) k es)) (sym entries_are) (each_ran k statements steps_is);
+      over = ap (λ g. g.q) head.groups ∙ ap length (sym head.resources);
+      ledgers = ledgers_are ∙ its_ledgers ∙ (λ i. map (ledger_after (sym entries_are i)) (range_with_len 0 (length (sym head.resources i))));
+    }

@@ -1,0 +1,48 @@
+-- The report of a script's run.
+use Rattle.std.specs.Prelude.{◌≡◌, ◌<◌, ℕ, Some, List, [], length, replicate, slice_get}
+use Rattle.rclaim.specs.Events.{seat_of}
+use Rattle.rlock.specs.Known.{Site, entries_by}
+use Rattle.rvalue.specs.declared.ledger.Edit.{Edit}
+use Rattle.rvalue.specs.declared.ledger.Ledger.{Ledger}
+use Rattle.rvalue.specs.Entries.{EntryFields}
+use Rattle.rvalue.specs.Ledgers.{opening_ledger}
+use Rattle.rstate.specs.Histories.{Beginning}
+use Rattle.rforms.specs.Reports.{IsLawful}
+use Rattle.rreport.specs.Report.{ReportFields, told_by, IsOverResources, HasItsLedgers}
+use Rattle.rscript.specs.Scripts.{ScriptFields}
+use Rattle.rscript.specs.declared.statement.Statement.{Statement}
+use Rattle.rguard.specs.Seats.{SeatOf}
+use Rattle.rrun.specs.Runs.{IsRunOf}
+use Rattle.rrun.specs.Tasks.{AreSeatsFor}
+
+-- how the runtime of a script begins: with what the script declares, a seat for each task, each of which may have a request, and ledgers as they open
+abbrev pub beginning_of : ScriptFields → Beginning Ledger
+beginning_of p = record {
+  groups = record { q = length p.resources; groups = p.groups };
+  seats = length p.tasks;
+  cap = length p.tasks;
+  values = replicate (length p.resources) opening_ledger;
+}
+
+-- the runtime of a script has just begun, with these seats
+pub record HasOpened (p : ScriptFields) (site : Site) (seats : List (SeatOf Ledger Edit)) : Type 0 where
+  pub seats_are : AreSeatsFor site p seats
+  pub passes : site.passes ≡ length p.tasks
+  pub begins : (k : ℕ) (seat : SeatOf Ledger Edit) → slice_get seats k ≡ Some seat → seat.opening ≡ Some (beginning_of p)
+  pub nothing_made : (k : ℕ) (seat : SeatOf Ledger Edit) → slice_get seats k ≡ Some seat → seat.mine ≡ []
+
+-- the report tells what the script declares, with a cap of one request for each task
+pub record TellsHeadOf (p : ScriptFields) (r : ReportFields) : Type 0 where
+  pub resources : r.resources ≡ p.resources
+  pub groups : r.groups ≡ record { q = length p.resources; groups = p.groups }
+  pub tasks : r.tasks ≡ p.tasks
+  pub cap : r.cap ≡ length p.tasks
+
+-- *The run of a script*: its history is lawful, the entries of each task are the run of its statements, and the ledgers are what the history makes
+pub record IsReportOf (p : ScriptFields) (r : ReportFields) : Type 0 where
+  pub head : TellsHeadOf p r
+  pub lawful : IsLawful (told_by r).head r.entries
+  pub each : (k : ℕ) (statements : List Statement) → slice_get p.steps k ≡ Some statements
+      → IsRunOf k statements (entries_by (λ (entry : EntryFields Edit). seat_of entry.event) k r.entries)
+  pub over : IsOverResources r
+  pub ledgers : HasItsLedgers r

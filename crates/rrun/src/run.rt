@@ -1,0 +1,122 @@
+//! The run of a script, from its beginning to its report.
+ghost use Rattle.std.specs.Prelude.{◌≡◌, ◌≤◌, [], map, length, vec_capacity, IfOk};
+ghost use Rattle.std.specs.Arc.{arc_value};
+ghost use Rattle.std.specs.List.{list_any};
+ghost use Rattle.rrun.specs.Reporting.{HasOpened, TellsHeadOf, IsReportOf};
+
+use crate::Pace;
+use crate::tasks::{Ended, run_tasks};
+use rguard::{Closed, Receipt, Rnlp, Seat};
+use rmodel::Machine;
+use rplain::Plain;
+use rreport::Report;
+use rscript::Script;
+use rvalue::{Edit, Ledger};
+use std::alloc::{AllocError, Global};
+use std::sync::{Arc, Wait};
+use std::thread::Threads;
+
+/// A runtime with its seats.
+type Opened<M> = (Rnlp<Ledger, M>, Vec<Seat<Ledger, M>>);
+
+/// Runs a script at a runtime of its own: makes it, runs the tasks, closes it, and gives the report of what happened, with the receipt of
+/// its history.
+///
+/// # Errors
+///
+/// Want of memory, of the run itself or of one of its tasks.
+pub fn run_script<R: Threads + Wait + Sync, G: Pace>(
+    rt: &R,
+    alloc: Global,
+    script: &Script,
+    pace: &G,
+) -> Result<(Report, Receipt<Edit>), AllocError>
+    ensures report { IfOk result (λ r. IsReportOf script.entry.now r.0) }
+    ensures receipt { IfOk result (λ r. r.1 ≡ r.0.entries) }
+{
+    let (rnlp, seats) = open(alloc, script)?;
+    let room = Vec::with_capacity(alloc, seats.len())?;
+    let ended = match run_tasks(rt, alloc, &rnlp, seats, script, pace) {
+        Ok(ended) => ended,
+        Err((_, e)) => return Err(e),
+    };
+    if is_broken(ended.as_slice()) {
+        return Err(AllocError);
+    }
+    let _ = script.tasks();
+    let closed = rnlp.close(seats_of(ended, room));
+    let (report, receipt) = report_of(alloc, script, closed)?;
+    Ok((report, receipt))
+}
+
+// A runtime over what the script declares, at which nothing was done, with a seat for each task.
+fn open(alloc: Global, script: &Script) -> Result<Opened<Plain>, AllocError>
+    ensures { IfOk result (λ r. HasOpened script.now r.0 r.1.items) }
+{
+    let groups = script.groups().copy(alloc)?;
+    let resources = script.resources().len();
+    let seats = script.tasks().len();
+    let machine = Plain::new(alloc, groups, seats, seats)?;
+    let values = vec![in alloc; Ledger::new(); usize::from(resources)]?;
+    let (rnlp, all) = Rnlp::new(alloc, machine, values, seats)?;
+    Ok((rnlp, all))
+}
+
+// Whether one of the tasks was stopped.
+fn is_broken<M: Machine>(all: &[Ended<M>]) -> bool
+    ensures { result ≡ list_any (λ ended. ended.stopped) all.now }
+{
+    all.iter().any(|ended| ended.stopped)
+}
+
+// The seats of the tasks, in room that was made.
+fn seats_of<M: Machine>(
+    all: Vec<Ended<M>>,
+    room: Vec<Seat<Ledger, M>>,
+) -> Vec<Seat<Ledger, M>>
+    requires empty { room.items ≡ [] }
+    requires room { length all.items ≤ vec_capacity room }
+    ensures { result.items ≡ map (λ ended. ended.seat) all.items }
+{
+    let mut seats = room;
+    for ended in all {
+        let Ended { seat, stopped: _ } = ended;
+        seats.push_reserved(seat);
+    }
+    seats
+}
+
+// The report of a runtime that was closed, and its receipt.
+fn report_of(
+    alloc: Global,
+    script: &Script,
+    closed: Closed<Ledger>,
+) -> Result<(Report, Receipt<Edit>), AllocError>
+    ensures head { IfOk result (λ r. TellsHeadOf script.now r.0) }
+    ensures entries { IfOk result (λ r. r.0.entries ≡ closed.0.entries) }
+    ensures ledgers { IfOk result (λ r. r.0.ledgers ≡ map arc_value closed.1.items) }
+    ensures receipt { IfOk result (λ r. r.1 ≡ closed.2) }
+{
+    let (history, values, receipt) = closed;
+    let report = Report {
+        resources: script.resources().copy(alloc)?,
+        groups: script.groups().copy(alloc)?,
+        tasks: script.tasks().copy(alloc)?,
+        cap: script.tasks().len(),
+        history,
+        ledgers: ledgers_of(alloc, values.as_slice())?,
+    };
+    Ok((report, receipt))
+}
+
+// The ledgers of which these are shares.
+fn ledgers_of(alloc: Global, values: &[Arc<Ledger, Global>]) -> Result<Vec<Ledger>, AllocError>
+    ensures { IfOk result (λ ledgers. ledgers.items ≡ map arc_value values.now) }
+{
+    let mut ledgers = Vec::with_capacity(alloc, values.len())?;
+    for value in values {
+        let ledger: &Ledger = value;
+        ledgers.push_reserved(*ledger);
+    }
+    Ok(ledgers)
+}
