@@ -1,32 +1,28 @@
 -- What a seat may do of which nothing is pending: it holds what its section holds.
-use Rattle.std.proofs.Common.{◌≡◌, ℕ, ◌==◌, nat_lt, Bool, true, false, cond, not, ◌&&◌, ◌||◌, List, Some, refl, sym, ap, subst, ◌∙◌, ◌⊎◌, inl, inr}
-use Rattle.std.proofs.lemmas.Bool.{true≢false, eq-eqb, or_parts, and_from, or_cases, or_left, or_right}
+use Rattle.std.proofs.Common.{◌≡◌, ℕ, ◌==◌, nat_lt, Bool, true, false, cond, not, ◌&&◌, ◌||◌, Some, refl, sym, ap, subst, ◌∙◌, ◌⊎◌, inl, inr}
+use Rattle.std.proofs.lemmas.Bool.{true≢false, eq-eqb, or_parts, and_from, or_left, or_right}
 use Rattle.std.specs.Ordering.{nat_cmp}
 use Rattle.std.specs.FinSet.{empty, union, intersection, contains, len}
-use Rattle.std.specs.List.{list_any}
 use Rattle.rset.specs.Sets.{Set}
 use Rattle.rset.proofs.SetLemmas.{contains_empty, same_members}
 use Rattle.rclaim.specs.Requests.{is_part}
 use Rattle.rclaim.specs.declared.claim.Claim.{Claim}
 use Rattle.rclaim.specs.declared.request.Kind.{Kind}
 use Rattle.rclaim.specs.declared.request.Kind.TheVariants as kinds
-use Rattle.rlock.specs.Known.{entries_by}
 use Rattle.rmodel.specs.declared.claimed.Claimed.{Claimed}
 use Rattle.rmodel.specs.declared.granted.Granted.{Granted}
 use Rattle.rmodel.specs.Claims.{is_nested, is_satisfied}
-use Rattle.rmodel.specs.Holds.{holds_of, held_by, has_request, has_ask, is_nothing, nothing, is_part_of}
+use Rattle.rmodel.specs.Holds.{holds_of, held_by, has_request, has_ask, is_nothing}
 use Rattle.rmodel.specs.Reached.{IsReached}
 use Rattle.rmodel.specs.State.{LockState}
 use Rattle.rmodel.specs.Steps.{is_not_holding}
 use Rattle.rmodel.proofs.ListFacts.{Among, contrary, any_among, none_among}
 use Rattle.rmodel.proofs.reaching.HeldBySeat.{HeldBy, holding, is_nothing_of, held_of_plain, held_of_unsatisfied, held_of_nested}
 use Rattle.rmodel.proofs.reaching.OneOfSeat.{each_alone}
-use Rattle.rvalue.specs.Entries.{EntryFields}
 use Rattle.rstate.specs.Contents.{is_ready}
 use Rattle.rstate.specs.Histories.{Beginning, lock_after}
-use Rattle.rstate.specs.Laws.{is_held_by}
 use Rattle.rstate.proofs.histories.Following.{reached_lawful}
-use Rattle.rscript.specs.Statements.{held_as, is_held, is_writable, may_ask_for}
+use Rattle.rscript.specs.Statements.{held_as}
 use Rattle.rscript.specs.declared.section.Section.{Section}
 use Rattle.rguard.specs.Guards.{HasSeenLawful, HasSeenOwn, IsReady}
 use Rattle.rguard.specs.Seats.{SeatOf}

@@ -1,5 +1,5 @@
 -- What becomes of seats through their jobs.
-use Rattle.std.proofs.Common.{◌≡◌, ◌<◌, ℕ, Bool, true, false, List, [], ◌∷◌, ◌++◌, map, take, drop, length, Option, Some, None, refl, sym, ap, subst, ◌∙◌, inl, inr, append_assoc, append-nil, arith}
+use Rattle.std.proofs.Common.{◌≡◌, ◌<◌, ℕ, List, [], ◌∷◌, ◌++◌, map, take, drop, length, Option, Some, None, refl, sym, ap, subst, ◌∙◌, inl, inr, append_assoc, append-nil, arith}
 use Rattle.std.proofs.lemmas.List.{map-append, length-map, take_all, drop_all}
 use Rattle.std.proofs.lemmas.Option.{get_or_from_slice_get, slice_get_cases}
 use Rattle.std.specs.Prelude.{slice_get, slice_index_or, IsSome, IsSomeAnd, All}
@@ -13,8 +13,8 @@ use Rattle.rguard.specs.Seats.{SeatOf}
 use Rattle.rrun.specs.declared.jobs.Job.{Job}
 use Rattle.rrun.specs.declared.tasks.Ended.{Ended}
 use Rattle.rrun.specs.Endings.{waiting, resting, AreEnded}
-use Rattle.rrun.specs.Jobs.{IsReady, IsDone, AreReady, AreDone}
-use Rattle.rrun.specs.Tasks.{IsSeatFor, AreSeatsFor, HasEnded}
+use Rattle.rrun.specs.Jobs.{IsDone, AreReady, AreDone}
+use Rattle.rrun.specs.Tasks.{IsSeatFor, AreSeatsFor}
 
 module _ {M : Type 0} where
   -- one job more

@@ -5,3 +5,4 @@ pub mod Running
 pub mod Whole
 pub mod Ending
 pub mod Reported
+pub mod Parts

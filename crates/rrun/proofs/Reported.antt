@@ -1,5 +1,5 @@
 -- The run of a script, from its seats to its report.
-use Rattle.std.proofs.Common.{◌≡◌, ◌<◌, ℕ, Bool, true, false, List, [], ◌∷◌, ◌++◌, map, length, get_or, replicate, Option, Some, None, refl, sym, ap, subst, ◌∙◌, inl, inr, arith}
+use Rattle.std.proofs.Common.{◌≡◌, ◌<◌, ℕ, Bool, false, List, [], ◌∷◌, ◌++◌, map, length, replicate, Some, sym, ap, subst, ◌∙◌, arith}
 use Rattle.std.proofs.lemmas.Bool.{true≢false}
 use Rattle.std.proofs.lemmas.List.{length-map, length-replicate}
 use Rattle.std.proofs.lemmas.List.FromFn.{fill_by_all}
@@ -7,7 +7,7 @@ use Rattle.std.proofs.lemmas.Option.{get_or_from_slice_get}
 use Rattle.std.specs.List.{range_with_len, list_any}
 use Rattle.std.specs.Prelude.{slice_get, slice_index_or, All, Any}
 use Rattle.rclaim.specs.Events.{seat_of}
-use Rattle.rlock.specs.Known.{Site, GateId, newcomer, entries_by}
+use Rattle.rlock.specs.Known.{Site, newcomer, entries_by}
 use Rattle.rmodel.specs.State.{LockState, opening}
 use Rattle.rmodel.proofs.ListFacts.{false_from}
 use Rattle.rvalue.specs.declared.ledger.Edit.{Edit}
@@ -17,7 +17,7 @@ use Rattle.rvalue.specs.Ledgers.{opening_ledger, is_taken, value_after}
 use Rattle.rvalue.specs.Lawful.{AreOpenings}
 use Rattle.rvalue.proofs.InTurnLemmas.{AllInTurn-weaker}
 use Rattle.rstate.specs.Contents.{Contents}
-use Rattle.rstate.specs.Histories.{Beginning, IsListed, IsLawfulFrom, MayFollow}
+use Rattle.rstate.specs.Histories.{Beginning, IsListed, MayFollow}
 use Rattle.rstate.proofs.homes.Lists.{same_item, get_map, get_there, get_replicate, any_here}
 use Rattle.rforms.specs.Heads.{Head, is_nil}
 use Rattle.rforms.specs.Reports.{IsLawful, IsRightEntry, ledger_after}

@@ -1,5 +1,5 @@
 -- Statements one after another.
-use Rattle.std.proofs.Common.{◌≡◌, ℕ, ◌+◌, ◌<◌, ◌≤◌, Bool, true, false, List, [], ◌∷◌, ◌++◌, map, fold, take, drop, length, get_or, Option, Some, None, refl, sym, ap, subst, ◌∙◌, append-nil, append_assoc}
+use Rattle.std.proofs.Common.{◌≡◌, ℕ, ◌+◌, ◌<◌, ◌≤◌, Bool, true, false, List, [], ◌∷◌, ◌++◌, fold, take, drop, length, get_or, Option, Some, None, refl, sym, ap, subst, ◌∙◌, append-nil, append_assoc}
 use Rattle.std.proofs.lemmas.Bool.{true≢false}
 use Rattle.std.proofs.lemmas.List.{map-append, take_more, drop_more, drop_all}
 use Rattle.std.proofs.lemmas.List.Sums.{fold-append}
@@ -9,17 +9,16 @@ use Rattle.rvalue.specs.declared.ledger.Edit.{Edit}
 use Rattle.rvalue.specs.declared.ledger.Ledger.{Ledger}
 use Rattle.rvalue.specs.Entries.{EntryFields}
 use Rattle.rstate.specs.Histories.{Beginning}
-use Rattle.rscript.specs.Statements.{section_next, section_after}
+use Rattle.rscript.specs.Statements.{section_next}
 use Rattle.rscript.specs.declared.section.Section.{Section}
 use Rattle.rscript.specs.declared.statement.Statement.{Statement}
-use Rattle.rguard.specs.Looks.{fields_of}
-use Rattle.rguard.specs.Seats.{SeatOf, IsIdle, Goes, busy_after, is_busy}
+use Rattle.rguard.specs.Seats.{SeatOf, IsIdle, busy_after, is_busy}
 use Rattle.rguard.specs.declared.guard.Guard.{Guard}
 use Rattle.rguard.proofs.Going.{goes_on}
 use Rattle.rrun.specs.declared.desk.Desk.{Desk}
 use Rattle.rrun.specs.declared.desk.Desk.TheVariants.{Idle, Busy}
-use Rattle.rrun.specs.Desks.{seat_in, section_in, deeds_in, IsAt, IsBehind, HasStepped, HasLeft}
-use Rattle.rrun.specs.Runs.{Told, told_by, deeds_next, entry_now, run_of, broken_off, HasRun, HasBrokenOff}
+use Rattle.rrun.specs.Desks.{seat_in, section_in, IsAt, IsBehind, HasStepped, HasLeft}
+use Rattle.rrun.specs.Runs.{Told, told_by, deeds_next, entry_now, run_of, broken_off, HasBrokenOff}
 use Rattle.rrun.specs.Working.{section_told, section_made, FitsIn, AreWhole, AreWholeAt}
 use Rattle.rrun.proofs.Stepping.{goes_nowhere}
 

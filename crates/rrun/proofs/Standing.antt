@@ -1,8 +1,7 @@
 -- What the claims of a seat are while it is in a section, by its own entries: so after every lawful history.
-use Rattle.std.proofs.Common.{◌≡◌, ◌≢◌, ℕ, ◌==◌, nat_lt, Bool, true, false, cond, not, ◌&&◌, ◌||◌, List, [], ◌∷◌, ◌++◌, map, filter, Option, Some, None, refl, sym, ap, subst, ◌∙◌, ◌⊎◌, inl, inr, append-nil, append_assoc}
-use Rattle.std.proofs.lemmas.Bool.{true≢false, eq-eqb, eqb-true, and_parts, or_parts}
+use Rattle.std.proofs.Common.{◌≡◌, ◌≢◌, ℕ, ◌==◌, nat_lt, Bool, true, false, cond, not, ◌&&◌, ◌||◌, List, [], ◌∷◌, ◌++◌, map, Option, Some, None, refl, sym, ap, subst, ◌∙◌, ◌⊎◌, inl, inr, append-nil, append_assoc}
+use Rattle.std.proofs.lemmas.Bool.{true≢false, eq-eqb, eqb-true, or_parts}
 use Rattle.std.proofs.lemmas.List.Sums.{fold-append}
-use Rattle.std.specs.Prelude.{option_map}
 use Rattle.std.specs.Ordering.{nat_cmp}
 use Rattle.std.specs.FinSet.{empty, union, contains, len}
 use Rattle.std.specs.List.{AllByRecursion}
@@ -25,7 +24,7 @@ use Rattle.rmodel.specs.Reached.{IsReached}
 use Rattle.rmodel.specs.Rules.{SettlesAt}
 use Rattle.rmodel.specs.Settling.{settled}
 use Rattle.rmodel.specs.State.{LockState}
-use Rattle.rmodel.specs.Steps.{Comes, Accepts, changed, next, given, asking, with_asked, gets_asked, is_not_holding}
+use Rattle.rmodel.specs.Steps.{Comes, changed, next, given, asking, with_asked, gets_asked, is_not_holding}
 use Rattle.rmodel.proofs.ListFacts.{Among, contrary, false_from, all_at, among_append, among_filter, none_among}
 use Rattle.rmodel.proofs.reaching.Came.{among_map, zip_source}
 use Rattle.rmodel.proofs.reaching.NewClaims.{IsNew, new_claims}

@@ -1,5 +1,5 @@
 -- Each statement makes of a desk what it is to make.
-use Rattle.std.proofs.Common.{◌≡◌, ℕ, Bool, true, false, not, ◌&&◌, List, [], ◌∷◌, ◌++◌, map, fold, Option, Some, None, refl, sym, ap, subst, ◌∙◌, append-nil}
+use Rattle.std.proofs.Common.{◌≡◌, ℕ, Bool, true, false, not, ◌&&◌, List, [], ◌∷◌, ◌++◌, map, Option, Some, None, refl, sym, ap, subst, ◌∙◌, append-nil}
 use Rattle.std.proofs.lemmas.List.{map-append}
 use Rattle.std.proofs.lemmas.List.Sums.{fold-append}
 use Rattle.std.proofs.lemmas.Bool.{true≢false}
@@ -30,10 +30,8 @@ use Rattle.rguard.specs.Seats.{SeatOf, IsIdle, Goes, bare}
 use Rattle.rguard.specs.Sections.{may_edit}
 use Rattle.rguard.specs.declared.guard.Guard.{Guard}
 use Rattle.rguard.specs.declared.guard.Guard.TheVariants as guard
-use Rattle.rguard.specs.declared.kind.GuardKind.{GuardKind}
 use Rattle.rguard.specs.declared.kind.GuardKind.TheVariants as guards
 use Rattle.rguard.proofs.Going.{goes_on}
-use Rattle.rrun.specs.declared.desk.Desk.{Desk}
 use Rattle.rrun.specs.declared.desk.Desk.TheVariants.{Idle, Busy}
 use Rattle.rrun.specs.Desks.{IsGuardOf, HasStepped}
 use Rattle.rrun.specs.Runs.{deed_of, deeds_next, entry_now}

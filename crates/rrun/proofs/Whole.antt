@@ -1,5 +1,5 @@
 -- The statements of a task of a script are whole sections.
-use Rattle.std.proofs.Common.{◌≡◌, ℕ, List, [], ◌∷◌, ◌++◌, Option, Some, None, refl, sym, ap, subst, ◌∙◌, append-nil, append_assoc}
+use Rattle.std.proofs.Common.{◌≡◌, ℕ, List, [], ◌∷◌, ◌++◌, Option, Some, None, sym, subst, append-nil, append_assoc}
 use Rattle.std.specs.Prelude.{slice_get, length}
 use Rattle.std.proofs.lemmas.List.Sums.{fold-append}
 use Rattle.rset.specs.Sets.{Set}
@@ -22,7 +22,7 @@ module _ (q : ℕ) (groups : List Set) where
   whole_behind earlier (s ∷ ss) fits closed = (
     record { within = fits.0.within; placed = fits.0.placed; right = fits.0.right },
     subst (λ (o : Option Section). AreWhole q groups o ss) (fold-append section_next None earlier (s ∷ []))
-    (whole_behind (earlier ++ s ∷ []) ss fits.1 (subst (λ (xs : List Statement). section_after xs ≡ None) (sym (append_assoc earlier (s ∷ []) ss)) closed)),
+        (whole_behind (earlier ++ s ∷ []) ss fits.1 (subst (λ (xs : List Statement). section_after xs ≡ None) (sym (append_assoc earlier (s ∷ []) ss)) closed)),
   )
 
   whole_task : (ss : List Statement) → IsTask q groups ss → AreWhole q groups None ss

@@ -1,5 +1,5 @@
 -- Desks: a seat between two statements, idle or in a section.
-use Rattle.std.specs.Prelude.{◌≡◌, ℕ, List, [], ◌∷◌, ◌++◌, map, fold, Option, Some, None}
+use Rattle.std.specs.Prelude.{◌≡◌, List, [], map, fold, Option, None}
 use Rattle.rvalue.specs.Entries.{EntryFields}
 use Rattle.rvalue.specs.declared.ledger.Edit.{Edit}
 use Rattle.rvalue.specs.declared.ledger.Ledger.{Ledger}

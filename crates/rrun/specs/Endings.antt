@@ -1,5 +1,5 @@
 -- What a run of the tasks leaves.
-use Rattle.std.specs.Prelude.{◌≡◌, ℕ, Bool, false, Some, Option, List, length, slice_get}
+use Rattle.std.specs.Prelude.{◌≡◌, ℕ, false, Some, List, length, slice_get}
 use Rattle.rlock.specs.Known.{Site}
 use Rattle.rvalue.specs.declared.ledger.Edit.{Edit}
 use Rattle.rvalue.specs.declared.ledger.Ledger.{Ledger}

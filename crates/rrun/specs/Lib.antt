@@ -5,3 +5,4 @@ pub mod Tasks
 pub mod Jobs
 pub mod Endings
 pub mod Reporting
+pub mod Sections

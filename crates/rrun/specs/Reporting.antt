@@ -1,5 +1,5 @@
 -- The report of a script's run.
-use Rattle.std.specs.Prelude.{◌≡◌, ◌<◌, ℕ, Some, List, [], length, replicate, slice_get}
+use Rattle.std.specs.Prelude.{◌≡◌, ℕ, Some, List, [], length, replicate, slice_get}
 use Rattle.rclaim.specs.Events.{seat_of}
 use Rattle.rlock.specs.Known.{Site, entries_by}
 use Rattle.rvalue.specs.declared.ledger.Edit.{Edit}

@@ -12,7 +12,7 @@ use Rattle.rvalue.specs.Entries.{EntryFields}
 use Rattle.rscript.specs.Statements.{begun, with_asked, with_risen, is_writable, is_held, may_ask_for, is_there, where_of, section_next, IsWithin, IsRight}
 use Rattle.rscript.specs.declared.section.Section.{Section}
 use Rattle.rscript.specs.declared.statement.Statement.{Statement}
-use Rattle.rguard.specs.Guards.{Holding, HoldingToWrite, IsPartOf, AsSeen, kind_for}
+use Rattle.rguard.specs.Guards.{Holding, HoldingToWrite, IsPartOf, AsSeen}
 use Rattle.rguard.specs.Seats.{SeatOf}
 use Rattle.rguard.specs.declared.kind.GuardKind.{GuardKind}
 use Rattle.rguard.specs.declared.kind.GuardKind.TheVariants as guards

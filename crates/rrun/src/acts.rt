@@ -6,10 +6,9 @@ ghost use Rattle.rscript.specs.declared.section.Section.{Section};
 ghost use Rattle.rrun.specs.Working.{section_made, FitsAt};
 ghost use Rattle.rrun.specs.Desks.{IsGuardOf, HasStepped, HasLeft};
 
-use crate::Pace;
 use crate::desk::{At, Desk};
-use crate::guards;
 use crate::waiting::held;
+use crate::{Pace, guards};
 use rclaim::Request;
 use rguard::{Guard, Rnlp, Seat};
 use rmodel::Machine;

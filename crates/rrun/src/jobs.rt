@@ -73,8 +73,13 @@ pub(crate) fn work_all<R: Threads + Wait + Sync, M: Machine, G: Pace>(
         return;
     }
     let threads = jobs.len();
-    thread::for_each_mut(rt, jobs, threads, &|task: usize, job: &mut Task<M>|
-        requires { (task < length script.now.tasks) × IsReady rnlp.now script.now task job.now }
-        ensures { (statements : List Statement) → slice_get script.entry.now.steps task ≡ Some statements → IsDone rnlp.entry.now script.entry.now task statements job.entry.now job.exit.now }
-        { work(rt, alloc, rnlp, script, pace, task, job) });
+    thread::for_each_mut(
+        rt,
+        jobs,
+        threads,
+        &|task: usize, job: &mut Task<M>|
+            requires { (task < length script.now.tasks) × IsReady rnlp.now script.now task job.now }
+            ensures { (statements : List Statement) → slice_get script.entry.now.steps task ≡ Some statements → IsDone rnlp.entry.now script.entry.now task statements job.entry.now job.exit.now }
+        { work(rt, alloc, rnlp, script, pace, task, job) },
+    );
 }

@@ -70,10 +70,7 @@ fn is_broken<M: Machine>(all: &[Ended<M>]) -> bool
 }
 
 // The seats of the tasks, in room that was made.
-fn seats_of<M: Machine>(
-    all: Vec<Ended<M>>,
-    room: Vec<Seat<Ledger, M>>,
-) -> Vec<Seat<Ledger, M>>
+fn seats_of<M: Machine>(all: Vec<Ended<M>>, room: Vec<Seat<Ledger, M>>) -> Vec<Seat<Ledger, M>>
     requires empty { room.items ≡ [] }
     requires room { length all.items ≤ vec_capacity room }
     ensures { result.items ≡ map (λ ended. ended.seat) all.items }

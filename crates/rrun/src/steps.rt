@@ -78,7 +78,10 @@ fn step<'a, R: Wait, M: Machine, G: Pace>(
         },
         Desk::Busy(guard) => match statement {
             Statement::Begin(_) => unreachable!(),
-            Statement::Edit { place, edit: change } => edit(rt, alloc, guard, *place, *change),
+            Statement::Edit {
+                place,
+                edit: change,
+            } => edit(rt, alloc, guard, *place, *change),
             Statement::Show { place } => show(rt, alloc, guard, *place),
             Statement::Ask { set } => ask(rt, alloc, guard, *set, pace),
             Statement::Rise => Ok(rise(rt, guard, pace)),

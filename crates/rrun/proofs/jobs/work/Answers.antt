@@ -1,4 +1,4 @@
-use Rattle.std.proofs.Common.{sym, ◌∙◌, Option, Some, subst}
+use Rattle.std.proofs.Common.{sym, ◌∙◌, Option, subst}
 use Rattle.std.specs.Prelude.{IsSomeAnd}
 use Rattle.rvalue.specs.declared.ledger.Edit.{Edit}
 use Rattle.rvalue.specs.declared.ledger.Ledger.{Ledger}

@@ -10,7 +10,7 @@ step-requires-clause-fits g c κs within =
     fits_there c.args.seat c.args.steps.now c.loop-statement.statement-index c.statement-item.result c.loop-statement-test.true c.statement-item.is c.loop-statement.desk c.loop-statement.invariant
 
 pub returns-in_err-desk-clause-broken : goal.returns-in_err-desk-clause-broken
-returns-in_err-desk-clause-broken g c = 
+returns-in_err-desk-clause-broken g c =
     let h = broken_there c.args.seat c.args.steps.now (drop c.loop-statement.statement-index c.args.steps.now) c.loop-statement.statement-index c.loop-statement.desk (c.in_err-desk.field-0.0).0 (omega arith) c.loop-statement.invariant c.in_err-desk.ensures.err in
     search rules
 

@@ -1,4 +1,4 @@
-use Rattle.std.proofs.Common.{◌≡◌, length, sym, ap, subst, ◌∙◌, List}
+use Rattle.std.proofs.Common.{length, sym, ap, subst, ◌∙◌, List}
 use Rattle.std.specs.Prelude.{All, IsSome}
 use Rattle.rvalue.specs.declared.ledger.Edit.{Edit}
 use Rattle.rvalue.specs.declared.ledger.Ledger.{Ledger}
