@@ -1,1 +1,1 @@
-pub mod Zones
+pub mod ClosedZones

@@ -1,5 +1,5 @@
 -- What it is for a wait to be covered.
-use Rattle.std.specs.Prelude.{◌≡◌, ◌≢◌, ◌≤◌, ◌+◌, true, false, not, Some, List, [], length, filter, ◌⊎◌}
+use Rattle.std.specs.Prelude.{◌≡◌, ◌≢◌, ◌≤◌, ◌+◌, true, false, not, Some, List, [], length, filter, ◌⊎◌, is_some}
 use Rattle.std.specs.List.{AllByRecursion}
 use Rattle.std.specs.FinSet.{intersection}
 use Rattle.rset.specs.Sets.{Set, meets}
@@ -7,7 +7,7 @@ use Rattle.rclaim.specs.declared.claim.Claim.{Claim}
 use Rattle.rmodel.specs.declared.claimed.Claimed.{Claimed}
 use Rattle.rmodel.specs.Laws.{keeps_out}
 use Rattle.rmodel.specs.WellFormed.{Among, EachPair}
-use Rattle.rcover.specs.Line.{least_of, leasts, write_sections}
+use Rattle.rcover.specs.Line.{least_of, leasts, kept_moments, read_for, write_sections}
 use Rattle.rcover.specs.Moments.{Moment, is_claim}
 use Rattle.rcover.specs.Sections.{Covers, keeper_of, moments_without, read_sections, ask_sections}
 
@@ -45,6 +45,8 @@ pub record IsWriteCovered (c : Claim) (ms : List Moment) : Type 0 where
   pub rises : EachPair (λ m n. (least_of c m).stamp ≤ (least_of c n).stamp) ms
   -- each of them but the claim itself is of another seat, and each of a seat of its own
   pub other_seats : AreOfOtherSeats c (leasts c ms)
+  -- a read is taken for each that is not satisfied at some moment at which it is the least
+  pub reads_exist : AllByRecursion (λ d. kept_moments c d ms ≢ [] → is_some (read_for c ms d) ≡ true) (leasts c ms)
   -- one of its sections goes on at each moment
   pub covered : Covers (write_sections c ms) ms
   -- of the claim itself no write section is taken; so there are as many at most as other claims are the least, and one read section more at most

@@ -6,4 +6,6 @@ pub mod Covers
 pub mod History
 pub mod Within
 pub mod Told
+pub mod Last
+pub mod Shown
 pub mod Promises

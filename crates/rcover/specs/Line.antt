@@ -1,5 +1,5 @@
 -- The line of a write that waits, and the sections of its wait.
-use Rattle.std.specs.Prelude.{Bool, not, ◌&&◌, List, [], ◌∷◌, filter, map, if◌then◌else◌}
+use Rattle.std.specs.Prelude.{Bool, not, ◌&&◌, List, [], ◌∷◌, filter, map, if◌then◌else◌, Option}
 use Rattle.std.specs.List.{list_any, filter_map}
 use Rattle.rclaim.specs.declared.claim.Claim.{Claim}
 use Rattle.rmodel.specs.Claims.{conflicts, share_place}
@@ -38,10 +38,15 @@ is_kept_least c d m = is_least c d m && not (holds_at d m)
 abbrev pub kept_moments : Claim → Claim → List Moment → List Moment
 kept_moments c d ms = filter (is_kept_least c d) ms
 
--- the sections of a write wait: for each claim that is the least in the line, the read claim of least stamp that conflicts with it and is satisfied
--- at all moments at which it is the least and not satisfied; and the claim, if it is satisfied at some moment at which it is the least
+-- the read that is taken for a claim of the line: the read claim of least stamp that conflicts with it and is satisfied at all moments at which
+-- it is the least and not satisfied
+abbrev pub read_for : Claim → List Moment → Claim → Option Claim
+read_for c ms d = holder_of (λ r. not r.write_half && conflicts r d) (kept_moments c d ms)
+
+-- the sections of a write wait: for each claim that is the least in the line, the read that is taken for it,
+-- and the claim itself, if it is satisfied at some moment at which it is the least
 abbrev pub write_sections : Claim → List Moment → Sections
 write_sections c ms = record {
-  reads = different (filter_map (λ d. holder_of (λ r. not r.write_half && conflicts r d) (kept_moments c d ms)) (leasts c ms));
+  reads = different (filter_map (read_for c ms) (leasts c ms));
   writes = filter (λ d. list_any (λ m. is_least c d m && holds_at d m) ms) (leasts c ms);
 }

@@ -14,7 +14,7 @@ use Rattle.rmodel.specs.Steps.{AreAccepted}
 use Rattle.rmodel.specs.WellFormed.{IsClaim}
 use Rattle.rmodel.proofs.ListFacts.{Among, contrary, all_at, any_among, among_filter}
 use Rattle.rmodel.proofs.settling.Settlement.{conflict_of_read}
-use Rattle.rbound.proofs.Zones.{zones_are_closed}
+use Rattle.rbound.proofs.ClosedZones.{zones_are_closed}
 use Rattle.rbound.specs.Bounds.{reads_there, writes_there, is_writer, write_length, greatest}
 use Rattle.rbound.specs.Needs.{Needed}
 use Rattle.rbound.specs.Zones.{zone_of, IsZone, is_there}

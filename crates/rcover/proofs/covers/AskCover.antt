@@ -22,14 +22,14 @@ use Rattle.rcover.proofs.runs.Throughout.{Stops, IsHeldThroughout, IsEntitledAnd
 use Rattle.rcover.proofs.states.AtRest.{Sat}
 use Rattle.rcover.proofs.states.Asking.{ask_entitled, ask_held, reads_asked}
 
-abbrev always : Moment → Bool
+abbrev pub always : Moment → Bool
 always m = true
 
-filter_always : (ms : List Moment) → filter always ms ≡ ms
+pub filter_always : (ms : List Moment) → filter always ms ≡ ms
 filter_always [] = refl
 filter_always (m ∷ ms) = ap (λ ns. m ∷ ns) (filter_always ms)
 
-stops_never : (s : LockState) (es : List Event) → Stops always s es
+pub stops_never : (s : LockState) (es : List Event) → Stops always s es
 stops_never s [] = tt
 stops_never s (e ∷ es) = (λ now not_then. contrary true refl not_then, stops_never (next s e) es)
 

@@ -93,7 +93,7 @@ satisfied_on v s (e ∷ es) reached accepted active sat =
     let sat' = sat_next s e reached accepted.0 v sat (record { at = a.at; among = a.among; is = a.is }) in
     filter_no (λ m. not (holds_at v m)) s.claims (moments (next s e) es) (ap not (holds_sat v s.claims sat)) ∙ satisfied_on v (next s e) es (reached_next s e reached accepted.0) accepted.1 active.1 sat'
 
-stops_once : (v : Claim) (s : LockState) (es : List Event) → IsReached s → AreAccepted s es → AllByRecursion (IsActiveWrite v) (moments s es) → Stops (λ m. not (holds_at v m)) s es
+pub stops_once : (v : Claim) (s : LockState) (es : List Event) → IsReached s → AreAccepted s es → AllByRecursion (IsActiveWrite v) (moments s es) → Stops (λ m. not (holds_at v m)) s es
 stops_once v s [] reached accepted active = tt
 stops_once v s (e ∷ es) reached accepted active =
     let on = reached_next s e reached accepted.0 in

@@ -1,5 +1,5 @@
 -- Write waits are covered.
-use Rattle.std.proofs.Common.{◌≡◌, ◌≢◌, Bool, true, false, not, ◌&&◌, Option, Some, List, ◌∷◌, ◌++◌, map, sym, ap, subst, ◌∙◌, ◌⊎◌, inl, inr, arith}
+use Rattle.std.proofs.Common.{◌≡◌, ◌≢◌, Bool, true, false, not, ◌&&◌, Option, Some, List, ◌∷◌, ◌++◌, map, sym, ap, subst, ◌∙◌, ◌⊎◌, inl, inr, arith, is_some, [], refl}
 use Rattle.std.proofs.lemmas.Bool.{and_parts, and_from}
 use Rattle.std.specs.List.{list_any, filter_map, AllByRecursion}
 use Rattle.rclaim.specs.declared.claim.Claim.{Claim}
@@ -14,7 +14,7 @@ use Rattle.rmodel.proofs.settling.Keeping.{not_false}
 use Rattle.rmodel.proofs.settling.OneSettlement.{both_cases}
 use Rattle.rmodel.proofs.reaching.Came.{among_map, in_map, in_append}
 use Rattle.rcover.specs.Covers.{AreOfOtherSeats, IsWriteCovered}
-use Rattle.rcover.specs.Line.{least_of, is_least, leasts, is_kept_least, kept_moments, write_sections}
+use Rattle.rcover.specs.Line.{least_of, is_least, leasts, is_kept_least, kept_moments, write_sections, read_for}
 use Rattle.rcover.specs.Moments.{Moment, moments, is_claim, holds_at}
 use Rattle.rcover.specs.Sections.{Covers, holder_of}
 use Rattle.rcover.specs.Waits.{WriteWaits}
@@ -56,7 +56,7 @@ module _ (c : Claim) (s : LockState) (es : List Event) (reached : IsReached s) (
   abbrev line_at : List (Moment) → Type 0
   line_at ns = AllByRecursion (λ m. (d : Claim) → IsOfLine c m d → IsOfLine c s.claims d) ns
 
-  least_at : (m : Moment) → Among m ms → IsOfLine c s.claims (least_of c m)
+  pub least_at : (m : Moment) → Among m ms → IsOfLine c s.claims (least_of c m)
   least_at m there = all_at (λ m. (d : Claim) → IsOfLine c m d → IsOfLine c s.claims d) ms m (line_of_first c s es reached accepted each_there) there (least_of c m) (least_is c m)
 
   pub least_is_of_first : (d : Claim) → Among d (leasts c ms) → IsOfLine c s.claims d
@@ -64,14 +64,14 @@ module _ (c : Claim) (s : LockState) (es : List Event) (reached : IsReached s) (
       let found = among_map (least_of c) ms d (among_different (map (least_of c) ms) d there) in
       subst (IsOfLine c s.claims) (sym found.2) (least_at found.0 found.1)
 
-  first_there : (d : Claim) → IsOfLine c s.claims d → IsWriteThere d s.claims
+  pub first_there : (d : Claim) → IsOfLine c s.claims d → IsWriteThere d s.claims
   first_there d h = of_line_there s reached c each_there.0 d h
 
   pub least_is_there : (d : Claim) → Among d (leasts c ms) → IsWriteThere d s.claims
   least_is_there d there = first_there d (least_is_of_first d there)
 
   -- where one of the least claims is the least, it is that very claim
-  that_least : (d : Claim) → Among d (leasts c ms) → AllByRecursion (IsThatLeast c d) ms
+  pub that_least : (d : Claim) → Among d (leasts c ms) → AllByRecursion (IsThatLeast c d) ms
   that_least d there = all_from (IsThatLeast c d) ms (λ m in_m is.
       sym (write_by_stamp s reached d (least_of c m) (least_is_there d there) (first_there (least_of c m) (least_at m in_m)) (are_one d (least_of c m) is).stamp))
 
@@ -84,7 +84,7 @@ module _ (c : Claim) (s : LockState) (es : List Event) (reached : IsReached s) (
 
   -- ---- the read that is taken for a least
 
-  each_held : (d : Claim) → Among d (leasts c ms) → AllByRecursion (λ m. is_kept_least c d m ≡ true → IsEntitledAndHeld IsRead d m) ms
+  pub each_held : (d : Claim) → Among d (leasts c ms) → AllByRecursion (λ m. is_kept_least c d m ≡ true → IsEntitledAndHeld IsRead d m) ms
   each_held d there =
       all_both (λ m. IsWriteThere c m × IsThatLeast c d m) (λ m. IsWriteThere c m → holds_at (least_of c m) m ≡ false → IsEntitledAndHeld IsRead (least_of c m) m) (λ m. is_kept_least c d m ≡ true → IsEntitledAndHeld IsRead d m)
       (λ m a f on.
@@ -177,10 +177,21 @@ module _ (c : Claim) (s : LockState) (es : List Event) (reached : IsReached s) (
       from_it d (inr there) = inr (λ seats. not_before_itself c
           (ap (is_earlier_write c) (sym (write_by_seat s reached d c (first_there d (inr there)) each_there.0 seats)) ∙ (in_line c s.claims d there).earlier))
 
+  -- ---- a read is taken for each that is kept waiting
+
+  reads_exist : (d : Claim) → Among d (leasts c ms) → kept_moments c d ms ≢ [] → is_some (read_for c ms d) ≡ true
+  reads_exist d there some = elim (list_parts (kept_moments c d ms)) [
+    | inl none ↦ absurd (some none)
+    | inr parts ↦
+        let t = read_taken d there parts.0 (subst (λ (ns : List Moment). Among parts.0 ns) (sym parts.2) (inl refl)) in
+        ap is_some (ap (holder_of (holds_up d)) t.moments_are ∙ t.taken.is)
+  ]
+
   pub write_covered : IsWriteCovered c ms
   write_covered = record {
     rises = least_rises c s es reached accepted each_there;
     other_seats = of_other_seats;
+    reads_exist = all_from (λ d. kept_moments c d ms ≢ [] → is_some (read_for c ms d) ≡ true) (leasts c ms) reads_exist;
     covered = all_covered;
     not_itself = all_from (λ d. is_claim d c ≡ false) a_writes (λ d there. no_section d (among_filter (λ d. list_any (λ m. is_least c d m && holds_at d m) ms) (leasts c ms) d there).1);
     few_writes = filter_within (λ d. list_any (λ m. is_least c d m && holds_at d m) ms) (λ d. not (is_claim d c)) (leasts c ms)

@@ -1,12 +1,12 @@
 -- The line of a write over a run of moments: it only loses claims, its least only rises, and a least that is satisfied or passed is so from then on.
 use Rattle.std.proofs.Common.{◌≡◌, ◌<◌, ◌≤◌, Bool, true, false, not, ◌&&◌, List, [], ◌∷◌, refl, sym, ap, subst, ◌∙◌, inl, inr, arith}
-use Rattle.std.proofs.lemmas.Bool.{and_parts, cases_order}
-use Rattle.std.specs.List.{AllByRecursion}
+use Rattle.std.proofs.lemmas.Bool.{and_parts, cases_order, or_cases}
+use Rattle.std.specs.List.{AllByRecursion, list_any}
 use Rattle.rclaim.specs.declared.claim.Claim.{Claim}
 use Rattle.rclaim.specs.declared.event.Event.{Event}
 use Rattle.rmodel.specs.Reached.{IsReached}
 use Rattle.rmodel.specs.State.{LockState}
-use Rattle.rmodel.specs.Steps.{next, Comes, AreAccepted}
+use Rattle.rmodel.specs.Steps.{next, Comes, AreAccepted, after}
 use Rattle.rmodel.specs.WellFormed.{EachPair}
 use Rattle.rmodel.proofs.ListFacts.{contrary, false_from}
 use Rattle.rmodel.proofs.reaching.Reached.{reached_next}
@@ -113,3 +113,44 @@ module _ (c : Claim) where
   pub satisfied_first : (s : LockState) (es : List Event) → IsReached s → AreAccepted s es → AllByRecursion (IsWriteThere c) (moments s es) → Sat (least_of c s.claims) s.claims
       → kept_moments c (least_of c s.claims) (moments s es) ≡ []
   satisfied_first s es reached accepted there sat = gone_filter (least_of c s.claims) s es reached accepted there (done refl sat)
+
+  -- the least at the last moment has the greatest stamp
+  pub rises_to_last : (s : LockState) (es : List Event) → IsReached s → AreAccepted s es → AllByRecursion (IsWriteThere c) (moments s es) → AllByRecursion (λ m. (least_of c m).stamp ≤ (least_of c (after s es).claims).stamp) (moments s es)
+  rises_to_last s [] reached accepted there = (omega arith, tt)
+  rises_to_last s (e ∷ es) reached accepted there =
+      let rest = rises_to_last (next s e) es (reached_next s e reached accepted.0) accepted.1 there.1 in
+      let up = (least_rises s (e ∷ es) reached accepted there).0.0 in
+      let more = rest.0 in
+      (omega arith, rest)
+
+  module _ (d : Claim) where
+    gone_last : (s : LockState) (es : List Event) → IsReached s → AreAccepted s es → AllByRecursion (IsWriteThere c) (moments s es) → Gone d s.claims → Gone d (after s es).claims
+    gone_last s [] reached accepted there gone = gone
+    gone_last s (e ∷ es) reached accepted there gone = gone_last (next s e) es (reached_next s e reached accepted.0) accepted.1 there.1 (gone_on d s e reached accepted.0 there.0 there.1.0 gone)
+
+    -- a claim that was satisfied as the least is so at the last moment, or was passed
+    gone_here : (s : LockState) → IsReached s → IsWriteThere c s.claims → IsThatLeast d s.claims → (is_least c d s.claims && holds_at d s.claims) ≡ true → Gone d s.claims
+    gone_here s reached there same h =
+        let parts = and_parts (is_least c d s.claims) (holds_at d s.claims) h in
+        let is = same parts.0 in
+        let w = subst (λ (x : Claim). IsWriteThere x s.claims) is (least_there s reached c there) in
+        done is (sat_holds s reached d w.write w.there parts.1)
+
+    held_gone : (s : LockState) (es : List Event) → IsReached s → AreAccepted s es → AllByRecursion (IsWriteThere c) (moments s es) → AllByRecursion (IsThatLeast d) (moments s es)
+        → list_any (λ m. is_least c d m && holds_at d m) (moments s es) ≡ true → Gone d (after s es).claims
+    held_gone s [] reached accepted there same held = elim (or_cases (is_least c d s.claims && holds_at d s.claims) false held) [ inl h ↦ gone_here s reached there.0 same.0 h | inr h ↦ contrary false h refl ]
+    held_gone s (e ∷ es) reached accepted there same held =
+        let on = reached_next s e reached accepted.0 in
+        elim (or_cases (is_least c d s.claims && holds_at d s.claims) (list_any (λ m. is_least c d m && holds_at d m) (moments (next s e) es)) held) [
+          | inl h ↦ gone_last s (e ∷ es) reached accepted there (gone_here s reached there.0 same.0 h)
+          | inr h ↦ held_gone (next s e) es on accepted.1 there.1 same.1 h
+        ]
+
+    -- where the claim is the least at the last moment, it was satisfied as the least exactly where it is so there
+    pub held_now : (s : LockState) (es : List Event) → IsReached s → AreAccepted s es → AllByRecursion (IsWriteThere c) (moments s es) → AllByRecursion (IsThatLeast d) (moments s es) → least_of c (after s es).claims ≡ d
+        → list_any (λ m. is_least c d m && holds_at d m) (moments s es) ≡ true → holds_at d (after s es).claims ≡ true
+    held_now s es reached accepted there same is held = from_gone (held_gone s es reached accepted there same held)
+      where
+        from_gone : Gone d (after s es).claims → holds_at d (after s es).claims ≡ true
+        from_gone (done h sat) = holds_sat d (after s es).claims sat
+        from_gone (passed less) = let e = ap (λ (x : Claim). x.stamp) is in absurd (omega arith)

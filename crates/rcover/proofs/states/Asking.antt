@@ -17,7 +17,7 @@ use Rattle.rmodel.proofs.settling.EarlyGrants.{conflict_by_part}
 use Rattle.rmodel.proofs.settling.Keeping.{conflict_shares}
 use Rattle.rmodel.proofs.settling.OneSettlement.{both_cases}
 use Rattle.rcover.specs.Waits.{AskWaits}
-use Rattle.rcover.proofs.states.AtRest.{Sat, IsEntitled, IsHeld, claim_is, parts_of, aside, holds_it_up}
+use Rattle.rcover.proofs.states.AtRest.{Sat, IsEntitled, HoldsUp, IsHeld, claim_is, parts_of, aside, holds_it_up}
 
 -- what a map leaves as it is, it leaves element by element
 fixed : {X : Type 0} (f : X → X) (xs : List X) → map f xs ≡ xs → (x : X) → Among x xs → f x ≡ x
@@ -105,3 +105,7 @@ module _ (s : LockState) (reached : IsReached s) (c : Claim) (part : Set) (w : A
           | inr h ↦ contrary (meets d.writes (intersection part c.writes)) h (apart_within_right d.writes (intersection part c.writes) part (intersection_within_left part c.writes) none)
         ]
       ]
+
+  -- a satisfied claim that conflicts on the part holds the asker up
+  pub asks_hold_up : (d : Claim) → Sat d s.claims → conflicts_on d c part ≡ true → HoldsUp c d
+  asks_hold_up d sat on = holds_it_up s reached c d ask_entitled sat (conflict_by_part d c part part_within on)

@@ -1,5 +1,5 @@
 -- The moments of a wait so far are a run that some of the events make.
-use Rattle.std.proofs.Common.{◌≡◌, Bool, true, ◌&&◌, cond, List, [], ◌∷◌, ◌++◌, refl, ap, ◌∙◌}
+use Rattle.std.proofs.Common.{◌≡◌, Bool, true, false, ◌&&◌, cond, List, [], ◌∷◌, ◌++◌, refl, ap, ◌∙◌}
 use Rattle.std.specs.List.{list_all}
 use Rattle.rclaim.specs.declared.event.Event.{Event}
 use Rattle.rmodel.specs.State.{LockState}
@@ -32,3 +32,33 @@ run_is p s (e ∷ es) last =
       is = ap (λ b. cond b (moments s (e ∷ es)) (run_of p (later s (e ∷ es)))) some ∙ rest.is;
       passes = rest.passes;
     })
+
+-- one moment more: the run goes on if the test passes there, and else is over
+pub run_push : (p : Moment → Bool) (ms : List Moment) (n : Moment) → run_of p (ms ++ n ∷ []) ≡ cond (p n) (run_of p ms ++ n ∷ []) []
+run_push p [] n = at (p n)
+  where
+    at : (b : Bool) → cond (b && true) (n ∷ []) [] ≡ cond b (n ∷ []) []
+    at true = refl
+    at false = refl
+run_push p (m ∷ ms) n =
+    ap (λ b. cond (p m && b) (m ∷ (ms ++ n ∷ [])) (run_of p (ms ++ n ∷ []))) (all_push ms) ∙ ap (cond (p m && (list_all p ms && p n)) (m ∷ (ms ++ n ∷ []))) (run_push p ms n) ∙ at (p m) (list_all p ms) (p n)
+  where
+    all_push : (ns : List Moment) → list_all p (ns ++ n ∷ []) ≡ (list_all p ns && p n)
+    all_push [] = and_true (p n)
+      where
+        and_true : (b : Bool) → (b && true) ≡ b
+        and_true true = refl
+        and_true false = refl
+    all_push (k ∷ ks) = ap (λ b. p k && b) (all_push ks) ∙ joined (p k) (list_all p ks) (p n)
+      where
+        joined : (a b c : Bool) → (a && (b && c)) ≡ ((a && b) && c)
+        joined true b c = refl
+        joined false b c = refl
+
+    at : (a b c : Bool) → cond (a && (b && c)) (m ∷ (ms ++ n ∷ [])) (cond c (run_of p ms ++ n ∷ []) []) ≡ cond c (cond (a && b) (m ∷ ms) (run_of p ms) ++ n ∷ []) []
+    at true true true = refl
+    at true false true = refl
+    at false b true = refl
+    at true true false = refl
+    at true false false = refl
+    at false b false = refl
