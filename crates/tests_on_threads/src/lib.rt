@@ -2,6 +2,16 @@
 #![tactic(auto)]
 
 #[cfg(test)]
+mod closing;
+#[cfg(test)]
+mod guards;
+#[cfg(test)]
+mod looks;
+#[cfg(test)]
 mod roll;
 #[cfg(test)]
+mod sections;
+#[cfg(test)]
 mod signing;
+#[cfg(test)]
+mod tasks;

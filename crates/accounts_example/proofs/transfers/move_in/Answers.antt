@@ -1,0 +1,17 @@
+use Rattle.std.proofs.Common.{sym, subst}
+use Rattle.rguard.specs.Seats.{SeatOf}
+use Rattle.accounts_example.specs.declared.account.Account.{Account}
+use Rattle.accounts_example.specs.declared.account.Transfer.{Transfer}
+use Rattle.rset.specs.Sets.{Set}
+use Rattle.accounts_example.specs.Resting.{MayWriteAll}
+use Rattle.accounts_example.proofs.Resting.{write_left, write_right}
+use Rattle.accounts_example.proofs.transfers.move_in.Goals as goal
+
+pub edit_each-taken-requires-after_bounds : goal.edit_each-taken-requires-after_bounds
+edit_each-taken-requires-after_bounds g c κs within =
+    write_left c.args.from c.args.to c.in-Ok.guard.seat (subst (λ (s : Set). MayWriteAll s c.in-Ok.guard.seat) c.union.ensures c.in-Ok.ensures.writes)
+
+pub edit_each-added-requires-after_bounds : goal.edit_each-added-requires-after_bounds
+edit_each-added-requires-after_bounds g c κs within =
+    subst (λ (seat : SeatOf Account Transfer). MayWriteAll c.args.to seat) (sym c.edit_each-taken.ensures)
+    (write_right c.args.from c.args.to c.in-Ok.guard.seat (subst (λ (s : Set). MayWriteAll s c.in-Ok.guard.seat) c.union.ensures c.in-Ok.ensures.writes))

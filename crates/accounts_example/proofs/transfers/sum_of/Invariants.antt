@@ -1,0 +1,7 @@
+use Rattle.std.specs.List.{AllByRecursion}
+use Rattle.rset.specs.Sets.{rising}
+use Rattle.rguard.specs.Guards.{Holding}
+use Rattle.accounts_example.proofs.transfers.sum_of.Given as goal
+
+abbrev pub invariant-loop-l : goal.invariant-loop-l
+invariant-loop-l g l = AllByRecursion (λ place. Holding l.guard.seat place) (rising l.l-iterator)

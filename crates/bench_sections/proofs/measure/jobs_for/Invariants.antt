@@ -1,0 +1,6 @@
+use Rattle.std.specs.Prelude.{All, IsSomeAnd}
+use Rattle.bench_sections.specs.Resting.{Rests}
+use Rattle.bench_sections.proofs.measure.jobs_for.Given as goal
+
+abbrev pub invariant-loop-seat : goal.invariant-loop-seat
+invariant-loop-seat g l = All (λ j. IsSomeAnd j.seat (Rests l.lock)) l.jobs.items

@@ -1,0 +1,78 @@
+//! One section under a guard.
+ghost use Rattle.std.specs.Prelude.{◌≡◌, IfOk, IfErr};
+ghost use Rattle.bench_sections.specs.Resting.{IsAt, Rests, MayWriteAll};
+
+use rclaim::{Kind, Request};
+use rguard::{Guard, Rnlp, Seat, WriteGuard};
+use rmodel::Machine;
+use rset::ResourceSet;
+use rvalue::{Edit, Ledger};
+use std::alloc::Global;
+use std::sync::Wait;
+
+/// A guard to write these resources; or the seat, where there was no memory.
+fn to_write<'a, R: Wait, M: Machine>(
+    rt: &R,
+    alloc: Global,
+    lock: &'a Rnlp<Ledger, M>,
+    seat: Seat<Ledger, M>,
+    set: ResourceSet,
+) -> Result<WriteGuard<'a, Ledger, M>, Seat<Ledger, M>>
+    requires { Rests lock.now seat }
+    ensures at { IfOk result (λ guard. IsAt lock.entry.now guard.seat) }
+    ensures writes { IfOk result (λ guard. MayWriteAll set guard.seat) }
+    ensures err { IfErr result (Rests lock.entry.now) }
+{
+    let _ = set.len();
+    let Ok(request) = Request::new(Kind::Write, set, set, set, 1, 0) else {
+        return Err(seat);
+    };
+    match lock.acquire(rt, alloc, seat, request) {
+        Ok(Guard::Write(guard)) => {
+            let _ = guard.seat();
+            Ok(guard)
+        }
+        Err((seat, _)) => Err(seat),
+        _ => unreachable!(),
+    }
+}
+
+// Adds 1 to each of these resources, and answers whether each took it.
+fn add_to_each<M: Machine>(
+    alloc: Global,
+    guard: &mut WriteGuard<'_, Ledger, M>,
+    set: ResourceSet,
+) -> bool
+    requires { MayWriteAll set guard.old.seat }
+    ensures { guard.new.seat ≡ guard.old.seat }
+{
+    for l in set.iter() {
+        match guard.edit(alloc, l, Edit::Add(1)) {
+            Ok(true) => {}
+            _ => return false,
+        }
+    }
+    true
+}
+
+/// One section that adds 1 to each of these resources. Whether all was done is told.
+pub fn add_in<R: Wait, M: Machine>(
+    rt: &R,
+    alloc: Global,
+    lock: &Rnlp<Ledger, M>,
+    seat: Seat<Ledger, M>,
+    set: ResourceSet,
+) -> (Seat<Ledger, M>, bool)
+    requires { Rests lock.now seat }
+    ensures { Rests lock.now result.0 }
+{
+    let mut guard = match to_write(rt, alloc, lock, seat, set) {
+        Ok(guard) => guard,
+        Err(seat) => return (seat, false),
+    };
+    let done = add_to_each(alloc, &mut guard, set);
+    match guard.finish(rt, alloc) {
+        Ok(seat) => (seat, done),
+        Err((guard, _)) => (guard.discard(rt), false),
+    }
+}

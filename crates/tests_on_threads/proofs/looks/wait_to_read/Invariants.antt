@@ -1,0 +1,7 @@
+use Rattle.std.proofs.Common.{◌≡◌}
+use Rattle.rguard.specs.declared.kind.GuardKind.TheVariants as kinds
+use Rattle.tests_on_threads.specs.Resting.{IsAt, WaitsToRead}
+use Rattle.tests_on_threads.proofs.looks.wait_to_read.Given as goal
+
+abbrev pub invariant-loop : goal.invariant-loop
+invariant-loop g l = IsAt l.group l.lock l.waiting.seat × (l.waiting.kind ≡ kinds.Read) × WaitsToRead l.group l.waiting.seat

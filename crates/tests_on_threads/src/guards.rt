@@ -1,0 +1,89 @@
+//! Guards on one thread.
+ghost use Rattle.std.specs.Prelude.{◌≡◌};
+ghost use Rattle.tests_on_threads.specs.Resting.{IsAt, Rests};
+
+use crate::closing::{closed, ledger_of};
+use crate::looks::{begin_to_read, look_to_read, wait_to_read};
+use crate::sections::{
+    OPENING, Place, Runtime, edit_each, ended, opened, pop_seat, push_seat, sum_of, to_write,
+};
+use rguard::WriteGuard;
+use rmodel::Machine;
+use rset::ResourceSet;
+use rvalue::{Edit, Ledger};
+use std::alloc::Global;
+use std::sync::Wait;
+use std::test::Fail;
+
+// What a reader reads who begins to wait while another adds 5 to what is declared together, and ends that section with its acts or without
+// them; and how often the reader looked too early. None where there was no memory.
+fn read_behind<R: Wait, M: Machine>(
+    rt: &R,
+    alloc: Global,
+    lock: &Runtime<M>,
+    writer: Place<M>,
+    reader: Place<M>,
+    group: ResourceSet,
+    keep: bool,
+) -> (Place<M>, Place<M>, Option<(u64, u32)>)
+    requires writer { Rests group lock.now writer }
+    requires reader { Rests group lock.now reader }
+    ensures writer { Rests group lock.now result.0 }
+    ensures reader { Rests group lock.now result.1 }
+{
+    let mut guard = match to_write(rt, alloc, lock, writer, group, group) {
+        Ok(guard) => guard,
+        Err(writer) => return (writer, reader, None),
+    };
+    let _ = edit_each(alloc, &mut guard, group, Edit::Add(5));
+    let wait = match begin_to_read(rt, alloc, lock, reader, group) {
+        Ok(wait) => wait,
+        Err(reader) => return (guard.discard(rt), reader, None),
+    };
+    match look_to_read(rt, lock, wait, group) {
+        Ok(early) => (guard.discard(rt), early.discard(rt), None),
+        Err(wait) => {
+            let (writer, _) = spent(rt, alloc, lock, group, guard, keep);
+            let (guard, early) = wait_to_read(rt, lock, wait.rest(rt), group);
+            let sum = sum_of(&guard, group);
+            (writer, guard.finish(rt), Some((sum, early)))
+        }
+    }
+}
+
+// Ends a section with its acts, or without them.
+fn spent<R: Wait, M: Machine>(
+    rt: &R,
+    alloc: Global,
+    lock: &Runtime<M>,
+    group: ResourceSet,
+    guard: WriteGuard<'_, Ledger, M>,
+    keep: bool,
+) -> (Place<M>, bool)
+    requires { IsAt group lock.now guard.seat }
+    ensures { Rests group lock.now result.0 }
+{
+    if keep {
+        ended(rt, alloc, lock, group, guard, true)
+    } else {
+        (guard.discard(rt), true)
+    }
+}
+
+#[test]
+fn readers_wait_for_a_writer(rt: HostRuntime) -> Result<(), Fail> {
+    let alloc = rt.alloc();
+    let a = ResourceSet::one(0);
+    let (lock, mut seats) = opened(alloc, a, 2)?;
+    let one = pop_seat(&rt, &lock, a, &mut seats);
+    let zero = pop_seat(&rt, &lock, a, &mut seats);
+    let (zero, one, kept) = read_behind(&rt, alloc, &lock, zero, one, a, true);
+    let (zero, one, dropped) = read_behind(&rt, alloc, &lock, zero, one, a, false);
+    push_seat(&lock, a, &mut seats, zero)?;
+    push_seat(&lock, a, &mut seats, one)?;
+    let left = closed(&rt, lock, a, seats, 2);
+    let ledger = ledger_of(&rt, &left, 0);
+    let read = Some((OPENING + 5, 0));
+    assert!(rt; kept == read && dropped == read && left.history.len() == 8 && ledger.edits == 1);
+    Ok(())
+}
