@@ -7,6 +7,7 @@ use Rattle.rclaim.specs.declared.claim.Claim.{Claim}
 use Rattle.rmodel.specs.Claims.{conflicts, is_upgrade, is_read_half}
 use Rattle.rbound.specs.Needs.{Needed, first_need, write_need}
 use Rattle.rbound.specs.Zones.{zone_of, is_there}
+use Rattle.rbound.specs.declared.bound.Bound.{Bound}
 
 -- the numbers of a wait: of sections that count as reads, of those that count as writes, and the sum of their lengths
 pub record Numbers : Type 0 where
@@ -159,3 +160,7 @@ bound_of_ask ns part (Some n) = ask_bound ns n.claim part
 -- the bound of an ask of a request for this part
 abbrev pub ask_bound_of : List Needed → ℕ → ℕ → Set → Numbers
 ask_bound_of ns task number part = bound_of_ask ns part (write_need ns task number)
+
+-- the numbers that a bound tells
+abbrev pub numbers_in : Bound → Numbers
+numbers_in b = record { reads = b.reads; writes = b.writes; units = b.units }

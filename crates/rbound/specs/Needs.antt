@@ -4,6 +4,7 @@ use Rattle.rset.specs.Sets.{Set}
 use Rattle.rclaim.specs.Requests.{RequestFields}
 use Rattle.rclaim.specs.declared.claim.Claim.{Claim}
 use Rattle.rmodel.specs.Claims.{claims_of, is_upgrade}
+use Rattle.rbound.specs.declared.needed.Needed as needed
 
 -- a request that a task needs, and the sets for which it asks, in order
 pub record RequestNeeds : Type 0 where
@@ -15,9 +16,8 @@ abbrev pub Needs : Type 0
 Needs = List (List RequestNeeds)
 
 -- a claim that is needed: its seat is the number of the task, its stamp that of the request in the task, from 0; and the length of its section
-pub record Needed : Type 0 where
-  pub claim : Claim
-  pub len : ℕ
+abbrev pub Needed : Type 0
+Needed = needed.Needed
 
 -- the length of the section of a claim of a request
 abbrev pub length_of : RequestFields → Claim → ℕ

@@ -1,0 +1,10 @@
+use Rattle.std.proofs.Common.{sym, ap, ◌∙◌, arith}
+use Rattle.rbound.specs.Needs.{all_needed}
+use Rattle.rbound.proofs.Growing.{nothing_needed}
+use Rattle.rbound.proofs.needs.Needs.new.Goals as goal
+
+pub invariant_of-result : goal.invariant_of-result
+invariant_of-result c = record {
+  few = omega (arith, c.in_ok-made.ensures.len, c.ranges.tasks.fits);
+  claims = c.new.ensures.items ∙ sym (ap (all_needed c.args.groups.groups) c.in_ok-made.ensures.made ∙ nothing_needed c.args.groups.groups 0 c.args.tasks);
+}

@@ -1,0 +1,28 @@
+use Rattle.std.proofs.Common.{◌≡◌, ◌<◌, ◌∷◌, length, option_to_list, sym, ap, subst, ◌∙◌, arith}
+use Rattle.rbound.specs.Needs.{all_needed, needed_of}
+use Rattle.rbound.specs.TaskNeeds.{TaskNeeds, requests_of, with_request}
+use Rattle.rbound.specs.Kept.{tasks_in}
+use Rattle.rbound.proofs.Inserted.{inserted}
+use Rattle.rbound.proofs.needs.Needs.push.Goals as goal
+
+pub invariant_of-self-2 : goal.invariant_of-self-2
+invariant_of-self-2 c =
+    let groups = c.self.inside.groups.groups in
+    let needs = tasks_in c.self.inside.tasks.items in
+    let task = c.args.task in
+    let request = c.args.request in
+    let made = c.needed_of-first.result.0 ∷ option_to_list c.needed_of-first.result.1 in
+    let there : task < length needs = subst (λ (n : TaskNeeds). task < length n.tasks) (sym c.self.view_is) c.requires.task in
+    let number : c.len_of-number.result ≡ length (requests_of needs task) =
+    c.len_of-number.ensures ∙ (λ k. length (requests_of (tasks_in (c.deref.ensures.value k)) (c.from.ensures k))) in
+    let made_is : made ≡ needed_of groups task (length (requests_of needs task)) request =
+    c.needed_of-first.ensures ∙ ap (λ k. needed_of groups task k request) number in
+    record {
+      few = omega (arith, c.in_ok-push_request.ensures.len, c.self.invariant.few);
+      claims =
+          c.insert_needed.ensures
+          ∙ inserted groups needs task request c.reserve.new.self.items made c.place_behind-at.result there (c.reserve.ensures.items ∙ c.self.invariant.claims) made_is
+          (λ before behind is up_to after. c.place_behind-at.ensures.place before behind (c.deref-2.ensures.value ∙ is) up_to after)
+          ∙ ap (λ t. all_needed groups (with_request needs t request)) (sym c.from-2.ensures)
+          ∙ sym (ap (all_needed groups) c.in_ok-push_request.ensures.ok);
+    }

@@ -1,0 +1,20 @@
+-- How needs are kept: for each task a vector of its requests, each with a vector of its asks. No contract of another crate speaks of it.
+use Rattle.std.specs.Prelude.{◌≡◌, ◌≤◌, List, map, length}
+use Rattle.std.specs.declared.vec.Vec.{Vec}
+use Rattle.std.specs.declared.alloc.Global.{Global}
+use Rattle.rexpand.specs.Groups.{ReadGroups}
+use Rattle.rbound.specs.Needs.{Needed, Needs, RequestNeeds, all_needed}
+use Rattle.rbound.specs.declared.requests.RequestAsks.{RequestAsks}
+
+-- a request with its asks
+abbrev pub needs_in : RequestAsks → RequestNeeds
+needs_in x = record { request = x.request; asks = x.asks.items }
+
+-- those of each task
+abbrev pub tasks_in : List (Vec RequestAsks Global) → Needs
+tasks_in tasks = map (λ v. map needs_in v.items) tasks
+
+-- the claims kept beside are those that are needed, and there are no more tasks than have a number
+pub record AreKept (groups : ReadGroups) (tasks : List (Vec RequestAsks Global)) (needed : List Needed) : Type 0 where
+  pub few : length tasks ≤ 255
+  pub claims : needed ≡ all_needed groups.groups (tasks_in tasks)

@@ -1,0 +1,16 @@
+-- Rows of greatest sums: at each place the greatest sum of so many lengths.
+use Rattle.std.specs.Prelude.{◌≡◌, ◌≤◌, ◌<◌, ◌+◌, ◌*◌, ◌^◌, ℕ, zero, suc, max, List, length, slice_index}
+use Rattle.rbound.specs.Bounds.{largest}
+
+-- the greatest sum of so many, of one length and of those that a row has: with that length and one fewer of the others, or without it
+abbrev pub with_length : ℕ → List ℕ → ℕ → ℕ
+with_length len row zero = slice_index row 0
+with_length len row (suc j) = max (len + slice_index row j) (slice_index row (suc j))
+
+-- a row has the greatest sums of these lengths
+abbrev pub IsRow : List ℕ → List ℕ → Type 0
+IsRow row xs = (j : ℕ) → j < length row → slice_index row j ≡ largest j xs
+
+-- each sum of a row is of lengths that fit 32 bits
+abbrev pub IsSmallRow : List ℕ → Type 0
+IsSmallRow row = (j : ℕ) → j < length row → slice_index row j ≤ j * 2 ^ 32

@@ -1,0 +1,90 @@
+// The requests of tasks with their asks, as they are kept.
+ghost use Rattle.std.specs.Prelude.{◌≡◌, ◌<◌, IfOk, OnOk, OnErr, length, map};
+ghost use Rattle.rbound.specs.TaskNeeds.{none_needed, with_request, with_ask, with_last_ask, requests_of, asks_at};
+ghost use Rattle.rbound.specs.Kept.{tasks_in, needs_in};
+
+use rclaim::Request;
+use rset::ResourceSet;
+use std::alloc::{AllocError, Global};
+
+/// A request with the sets for which it asks, in order.
+#[derive(Drop)]
+pub(crate) struct RequestAsks {
+    pub(crate) request: Request,
+    pub(crate) asks: Vec<ResourceSet>,
+}
+
+/// So many tasks without requests.
+pub(crate) fn no_requests(alloc: Global, tasks: u8) -> Result<Vec<Vec<RequestAsks>>, AllocError>
+    ensures made { IfOk result (λ made. tasks_in made.items ≡ none_needed tasks) }
+    ensures len { IfOk result (λ made. length made.items ≡ tasks) }
+{
+    let mut made = Vec::new(alloc);
+    for _ in 0..tasks {
+        made.push(Vec::new(alloc))?;
+    }
+    Ok(made)
+}
+
+/// Puts a request without asks behind the others of a task.
+pub(crate) fn push_request(
+    alloc: Global,
+    tasks: &mut Vec<Vec<RequestAsks>>,
+    task: usize,
+    request: Request,
+) -> Result<(), AllocError>
+    requires { task < length tasks.old.items }
+    ensures ok { OnOk result (tasks_in tasks.new.items ≡ with_request (tasks_in tasks.old.items) task request) }
+    ensures err { OnErr result (tasks_in tasks.new.items ≡ tasks_in tasks.old.items) }
+    ensures len { length tasks.new.items ≡ length tasks.old.items }
+{
+    tasks[task].push(RequestAsks {
+        request,
+        asks: Vec::new(alloc),
+    })?;
+    Ok(())
+}
+
+/// Puts a set for which the last of these requests asks behind the others.
+fn push_last(requests: &mut Vec<RequestAsks>, part: ResourceSet) -> Result<(), AllocError>
+    requires { 0 < length requests.old.items }
+    ensures ok { OnOk result (map needs_in requests.new.items ≡ with_last_ask (map needs_in requests.old.items) part) }
+    ensures err { OnErr result (map needs_in requests.new.items ≡ map needs_in requests.old.items) }
+{
+    let last = requests.len() - 1;
+    let entry = &mut requests[last];
+    entry.asks.push(part)?;
+    Ok(())
+}
+
+/// Puts a set for which the last request of a task asks behind the others.
+pub(crate) fn push_ask(
+    tasks: &mut Vec<Vec<RequestAsks>>,
+    task: usize,
+    part: ResourceSet,
+) -> Result<(), AllocError>
+    requires within { task < length tasks.old.items }
+    requires some { 0 < length (requests_of (tasks_in tasks.old.items) task) }
+    ensures ok { OnOk result (tasks_in tasks.new.items ≡ with_ask (tasks_in tasks.old.items) task part) }
+    ensures err { OnErr result (tasks_in tasks.new.items ≡ tasks_in tasks.old.items) }
+    ensures len { length tasks.new.items ≡ length tasks.old.items }
+{
+    push_last(&mut tasks[task], part)
+}
+
+/// The number of requests of a task.
+pub(crate) fn len_of(tasks: &[Vec<RequestAsks>], task: usize) -> usize
+    requires { task < length tasks.now }
+    ensures { result ≡ length (requests_of (tasks_in tasks.now) task) }
+{
+    tasks[task].len()
+}
+
+/// The sets for which a request asks.
+pub(crate) fn asks_at(tasks: &[Vec<RequestAsks>], task: usize, number: usize) -> &[ResourceSet]
+    requires task { task < length tasks.now }
+    requires number { number < length (requests_of (tasks_in tasks.now) task) }
+    ensures { result.now ≡ asks_at (tasks_in tasks.now) task number }
+{
+    tasks[task][number].asks.as_slice()
+}
