@@ -6,3 +6,4 @@ pub mod Whole
 pub mod Ending
 pub mod Reported
 pub mod Parts
+pub mod Telling

@@ -2,6 +2,8 @@
 ghost use Rattle.std.specs.Prelude.{◌≡◌, ◌≤◌, [], map, length, vec_capacity, IfOk};
 ghost use Rattle.std.specs.Arc.{arc_value};
 ghost use Rattle.std.specs.List.{list_any};
+ghost use Rattle.rforms.specs.Written.{MayBeWritten};
+ghost use Rattle.rreport.specs.Report.{told_by};
 ghost use Rattle.rrun.specs.Reporting.{HasOpened, TellsHeadOf, IsReportOf};
 
 use crate::Pace;
@@ -20,7 +22,7 @@ use std::thread::Threads;
 type Opened<M> = (Rnlp<Ledger, M>, Vec<Seat<Ledger, M>>);
 
 /// Runs a script at a runtime of its own: makes it, runs the tasks, closes it, and gives the report of what happened, with the receipt of
-/// its history.
+/// its history. The report is one that may be written.
 ///
 /// # Errors
 ///
@@ -32,6 +34,7 @@ pub fn run_script<R: Threads + Wait + Sync, G: Pace>(
     pace: &G,
 ) -> Result<(Report, Receipt<Edit>), AllocError>
     ensures report { IfOk result (λ r. IsReportOf script.entry.now r.0) }
+    ensures written { IfOk result (λ r. MayBeWritten (told_by r.0)) }
     ensures receipt { IfOk result (λ r. r.1 ≡ r.0.entries) }
 {
     let (rnlp, seats) = open(alloc, script)?;

@@ -10,6 +10,7 @@ use Rattle.rguard.specs.Closing.{IsClosedBy}
 use Rattle.rguard.specs.Seats.{SeatOf, IsOf, IsIdle}
 use Rattle.rrun.specs.declared.tasks.Ended.{Ended}
 use Rattle.rrun.proofs.Reported.{all_of, all_idle, all_there, is_report}
+use Rattle.rrun.proofs.Telling.{may_be_written}
 use Rattle.rrun.proofs.run.run_script.Goals as goal
 
 pub close-closed-requires-clause-of : goal.close-closed-requires-clause-of
@@ -34,3 +35,7 @@ returns-clause-report g c =
     is_report c.args.script.now c.tasks.ensures.script c.in_ok-rnlp.rnlp c.in_ok-rnlp.seats.items c.in_ok-rnlp.ensures c.in-Ok.ended.items c.in-Ok.ensures.ran none c.close-closed.result.0.entries (map arc_value c.close-closed.result.1.items)
     (subst (λ (seats : List (SeatOf Ledger Edit)). All (λ seat. IsClosedBy value_after is_taken (λ (ledger : Ledger). ledger.balance) c.close-closed.result.0.entries (map arc_value c.close-closed.result.1.items) seat) seats) c.seats_of.ensures c.close-closed.ensures.seats)
     c.in_ok-report.report c.in_ok-report.ensures.head c.in_ok-report.ensures.entries c.in_ok-report.ensures.ledgers
+
+pub returns-clause-written : goal.returns-clause-written
+returns-clause-written g c =
+    may_be_written c.args.script.now c.tasks.ensures.script c.in_ok-report.report (returns-clause-report g c)
