@@ -10,6 +10,8 @@ mod looks;
 #[cfg(test)]
 mod roll;
 #[cfg(test)]
+mod runs;
+#[cfg(test)]
 mod sections;
 #[cfg(test)]
 mod signing;
