@@ -106,6 +106,7 @@ impl NameTable {
     }
 
     /// The number of `name`, or None where it is not in the table.
+    #[inline]
     pub fn number_of(&self, name: &[u8]) -> Option<u8>
         ensures value { result ≡ number_in self.now name.now }
         ensures below { IfSome result (λ n. n < length self.now) }
@@ -116,6 +117,17 @@ impl NameTable {
         if has_at(self.names.as_slice(), hint, name) {
             return Some(hint);
         }
+        self.number_by_hash(name)
+    }
+
+    // The number of a name that no hint led to.
+    #[cold]
+    #[inline(never)]
+    fn number_by_hash(&self, name: &[u8]) -> Option<u8>
+        ensures value { result ≡ number_in self.now name.now }
+        ensures below { IfSome result (λ n. n < length self.now) }
+        ensures bound { IfSome result (λ n. n < RESOURCES) }
+    {
         let number = self.names.get_index_of(name)?;
         Some(number as u8)
     }
