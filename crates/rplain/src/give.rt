@@ -1,6 +1,6 @@
 // What is asked for is granted, where it comes to a claim.
 ghost use Rattle.std.specs.FinSet.{len};
-ghost use Rattle.std.specs.Prelude.{◌≡◌, ◌<◌, ◌≤◌, ◌&&◌, false, nat_lt, length, slice_index_or, slice_set};
+ghost use Rattle.std.specs.Prelude.{◌≡◌, ◌<◌, ◌≤◌, ◌&&◌, ◌∷◌, ◌++◌, [], List, false, nat_lt, length, slice_index_or, slice_set};
 ghost use Rattle.std.specs.List.{list_any};
 ghost use Rattle.rclaim.specs.declared.TheConstants.{STATUS_ROOM, GRANT_ROOM};
 ghost use Rattle.rmodel.specs.Changes.{status_changes, grant_changes, with_change};
@@ -50,14 +50,15 @@ fn with_asked(claims: &[Claimed], x: &Claimed) -> Claimed
     }
 }
 
-/// The claim likewise; few ask for anything, and for the others nothing is looked at.
-pub(crate) fn granted_to(claims: &[Claimed], x: &Claimed) -> Claimed
-    ensures { result ≡ with_asked claims.now x.now }
+/// Grants what the last claim asks for, if it comes to it by those before it. Few ask for anything, and for the others
+/// nothing is looked at.
+pub(crate) fn give_last(claims: &mut [Claimed])
+    ensures { (xs : List Claimed) (x : Claimed) → claims.old ≡ xs ++ x ∷ [] → claims.new ≡ xs ++ with_asked xs x ∷ [] }
 {
-    if x.asked.len() > 0 {
-        with_asked(claims, x)
-    } else {
-        *x
+    if let Some((x, before)) = claims.split_last_mut() {
+        if x.asked.len() > 0 {
+            *x = with_asked(before, x);
+        }
     }
 }
 

@@ -3,11 +3,11 @@ ghost use Rattle.std.specs.Prelude.{◌≡◌, ◌<◌, ◌∷◌, ◌++◌, [],
 ghost use Rattle.std.specs.FinSet.{empty};
 ghost use Rattle.rclaim.specs.declared.TheConstants.{STATUS_ROOM, GRANT_ROOM};
 ghost use Rattle.rmodel.specs.Changes.{with_change};
-ghost use Rattle.rmodel.specs.Settling.{read_near};
+ghost use Rattle.rmodel.specs.Settling.{read_near, with_status};
 ghost use Rattle.rplain.specs.Sweep.{AreReadWithin};
 ghost use Rattle.rplain.specs.NewClaim.{seen_of, is_past, new_read_status, is_read, new_is_held_up, new_write_status, new_status, new_claim};
 
-use crate::give::granted_to;
+use crate::give::give_last;
 use crate::seen::{Seen, with_seen};
 use crate::tell::tell_claim;
 use crate::way::{is_past, read_near};
@@ -85,18 +85,29 @@ fn new_status(claims: &[Claimed], seen: &Seen, read: ResourceSet, x: &Claimed) -
     }
 }
 
-/// A new claim, settled behind these of which this is seen, with what it asks for granted if that comes to it.
-#[tactic(auto, unfolding(crate::specs::NewClaim::new_claim))]
-fn new_claim(claims: &[Claimed], seen: &Seen, read: ResourceSet, x: &Claimed) -> Claimed
-    requires seen { seen.now ≡ seen_of claims.now }
-    requires within { AreReadWithin read claims.now }
-    ensures { result ≡ new_claim claims.now x.now }
+/// Adds a claim with this status. It is built where it stands, as a list of claims is large.
+fn push_at(claims: &mut Vec<Claimed>, x: &Claimed, status: Status)
+    requires { length claims.old.items < vec_capacity claims.old }
+    ensures items { claims.new.items ≡ claims.old.items ++ with_status x.now status ∷ [] }
+    ensures capacity { vec_capacity claims.new ≡ vec_capacity claims.old }
 {
-    let settled = Claimed {
-        status: new_status(claims, seen, read, x),
-        ..*x
-    };
-    granted_to(claims, &settled)
+    let place = claims.len();
+    claims.push_reserved(*x);
+    claims[place].status = status;
+}
+
+/// Adds a new claim behind settled ones, of which this is seen, settled, with what it asks for granted if that comes to it.
+#[tactic(auto, unfolding(crate::specs::NewClaim::new_claim))]
+fn push_settled(claims: &mut Vec<Claimed>, seen: &Seen, read: ResourceSet, x: &Claimed)
+    requires seen { seen.now ≡ seen_of claims.old.items }
+    requires within { AreReadWithin read claims.old.items }
+    requires room { length claims.old.items < vec_capacity claims.old }
+    ensures items { claims.new.items ≡ claims.old.items ++ new_claim claims.old.items x.now ∷ [] }
+    ensures capacity { vec_capacity claims.new ≡ vec_capacity claims.old }
+{
+    let status = new_status(claims, seen, read, x);
+    push_at(claims, x, status);
+    give_last(claims);
 }
 
 /// Adds a new claim behind settled ones, settled, with what it asks for granted if that comes to it, and tells what
@@ -119,8 +130,9 @@ pub(crate) fn push_new(
     ensures capacity { vec_capacity claims.new ≡ vec_capacity claims.old }
     ensures changes { changes.new ≡ with_change changes.old x.now (new_claim claims.old.items x.now) }
 {
-    let now = new_claim(claims, seen, read, x);
-    tell_claim(x, &now, changes);
-    *seen = with_seen(*seen, &now);
-    claims.push_reserved(now);
+    let place = claims.len();
+    push_settled(claims, seen, read, x);
+    let now = &claims[place];
+    tell_claim(x, now, changes);
+    *seen = with_seen(*seen, now);
 }

@@ -136,6 +136,13 @@ impl Machine for Plain {
 }
 
 impl Plain {
+    /// The claims of the lock state, by rising stamp.
+    pub fn claims(&self) -> &[Claimed]
+        ensures { result.now ≡ self.now.state.claims }
+    {
+        &self.claims
+    }
+
     // The place of the first claim of a seat. Only where there is a mark it is looked for.
     fn place(&self, seat: u8) -> Option<usize>
         requires { seat < self.now.state.seats }

@@ -1,10 +1,11 @@
 // Settles the claims that a removal leaves, in one pass by rising stamp. Nearly all are seen at once to stay as they are.
+ghost use Rattle.std.specs.FinSet.{empty};
 ghost use Rattle.std.specs.Prelude.{◌≡◌, ◌<◌, ◌≤◌, false, length, slice_index_or, slice_set};
 ghost use Rattle.std.specs.List.{list_any};
 ghost use Rattle.rclaim.specs.declared.TheConstants.{STATUS_ROOM, GRANT_ROOM};
 ghost use Rattle.rclaim.specs.Changes.{no_changes};
 ghost use Rattle.rmodel.specs.Changes.{status_changes, grant_changes, with_change};
-ghost use Rattle.rplain.specs.NewClaim.{seen_of};
+ghost use Rattle.rplain.specs.NewClaim.{seen_of, with_seen};
 ghost use Rattle.rmodel.specs.Settling.{settled};
 ghost use Rattle.rplain.specs.Sweep.{stands, is_near, with_near, still_near, reads_of, is_read_still, is_held_still, is_past_still, remains, read_swept, write_swept, swept_status, swept, IsLeft};
 ghost use Rattle.rmodel.specs.declared.claimed.Claimed.{Claimed};
@@ -164,33 +165,54 @@ fn swept_at(claims: &[Claimed], i: usize, left: &Left, seen: &Seen) -> Claimed
     }
 }
 
-/// Settles the claim at a place, which is not seen to stay, and tells what changes of it.
+/// Settles the claim at a place, which is not seen to stay, tells what changes of it, and answers what is seen of the
+/// claims as far as this one.
 #[inline(never)]
-fn sweep_claim(claims: &mut [Claimed], i: usize, left: &Left, seen: Seen, changes: &mut Changes)
+fn sweep_claim(
+    claims: &mut [Claimed],
+    i: usize,
+    left: &Left,
+    seen: Seen,
+    changes: &mut Changes,
+) -> Seen
     requires place { i < length claims.old }
     requires goes { (d : Claimed) → remains left.now seen (slice_index_or claims.old i d) ≡ false }
+    requires read_only { (d : Claimed) → let y = swept left.now seen claims.old (slice_index_or claims.old i d) in y.claim.write_half ≡ false → y.claim.writes ≡ empty }
     requires statuses_room { length changes.old.statuses < STATUS_ROOM }
     requires grants_room { length changes.old.grants < GRANT_ROOM }
     ensures claims { (d : Claimed) → claims.new ≡ slice_set claims.old i (swept left.now seen claims.old (slice_index_or claims.old i d)) }
     ensures changes { (d : Claimed) → let x = slice_index_or claims.old i d in changes.new ≡ with_change changes.old x (swept left.now seen claims.old x) }
+    ensures seen { (d : Claimed) → result ≡ with_seen seen (swept left.now seen claims.old (slice_index_or claims.old i d)) }
 {
     let now = swept_at(claims, i, left, &seen);
     tell_claim(&claims[i], &now, changes);
     claims[i] = now;
+    with_seen(seen, &now)
 }
 
-/// Settles the claim at a place, and tells what changes of it.
+/// Settles the claim at a place, tells what changes of it, and answers what is seen of the claims as far as this one. Most
+/// stay, so what is seen of those is added apart: it is at hand there.
 #[inline]
-fn sweep_at(claims: &mut [Claimed], i: usize, left: &Left, seen: &Seen, changes: &mut Changes)
+fn sweep_at(
+    claims: &mut [Claimed],
+    i: usize,
+    left: &Left,
+    seen: Seen,
+    changes: &mut Changes,
+) -> Seen
     requires place { i < length claims.old }
+    requires read_only { (d : Claimed) → let y = swept left.now seen claims.old (slice_index_or claims.old i d) in y.claim.write_half ≡ false → y.claim.writes ≡ empty }
     requires statuses_room { length changes.old.statuses < STATUS_ROOM }
     requires grants_room { length changes.old.grants < GRANT_ROOM }
-    ensures claims { (d : Claimed) → claims.new ≡ slice_set claims.old i (swept left.now seen.now claims.old (slice_index_or claims.old i d)) }
-    ensures changes { (d : Claimed) → let x = slice_index_or claims.old i d in changes.new ≡ with_change changes.old x (swept left.now seen.now claims.old x) }
+    ensures claims { (d : Claimed) → claims.new ≡ slice_set claims.old i (swept left.now seen claims.old (slice_index_or claims.old i d)) }
+    ensures changes { (d : Claimed) → let x = slice_index_or claims.old i d in changes.new ≡ with_change changes.old x (swept left.now seen claims.old x) }
+    ensures seen { (d : Claimed) → result ≡ with_seen seen (swept left.now seen claims.old (slice_index_or claims.old i d)) }
 {
-    if !remains(left, seen, &claims[i]) {
-        sweep_claim(claims, i, left, *seen, changes);
+    let x = &claims[i];
+    if remains(left, &seen, x) {
+        return with_seen(seen, x);
     }
+    sweep_claim(claims, i, left, seen, changes)
 }
 
 /// Settles the claims that a removal leaves, tells what changes, and answers what is seen of them then.
@@ -205,8 +227,7 @@ pub(crate) fn sweep(claims: &mut [Claimed], left: Left, changes: &mut Changes) -
 {
     let mut seen = no_seen();
     for i in 0..claims.len() {
-        sweep_at(claims, i, &left, &seen, changes);
-        seen = with_seen(seen, &claims[i]);
+        seen = sweep_at(claims, i, &left, seen, changes);
     }
     seen
 }
