@@ -21,8 +21,9 @@ use rvalue::{Act, Edit, Ledger};
 use std::alloc::{AllocError, Global};
 use std::marker::Model;
 
-/// The most by which a page becomes longer at first; later it is a sixteenth of its length.
-const AHEAD: usize = 1 << 18;
+/// How many bytes are made ahead, beside the room for a line. They are zeroes at first: so few of them are still near
+/// the processor when they are written.
+const AHEAD: usize = 1024;
 
 /// A text that grows by lines.
 ///
@@ -201,8 +202,6 @@ fn lengthen(bytes: &mut Vec<u8>, used: usize) -> Result<(), AllocError>
     ensures room { OnOk result (used + LINE_ROOM ≤ vec_len bytes.new) }
     ensures longer { vec_len bytes.old ≤ vec_len bytes.new }
 {
-    let len = bytes.len();
-    let more = (len / 16).max(len.min(AHEAD)).max(LINE_ROOM);
-    let longer = len.checked_add(more).ok_or(AllocError)?;
-    bytes.resize(longer, 0)
+    let longer = used.checked_add(LINE_ROOM + AHEAD).ok_or(AllocError)?;
+    bytes.resize(longer.max(bytes.len()), 0)
 }
