@@ -5,3 +5,4 @@ pub mod lines
 pub mod texts
 pub mod Takes
 pub mod Tasks
+pub mod Gathering

@@ -10,3 +10,4 @@ pub mod Decided
 pub mod Told
 pub mod Reading
 pub mod Texts
+pub mod Needs

@@ -9,6 +9,7 @@
 mod code;
 mod faults;
 pub mod laws;
+mod needs;
 mod place;
 mod reading;
 mod record;
