@@ -1,11 +1,12 @@
 -- What the tasks need, as contracts see it, and how it grows.
-use Rattle.std.specs.Prelude.{ℕ, zero, suc, Bool, false, Option, Some, None, List, [], ◌∷◌, ◌++◌, length, replicate, slice_get, slice_index_or, refl}
+use Rattle.std.specs.Prelude.{ℕ, zero, suc, Bool, false, Option, Some, None, List, [], ◌∷◌, ◌++◌, length, replicate, slice_get, slice_index_or, option_map, refl}
 use Rattle.std.specs.Coded.{Coded, code_by, coded×, coded_list}
 use Rattle.rset.specs.Sets.{Set}
 use Rattle.rexpand.specs.Groups.{ReadGroups}
 use Rattle.rexpand.specs.Codes.{groups_code}
 use Rattle.rclaim.specs.Codes.{set_code}
 use Rattle.rclaim.specs.Requests.{RequestFields, request_code}
+use Rattle.rclaim.specs.declared.request.Kind.{Kind}
 use Rattle.rmodel.specs.Claims.{is_nested}
 use Rattle.rbound.specs.Needs.{Needed, Needs, RequestNeeds, all_needed}
 use Rattle.rbound.specs.Bounds.{Numbers, no_wait, first_bound, rise_bound, ask_bound_of}
@@ -65,6 +66,10 @@ asks_of (Some n) = n.asks
 
 abbrev pub asks_at : Needs → ℕ → ℕ → List Set
 asks_at needs task number = asks_of (slice_get (requests_of needs task) number)
+
+-- the kind of a request, where there is one
+abbrev pub kind_at : Needs → ℕ → ℕ → Option Kind
+kind_at needs task number = option_map (λ n. n.request.kind) (slice_get (requests_of needs task) number)
 
 -- the claims that are needed
 abbrev pub needed_in : TaskNeeds → List Needed

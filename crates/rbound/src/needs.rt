@@ -1,16 +1,16 @@
 // What tasks need, with the claims that this makes kept beside it.
-ghost use Rattle.std.specs.Prelude.{◌≡◌, ◌≤◌, ◌<◌, ◌==◌, ◌&&◌, IfOk, OnOk, OnErr, IsTrue, true, length};
+ghost use Rattle.std.specs.Prelude.{◌≡◌, ◌≤◌, ◌<◌, ◌==◌, ◌&&◌, Some, IfOk, OnOk, OnErr, IsTrue, true, length};
 ghost use Rattle.rset.specs.Sets.{all_below};
 ghost use Rattle.rbound.specs.Zones.{zone_of};
 ghost use Rattle.rbound.specs.Bounds.{numbers_in};
-ghost use Rattle.rbound.specs.TaskNeeds.{none_needed, with_request, with_ask, requests_of, last_is_nested, asks_at, needed_in, bound_of};
+ghost use Rattle.rbound.specs.TaskNeeds.{none_needed, with_request, with_ask, requests_of, last_is_nested, kind_at, asks_at, needed_in, bound_of};
 
 use crate::bound::{ask_bound_of, first_bound, no_wait, rise_bound};
 use crate::made::{insert_needed, needed_of, place_behind};
-use crate::requests::{RequestAsks, asks_at, len_of, no_requests, push_ask, push_request};
+use crate::requests::{RequestAsks, asks_at, kind_at, len_of, no_requests, push_ask, push_request};
 use crate::zone::zone_among;
 use crate::{Bound, Needed, Which};
-use rclaim::Request;
+use rclaim::{Kind, Request};
 use rexpand::Groups;
 use rset::ResourceSet;
 use std::alloc::{AllocError, Global};
@@ -98,6 +98,15 @@ impl Needs {
         ensures { result ≡ length (requests_of self.now.tasks task) }
     {
         len_of(&self.tasks, usize::from(task))
+    }
+
+    /// The kind of the request number `k` of a task.
+    pub fn kind(&self, task: u8, k: usize) -> Kind
+        requires task { task < length self.now.tasks }
+        requires number { k < length (requests_of self.now.tasks task) }
+        ensures { kind_at self.now.tasks task k ≡ Some result }
+    {
+        kind_at(&self.tasks, usize::from(task), k)
     }
 
     /// The number of asks of the request number `k` of a task.

@@ -1,9 +1,9 @@
 // The requests of tasks with their asks, as they are kept.
-ghost use Rattle.std.specs.Prelude.{◌≡◌, ◌<◌, IfOk, OnOk, OnErr, length, map};
-ghost use Rattle.rbound.specs.TaskNeeds.{none_needed, with_request, with_ask, with_last_ask, requests_of, asks_at};
+ghost use Rattle.std.specs.Prelude.{◌≡◌, ◌<◌, Some, IfOk, OnOk, OnErr, length, map};
+ghost use Rattle.rbound.specs.TaskNeeds.{none_needed, with_request, with_ask, with_last_ask, requests_of, kind_at, asks_at};
 ghost use Rattle.rbound.specs.Kept.{tasks_in, needs_in};
 
-use rclaim::Request;
+use rclaim::{Kind, Request};
 use rset::ResourceSet;
 use std::alloc::{AllocError, Global};
 
@@ -78,6 +78,15 @@ pub(crate) fn len_of(tasks: &[Vec<RequestAsks>], task: usize) -> usize
     ensures { result ≡ length (requests_of (tasks_in tasks.now) task) }
 {
     tasks[task].len()
+}
+
+/// The kind of a request.
+pub(crate) fn kind_at(tasks: &[Vec<RequestAsks>], task: usize, number: usize) -> Kind
+    requires task { task < length tasks.now }
+    requires number { number < length (requests_of (tasks_in tasks.now) task) }
+    ensures { kind_at (tasks_in tasks.now) task number ≡ Some result }
+{
+    tasks[task][number].request.kind()
 }
 
 /// The sets for which a request asks.

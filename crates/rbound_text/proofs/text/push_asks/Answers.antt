@@ -1,0 +1,11 @@
+use Rattle.std.proofs.Common.{◌++◌, ℕ, ap, ◌∙◌}
+use Rattle.rforms.specs.Texts.{line_text}
+use Rattle.rbound.specs.declared.which.Which.TheVariants.{Ask}
+use Rattle.rbound_text.specs.BoundText.{wait_row}
+use Rattle.rbound_text.proofs.Lines.{row_more}
+use Rattle.rbound_text.proofs.text.push_asks.Goals as goal
+
+pub loop-i-preserved : goal.loop-i-preserved
+loop-i-preserved c =
+    let row = λ (i : ℕ). wait_row c.args.needs.now c.args.cap c.args.name.now c.args.task c.args.number (Ask i) in
+    c.in_ok-push_wait.ensures ∙ ap (λ text. text ++ line_text (row c.loop-i.i)) c.loop-i.invariant ∙ row_more row c.args.text.now.items c.loop-i.i
