@@ -2,3 +2,6 @@
 pub mod Found
 pub mod Different
 pub mod Counting
+pub mod Items
+pub mod Lowest
+pub mod Pushed

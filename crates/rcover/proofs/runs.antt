@@ -1,6 +1,7 @@
 -- What holds over a run of moments.
 pub mod Moments
 pub mod Push
+pub mod Steps
 pub mod Taken
 pub mod Throughout
 pub mod LastHolder

@@ -4,3 +4,4 @@ pub mod EachWait
 pub mod OneClaim
 pub mod Runs
 pub mod Waits
+pub mod Few

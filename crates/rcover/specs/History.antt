@@ -1,5 +1,5 @@
 -- What a history tells of requests: which claims it makes needed, the length of the section of each, and the number of a request among those of its seat.
-use Rattle.std.specs.Prelude.{ℕ, zero, suc, ◌==◌, List, [], ◌∷◌, map, if◌then◌else◌}
+use Rattle.std.specs.Prelude.{ℕ, zero, suc, ◌+◌, ◌-◌, ◌==◌, List, [], ◌∷◌, fold, map, if◌then◌else◌}
 use Rattle.std.specs.List.{range_with_len}
 use Rattle.rset.specs.Sets.{Set}
 use Rattle.rclaim.specs.declared.claim.Claim.{Claim}
@@ -52,3 +52,18 @@ number_from (Ask seat part ∷ es) stamp task = number_from es stamp task
 -- the number of the request of a claim among those of its seat, from 0
 abbrev pub number_in : List Event → Claim → ℕ
 number_in es c = number_from es c.stamp c.seat
+
+-- the asks of a seat since its last issue, once an event comes
+abbrev pub count_ask : ℕ → ℕ → Event → ℕ
+count_ask task n (Issue seat r) = if seat == task then 0 else n
+count_ask task n (Finish seat) = n
+count_ask task n (Rise seat) = n
+count_ask task n (Ask seat part) = if seat == task then n + 1 else n
+
+-- how many asks of a seat came since its last issue
+abbrev pub asks_since : ℕ → List Event → ℕ
+asks_since task es = fold (count_ask task) 0 es
+
+-- the number of the last ask of a claim's request, from 0, while that request is incomplete
+abbrev pub last_ask : List Event → Claim → ℕ
+last_ask es c = asks_since c.seat es - 1

@@ -6,6 +6,8 @@ pub mod Covers
 pub mod History
 pub mod Within
 pub mod Told
+pub mod Ended
+pub mod Lists
 pub mod Last
 pub mod Shown
 pub mod Promises
