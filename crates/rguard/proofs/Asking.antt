@@ -27,6 +27,7 @@ use Rattle.rvalue.proofs.InTurnLemmas.{AllInTurn-longer}
 use Rattle.rvalue.proofs.ValueLemmas.{value_of-longer}
 use Rattle.rstate.specs.Contents.{Contents, lock_of, is_ready}
 use Rattle.rstate.specs.Histories.{Beginning, lock_after, MayFollow, IsLawfulFrom}
+use Rattle.rstate.specs.Lent.{LentFields}
 use Rattle.rstate.proofs.histories.Following.{event_of, lock_push, lock_is_after, accepted_lawful}
 use Rattle.rstate.proofs.histories.Staying.{held_push, still_from}
 use Rattle.rstate.proofs.homes.Lists.{same_item}
@@ -40,7 +41,7 @@ use Rattle.rguard.proofs.Acting.{held_more}
 use Rattle.rguard.proofs.Claims.{is_of, of_seat, may_ask_by, of_seat_and, claim_asked}
 use Rattle.rguard.proofs.Ending.{sizes, there_now}
 use Rattle.rguard.proofs.Finding.{Finds, lock_is, reached_now, within_later, value_later, claim_later, holding_later}
-use Rattle.rguard.proofs.Lending.{lent_same}
+use Rattle.rguard.proofs.Lending.{lent_same, lent_reserved}
 use Rattle.rguard.proofs.Looking.{right_later, value_read, value_written}
 use Rattle.rguard.proofs.Turning.{seen_is, number_is, has_now, knows_now}
 
@@ -63,6 +64,21 @@ waits_of after taken number kind b s h room = record {
   has_lent = h.has_lent;
   as_kind = h.as_kind;
   room = room;
+}
+
+-- a guard keeps what it keeps with more room
+pub holds_reserved : {V E : Type 0} (after : V → E → V) (taken : V → E → Bool) (number : V → ℕ) (b : Beginning V) (s : SectionFields V E) (roomy : LentFields V) → roomy.reads ≡ s.lent.reads → roomy.writes ≡ s.lent.writes
+    → HoldsFrom after taken number kinds.Nest b s → HoldsFrom after taken number kinds.Nest b (record { site = s.site; seat = s.seat; lent = roomy; own = s.own; acts = s.acts })
+holds_reserved after taken number b s roomy reads writes h = record {
+  knows = h.knows;
+  holding = h.holding;
+  right = h.right;
+  has_lent = record {
+    taken = h.has_lent.taken;
+    lent = lent_reserved b.seats (held_at b s.seat) b.values (value_seen after s.seat) (value_seen after s.seat) s.lent roomy reads writes h.has_lent.lent;
+    copies = record { once = h.has_lent.copies.once; written = h.has_lent.copies.written; are = h.has_lent.copies.are; unedited = h.has_lent.copies.unedited };
+  };
+  as_kind = h.as_kind;
 }
 
 -- what a seat holds that holds something is ready

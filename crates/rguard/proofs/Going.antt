@@ -1,11 +1,15 @@
 -- Steps of a seat, one after another: for proofs above.
-use Rattle.std.proofs.Common.{◌<◌, List, ◌++◌, sym, ap, subst, ◌∙◌, append_assoc}
+use Rattle.std.proofs.Common.{◌<◌, List, [], ◌++◌, refl, sym, ap, subst, ◌∙◌, append-nil, append_assoc}
 use Rattle.rlock.specs.Known.{Site}
 use Rattle.rlock.proofs.Entries.{IsPrefix-trans}
 use Rattle.rvalue.specs.Entries.{EntryFields}
 use Rattle.rguard.specs.Seats.{SeatOf, IsOf, Goes}
 
 module _ {V E : Type 0} where
+  -- a seat goes on to itself
+  pub goes_nowhere : (a : SeatOf V E) → Goes a [] a
+  goes_nowhere a = record { same = (refl, refl, refl); seen = ([], append-nil a.seen); mine = sym (append-nil a.mine) }
+
   -- two steps are one
   pub goes_on : (a b c : SeatOf V E) (xs ys : List (EntryFields E)) → Goes a xs b → Goes b ys c → Goes a (xs ++ ys) c
   goes_on a b c xs ys p q = record {

@@ -1,5 +1,5 @@
 -- What a seat holds whose request was issued and is ready, by what the calls tell of it. For proofs above.
-use Rattle.std.proofs.Common.{◌≡◌, ℕ, ◌==◌, ◌||◌, Bool, true, false, cond, List, [], ◌∷◌, ◌++◌, refl, sym, ap, subst, ◌∙◌, append-nil, append_assoc}
+use Rattle.std.proofs.Common.{◌≡◌, ℕ, ◌==◌, ◌||◌, Bool, true, false, cond, List, [], ◌∷◌, ◌++◌, refl, sym, ap, subst, ◌∙◌, append-nil}
 use Rattle.std.specs.FinSet.{contains}
 use Rattle.rclaim.specs.Requests.{RequestFields}
 use Rattle.rclaim.specs.declared.event.Event.TheVariants.{Issue}
@@ -9,10 +9,10 @@ use Rattle.rlock.specs.Known.{entries_by}
 use Rattle.rlock.proofs.Entries.{entries_by-append}
 use Rattle.rvalue.specs.Entries.{EntryFields}
 use Rattle.rstate.specs.Contents.{is_ready}
-use Rattle.rstate.specs.Histories.{Beginning, lock_after, IsLawfulFrom}
+use Rattle.rstate.specs.Histories.{lock_after, IsLawfulFrom}
 use Rattle.rlock.specs.Known.{Site}
 use Rattle.rguard.specs.Seats.{SeatOf, Goes, bare}
-use Rattle.rguard.specs.Looks.{HasAcquired, fields_of}
+use Rattle.rguard.specs.Looks.{HasAcquired}
 use Rattle.rguard.specs.declared.guard.Guard.{Guard}
 use Rattle.rguard.specs.declared.guard.Guard.TheVariants.{Read, Write}
 use Rattle.rguard.specs.Guards.{GuardFields, AsSeen, HasSeenLawful, HasSeenOwn, Holding, HoldingToWrite, IsReady}

@@ -1,5 +1,5 @@
 -- What is lent to a section, and its copies.
-use Rattle.std.proofs.Common.{◌≡◌, ℕ, suc, arith, ◌+◌, ◌==◌, ◌||◌, Bool, true, false, cond, List, [], ◌∷◌, Some, None, refl, sym, ap, ◌∙◌}
+use Rattle.std.proofs.Common.{◌≡◌, ℕ, suc, arith, ◌+◌, ◌==◌, ◌||◌, Bool, true, false, cond, List, [], ◌∷◌, Some, None, refl, sym, ap, subst, ◌∙◌}
 use Rattle.std.specs.Prelude.{slice_get, slice_index_or, is_some}
 use Rattle.std.specs.FinSet.{contains, is_subset}
 use Rattle.std.specs.List.{AllByRecursion}
@@ -8,9 +8,9 @@ use Rattle.rset.proofs.SetLemmas.{within_at, contains_empty}
 use Rattle.rmodel.specs.declared.granted.Granted.{Granted}
 use Rattle.rmodel.specs.Holds.{nothing, is_within}
 use Rattle.rmodel.proofs.ListFacts.{all_at, all_from}
-use Rattle.rstate.specs.Lent.{LentFields, IsLent, has, places, at_place, index_of}
+use Rattle.rstate.specs.Lent.{LentFields, IsLent, Once, has, places, at_place, index_of}
 use Rattle.rstate.proofs.homes.Lists.{same_item}
-use Rattle.rstate.specs.Shares.{whole}
+use Rattle.rstate.specs.Shares.{ShareFields, whole}
 use Rattle.rstate.proofs.homes.Moved.{place_among}
 
 module _ {V : Type 0} where
@@ -29,6 +29,18 @@ module _ {V : Type 0} where
     writes_are = all_from (λ loan. (v : V) → slice_get values loan.0 ≡ Some v → loan.1 ≡ whole (seats + 1) (later2 loan.0 v)) lent.writes (λ loan there v listed.
         all_at (λ loan. (v : V) → slice_get values loan.0 ≡ Some v → loan.1 ≡ whole (seats + 1) (later loan.0 v)) lent.writes loan was.writes_are there v listed
         ∙ ap (whole (seats + 1)) (sym (writes loan.0 (sym (was.writes_has loan.0) ∙ place_among loan lent.writes there) v listed)));
+  }
+
+  -- what is lent, with more room
+  pub lent_reserved : (seats : ℕ) (g : Granted) (values : List V) (at later : ℕ → V → V) (lent roomy : LentFields V) → roomy.reads ≡ lent.reads → roomy.writes ≡ lent.writes
+      → IsLent seats g values at later lent → IsLent seats g values at later roomy
+  lent_reserved seats g values at later lent roomy reads writes was = record {
+    reads_once = subst (λ (xs : List (ℕ × V)). Once (places xs)) (sym reads) was.reads_once;
+    reads_has = λ l. ap (λ (xs : List (ℕ × V)). has l (places xs)) reads ∙ was.reads_has l;
+    reads_are = subst (λ (xs : List (ℕ × V)). AllByRecursion (λ loan. (v : V) → slice_get values loan.0 ≡ Some v → loan.1 ≡ at loan.0 v) xs) (sym reads) was.reads_are;
+    writes_once = subst (λ (xs : List (ℕ × ShareFields V)). Once (places xs)) (sym writes) was.writes_once;
+    writes_has = λ l. ap (λ (xs : List (ℕ × ShareFields V)). has l (places xs)) writes ∙ was.writes_has l;
+    writes_are = subst (λ (xs : List (ℕ × ShareFields V)). AllByRecursion (λ loan. (v : V) → slice_get values loan.0 ≡ Some v → loan.1 ≡ whole (seats + 1) (later loan.0 v)) xs) (sym writes) was.writes_are;
   }
 
   -- nothing is lent where nothing was taken

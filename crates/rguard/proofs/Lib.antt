@@ -10,6 +10,7 @@ pub mod Ending
 pub mod Beginning
 pub mod Reading
 pub mod Closing
+pub mod Copying
 pub mod Editing
 pub mod Sharing
 pub mod Halves

@@ -5,6 +5,7 @@ use Rattle.rclaim.specs.declared.event.Event.TheVariants.{Issue}
 use Rattle.rlock.specs.Known.{IsTrueOf, entered}
 use Rattle.rvalue.specs.Entries.{EntryFields}
 use Rattle.rstate.specs.Contents.{Contents}
+use Rattle.rstate.proofs.homes.Lists.{same_item}
 use Rattle.rvalue.specs.declared.act.Act.{Act}
 use Rattle.rguard.specs.declared.kind.GuardKind.{GuardKind}
 use Rattle.rguard.specs.Awaiting.{awaited_kind}
@@ -102,3 +103,15 @@ returns-in-Ok-clause-ok g c =
       goes = goes_on g.T.Editable.after g.T.Editable.taken g.T.Editable.number c.args.self.now k found c.requires.of tells c.history.ensures.lawful c.history.ensures.values now c.enter-turn.result.pass c.leave.result (bare (Issue k.number c.args.request) ∷ []) longer pass_is c.leave.ensures;
       turn = takes_turn g.T.Editable.after g.T.Editable.taken g.T.Editable.number c.args.self.now k found c.requires.of tells c.history.ensures.lawful c.history.ensures.values now c.enter-turn.result.pass c.leave.result (bare (Issue k.number c.args.request) ∷ []) longer pass_is c.leave.ensures;
     }
+
+pub leave-requires-clause-others : goal.leave-requires-clause-others
+leave-requires-clause-others g c = λ found is k differ.
+    ap (λ ts. slice_get ts k) c.issue.ensures.taken
+    ∙ ap (λ s. slice_get s.taken k) c.state-state.ensures.value
+    ∙ ap (λ s. slice_get s.taken k) (same_item c.enter-turn.result.state found (sym c.enter-turn.ensures.found ∙ is))
+
+pub leave-requires-in-Err-clause-others : goal.leave-requires-in-Err-clause-others
+leave-requires-in-Err-clause-others g c = λ found is k differ.
+    ap (λ ts. slice_get ts k) c.issue.ensures.taken
+    ∙ ap (λ s. slice_get s.taken k) c.state-state.ensures.value
+    ∙ ap (λ s. slice_get s.taken k) (same_item c.enter-turn.result.state found (sym c.enter-turn.ensures.found ∙ is))

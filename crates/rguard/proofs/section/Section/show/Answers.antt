@@ -50,3 +50,9 @@ returns-clause-number g c =
       c.shown-number.ensures ∙ ap g.T.Editable.number (same_item c.value_of.result.now (value_edited g.T.Editable.after s c.args.place there.0)
           (sym c.value_of.ensures ∙ ap (λ (own : List (ℕ × V)). value_among own c.self.inside.lent c.args.place) c.deref.ensures.value ∙ ap (λ (x : SectionFields V E). value_among x.own x.lent c.args.place) c.self.view_is ∙ there.2)),
     )
+
+pub returns-clause-act : goal.returns-clause-act
+returns-clause-act g c =
+    let is = c.self.view_is in
+    let acts_is = c.push_reserved.ensures.items ∙ ap (λ (acts : List (Act g.row.T-Edit.Denot)). acts ++ Shown c.args.place c.shown-number.result ∷ []) (c.reserve.ensures.items ∙ ap (λ (x : SectionFields g.row.T.Denot g.row.T-Edit.Denot). x.acts) is) in
+    (λ i. record { site = (is i).site; seat = (is i).seat; lent = (is i).lent; own = (is i).own; acts = acts_is i })
