@@ -21,3 +21,4 @@ pub mod Seeing
 pub mod Having
 pub mod Raising
 pub mod Held
+pub mod Resting

@@ -5,3 +5,4 @@ pub mod Copies
 pub mod Awaiting
 pub mod Looks
 pub mod Closing
+pub mod Resting
