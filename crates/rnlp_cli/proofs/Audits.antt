@@ -2,7 +2,7 @@
 use Rattle.std.proofs.Common.{◌≡◌, ℕ, List, [], ◌∷◌, ◌++◌, codes, decimal, ap, ◌∙◌, arith, append_assoc}
 use Rattle.std.proofs.lemmas.Fmt.{decimal_digit}
 use Rattle.rforms.specs.Texts.{text_of}
-use Rattle.rnlp_cli.specs.Outputs.{audit_text}
+use Rattle.ranswer.specs.Outputs.{audit_text}
 
 pub audit_is : (events : ℕ) → audit_text events ≡ (codes "audit," ++ decimal events) ++ codes ",0\nend\n"
 audit_is events =

@@ -1,17 +1,6 @@
--- The forms of the program's words.
+-- What the program says of itself, and for which words.
 use Rattle.std.specs.Prelude.{ℕ, List, [], ◌∷◌, ◌++◌, Option, Some, None, codes, if◌then◌else◌}
 use Rattle.std.specs.Str.{bytes_eq}
-use Rattle.rnlp_cli.specs.declared.words.Command.{Command}
-use Rattle.rnlp_cli.specs.declared.words.Command.TheVariants.{Replay, Audit}
-
--- what these words ask of the tools, if anything
-abbrev pub command_in : List (List ℕ) → Option Command
-command_in [] = None
-command_in (word ∷ []) =
-    if bytes_eq word (codes "replay") then Some Replay
-    else if bytes_eq word (codes "audit") then Some Audit
-    else None
-command_in (word ∷ next ∷ words) = None
 
 -- what `--help` writes
 unfoldable pub help_text : List ℕ

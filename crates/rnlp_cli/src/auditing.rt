@@ -1,6 +1,6 @@
 // What is told of a report that was audited.
 ghost use Rattle.std.specs.Prelude.{◌≡◌, IfOk};
-ghost use Rattle.rnlp_cli.specs.Outputs.{audit_text};
+ghost use Rattle.ranswer.specs.Outputs.{audit_text};
 
 use itoa::Buffer;
 use std::alloc::{AllocError, Global};

@@ -1,14 +1,14 @@
 // The edge of the program: all of `main` but its handles.
 ghost use Rattle.std.specs.Prelude.{◌≡◌, ◌≢◌, ◌⊎◌, map, string_bytes, drop, IfErr};
 ghost use Rattle.std.specs.Process.{exit_status};
-ghost use Rattle.rnlp_cli.specs.Status.{status_number};
-ghost use Rattle.rnlp_cli.specs.Answer.{ProgramAnswer, RunAnswer};
+ghost use Rattle.ranswer.specs.Status.{status_number};
+ghost use Rattle.rnlp_cli.specs.Program.{ProgramAnswer, RunAnswer};
 
 use crate::explain::{Told, explain};
 use crate::own::own_text;
-use crate::status::ToolStatus;
 use crate::tool::told_tool;
 use io_ends::{Sink, Source, write_all};
+use ranswer::ToolStatus;
 use std::alloc::Global;
 use std::env;
 use std::io::ErrorKind;

@@ -1,5 +1,5 @@
 // What a person is told on standard error.
-use crate::status::ToolStatus;
+use ranswer::ToolStatus;
 use rclaim::RequestErr;
 use rforms::{Code, Fault, Refusal};
 use rmodel::Refused;

@@ -1,7 +1,7 @@
 //! The tools of the program `rnlp` over any source and sink, and the program's edge.
 //!
-//! What a tool answers is one record, `ToolAnswer`: each status has its cause, and each cause its status. The whole
-//! program but its handles is `run`, whose exit status is that of the words that it was given.
+//! What a tool answers is one record, `ToolAnswer` of `ranswer`: each status has its cause, and each cause its status. The
+//! whole program but its handles is `run`, whose exit status is that of the words that it was given.
 #![tactic(auto)]
 
 mod auditing;
@@ -9,12 +9,8 @@ mod edge;
 mod expected;
 mod explain;
 mod own;
-mod replaying;
-mod status;
 mod tool;
-mod words;
 
 pub use edge::{answer, run, words_of};
-pub use status::ToolStatus;
+pub use ranswer::{LIST_LIMIT, ToolStatus};
 pub use tool::plain_tool;
-pub use words::LIST_LIMIT;

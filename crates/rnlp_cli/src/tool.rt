@@ -1,19 +1,19 @@
 // The tools that wait for nobody.
-ghost use Rattle.std.specs.Prelude.{◌≡◌, ◌++◌, Some, map, string_bytes};
+ghost use Rattle.std.specs.Prelude.{◌≡◌, ◌++◌, Some, [], map, string_bytes};
 ghost use Rattle.io_ends.specs.Faults.{Rose};
-ghost use Rattle.rnlp_cli.specs.Words.{command_in};
-ghost use Rattle.rnlp_cli.specs.Answer.{ToolAnswer};
-ghost use Rattle.rnlp_cli.specs.Outputs.{audit_text};
-ghost use Rattle.rnlp_cli.specs.Writing.{IsAnswer, IsWritten, IsRefused};
+ghost use Rattle.ranswer.specs.Words.{plain_in, IsPlain};
+ghost use Rattle.ranswer.specs.Answer.{ToolAnswer};
+ghost use Rattle.ranswer.specs.Outputs.{audit_text};
+ghost use Rattle.ranswer.specs.Writing.{IsAnswer, IsWritten, IsTold};
+ghost use Rattle.rreport.specs.ErrorLine.{error_line};
 
 use crate::auditing::audit_text;
 use crate::expected::expected;
 use crate::explain::Told;
-use crate::replaying::{Replayed, replay_of};
-use crate::status::ToolStatus;
-use crate::words::{Command, command_of};
-use io_ends::{ReadErr, Sink, Source, read_all, write_all};
+use io_ends::{Sink, Source};
+use ranswer::{Command, ToolStatus, plain_of, read_input, write_line, write_output};
 use rforms::{Fault, TextErr};
+use rreplay::{Replayed, replay_of};
 use rreport::{error_line, write_parts};
 use rtrace::{Counting, count_events};
 use std::alloc::Global;
@@ -28,7 +28,7 @@ pub fn plain_tool<S: Source, K: Sink>(
     source: &mut S,
     sink: &mut K,
 ) -> ToolStatus
-    ensures { ToolAnswer S.left S.faults K.written K.faults (command_in (map string_bytes words.now)) source.old source.new sink.old sink.new result }
+    ensures { ToolAnswer S.left S.faults K.written K.faults [] (plain_in (map string_bytes words.now)) source.old source.new sink.old sink.new result }
 {
     told_tool(alloc, words, source, sink, &mut None)
 }
@@ -41,20 +41,18 @@ pub fn told_tool<S: Source, K: Sink>(
     sink: &mut K,
     told: &mut Option<Told>,
 ) -> ToolStatus
-    ensures { ToolAnswer S.left S.faults K.written K.faults (command_in (map string_bytes words.now)) source.old source.new sink.old sink.new result }
+    ensures { ToolAnswer S.left S.faults K.written K.faults [] (plain_in (map string_bytes words.now)) source.old source.new sink.old sink.new result }
 {
-    let Some(command) = command_of(words) else {
+    let Some(command) = plain_of(words) else {
         return ToolStatus::Words;
     };
-    match read_all(alloc, source, command.limit()) {
+    match read_input(alloc, command, source) {
         Ok(bytes) => run_command(alloc, command, &bytes, sink, told),
-        Err(ReadErr::ReadFault) => ToolStatus::ReadFault,
-        Err(ReadErr::TooLong) => ToolStatus::TooLong,
-        Err(ReadErr::Memory) => ToolStatus::NoMemory,
+        Err(status) => status,
     }
 }
 
-// Answers a command for an input that was read.
+// Answers a command for the input that was read.
 fn run_command<K: Sink>(
     alloc: Global,
     command: Command,
@@ -62,17 +60,19 @@ fn run_command<K: Sink>(
     sink: &mut K,
     told: &mut Option<Told>,
 ) -> ToolStatus
-    ensures { IsAnswer (Some command) bytes.now (K.written sink.old) (K.written sink.new) (K.faults sink.new ≡ K.faults sink.old) (Rose (K.faults sink.old) (K.faults sink.new)) (sink.new ≡ sink.old) result }
+    requires { IsPlain command }
+    ensures { IsAnswer [] (Some command) bytes.now (K.written sink.old) (K.written sink.new) (K.faults sink.new ≡ K.faults sink.old) (Rose (K.faults sink.old) (K.faults sink.new)) (sink.new ≡ sink.old) result }
 {
     match command {
         Command::Replay => replay(alloc, bytes, sink, told),
         Command::Audit => audit(alloc, bytes, sink, told),
+        Command::Run | Command::Drill(_) => unreachable!(),
     }
 }
 
 // Writes the report of an event list.
 fn replay<K: Sink>(alloc: Global, bytes: &[u8], sink: &mut K, told: &mut Option<Told>) -> ToolStatus
-    ensures { IsAnswer (Some Command.Replay) bytes.now (K.written sink.old) (K.written sink.new) (K.faults sink.new ≡ K.faults sink.old) (Rose (K.faults sink.old) (K.faults sink.new)) (sink.new ≡ sink.old) result }
+    ensures { IsAnswer [] (Some Command.Replay) bytes.now (K.written sink.old) (K.written sink.new) (K.faults sink.new ≡ K.faults sink.old) (Rose (K.faults sink.old) (K.faults sink.new)) (sink.new ≡ sink.old) result }
 {
     match replay_of(alloc, bytes) {
         Ok(made) => report(&made, sink),
@@ -104,7 +104,7 @@ fn report<K: Sink>(made: &Replayed, sink: &mut K) -> ToolStatus
 
 // Checks a report, and writes how many events it has.
 fn audit<K: Sink>(alloc: Global, bytes: &[u8], sink: &mut K, told: &mut Option<Told>) -> ToolStatus
-    ensures { IsAnswer (Some Command.Audit) bytes.now (K.written sink.old) (K.written sink.new) (K.faults sink.new ≡ K.faults sink.old) (Rose (K.faults sink.old) (K.faults sink.new)) (sink.new ≡ sink.old) result }
+    ensures { IsAnswer [] (Some Command.Audit) bytes.now (K.written sink.old) (K.written sink.new) (K.faults sink.new ≡ K.faults sink.old) (Rose (K.faults sink.old) (K.faults sink.new)) (sink.new ≡ sink.old) result }
 {
     let mut counting = Counting::new(alloc);
     match count_events(alloc, bytes, &mut counting) {
@@ -127,20 +127,16 @@ fn tell<K: Sink>(alloc: Global, events: u64, sink: &mut K) -> ToolStatus
     let Ok(text) = audit_text(alloc, events) else {
         return ToolStatus::NoMemory;
     };
-    match write_all(sink, &text) {
-        Ok(()) => ToolStatus::Done,
-        Err(_) => ToolStatus::WriteFault,
-    }
+    write_output(sink, &text)
 }
 
-// Writes the line of a fault.
+// Writes the line of the fault of a list or a report.
 fn refuse<K: Sink>(alloc: Global, fault: Fault, sink: &mut K) -> ToolStatus
-    ensures { IsRefused fault (K.written sink.old) (K.written sink.new) (K.faults sink.new ≡ K.faults sink.old) (Rose (K.faults sink.old) (K.faults sink.new)) (sink.new ≡ sink.old) result }
+    ensures { IsTold (error_line fault) (K.written sink.old) (K.written sink.new) (K.faults sink.new ≡ K.faults sink.old) (Rose (K.faults sink.old) (K.faults sink.new)) (sink.new ≡ sink.old) ToolStatus.Trace result }
 {
-    let Ok(text) = error_line(alloc, fault) else {
+    let Ok(line) = error_line(alloc, fault) else {
         return ToolStatus::NoMemory;
     };
-    match write_all(sink, &text) {
-        Ok(()) | Err(_) => ToolStatus::Trace,
-    }
+    write_line(sink, &line);
+    ToolStatus::Trace
 }

@@ -1,0 +1,58 @@
+// The words after the program's name, and what they ask for.
+ghost use Rattle.std.specs.Prelude.{◌≡◌, Some, IfSome, map, string_bytes};
+ghost use Rattle.ranswer.specs.Words.{run_in, plain_in, IsPlain};
+ghost use Rattle.ranswer.specs.Outputs.{limit_of};
+
+/// What words ask for.
+#[derive(Clone, Copy, Debug, PartialEq, Eq)]
+pub enum Command {
+    /// `run`: run the tasks of a script, and write the report of what happened.
+    Run,
+    /// `replay`: apply a list of events, and write its report.
+    Replay,
+    /// `audit`: check a report, and write how many events it has.
+    Audit,
+    /// `drill N`: draw so many events, and write their summary. It reads no input.
+    Drill(u32),
+}
+
+/// The most bytes that an event list or a report may have.
+pub const LIST_LIMIT: usize = 67_108_864;
+
+/// The most bytes that a script may have.
+pub const SCRIPT_LIMIT: usize = 1_048_576;
+
+impl Command {
+    /// The most bytes that its input may have; None where it reads no input.
+    pub fn limit(self) -> Option<usize>
+        ensures { result ≡ limit_of (Some self) }
+    {
+        match self {
+            Command::Run => Some(SCRIPT_LIMIT),
+            Command::Replay | Command::Audit => Some(LIST_LIMIT),
+            Command::Drill(_) => None,
+        }
+    }
+}
+
+/// What the words ask of the tool that waits for its workers; None where they are no form of it.
+pub fn run_of(words: &[String]) -> Option<Command>
+    ensures { result ≡ run_in (map string_bytes words.now) }
+{
+    match words {
+        [word] if word.as_str() == "run" => Some(Command::Run),
+        _ => None,
+    }
+}
+
+/// What the words ask of the tools that wait for nobody; None where they are no form of one.
+pub fn plain_of(words: &[String]) -> Option<Command>
+    ensures asked { result ≡ plain_in (map string_bytes words.now) }
+    ensures plain { IfSome result IsPlain }
+{
+    match words {
+        [word] if word.as_str() == "replay" => Some(Command::Replay),
+        [word] if word.as_str() == "audit" => Some(Command::Audit),
+        _ => None,
+    }
+}

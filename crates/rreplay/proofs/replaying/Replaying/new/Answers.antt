@@ -1,0 +1,11 @@
+use Rattle.std.proofs.Common.{sym, ◌∙◌}
+use Rattle.rforms.specs.SoFar.{nothing_yet, head_in, names_in}
+use Rattle.rreplay.proofs.Following.{no_text}
+use Rattle.rreplay.proofs.replaying.Replaying.new.Goals as goal
+
+pub returns : goal.returns
+returns c = record {
+  reading = c.new.ensures;
+  history = c.new-2.ensures ∙ sym (no_text (head_in nothing_yet) (names_in nothing_yet));
+  names = tt;
+}

@@ -1,0 +1,9 @@
+//! The report of an event list, made in one pass: each event is stepped once, and no event is kept.
+//!
+//! What is made is the text of the report that reading the list and writing its report would give, in the three parts in
+//! which it was made.
+#![tactic(auto)]
+
+mod replaying;
+
+pub use replaying::{Replayed, replay_of};
