@@ -6,7 +6,10 @@
 
 use io_ends::{MemSink, MemSource};
 use rnlp_cli::{ToolStatus, answer};
+use rrun::NoPace;
 use std::alloc::{AllocError, Global};
+use std::sync::Wait;
+use std::thread::Threads;
 use std::{fs, io};
 
 // More bytes than any output here has.
@@ -45,8 +48,8 @@ fn main(rt: HostRuntime) -> io::Result<()> {
 }
 
 // Counts a case, and names it where it does not agree.
-fn count_case(
-    rt: &impl Print,
+fn count_case<R: Print + Threads + Wait + Sync>(
+    rt: &R,
     alloc: Global,
     text: &str,
     is_odd: bool,
@@ -56,7 +59,7 @@ fn count_case(
     let Some(case) = case_in(text) else {
         return println!(rt; "no case: {text}");
     };
-    if agrees(alloc, &case, is_odd)? {
+    if agrees(rt, alloc, &case, is_odd)? {
         count.agreed = count.agreed.saturating_add(1);
         Ok(())
     } else {
@@ -80,13 +83,27 @@ fn case_in(text: &str) -> Option<Case<'_>> {
 }
 
 // Whether a run of the case ends with its status and writes its output.
-fn agrees(alloc: Global, case: &Case<'_>, is_odd: bool) -> Result<bool, AllocError> {
+fn agrees<R: Threads + Wait + Sync>(
+    rt: &R,
+    alloc: Global,
+    case: &Case<'_>,
+    is_odd: bool,
+) -> Result<bool, AllocError> {
     let words = words_in(alloc, case.words)?;
     let input = bytes_of(alloc, case.input, is_odd)?;
     let output = bytes_of(alloc, case.output, is_odd)?;
     let mut source = MemSource::new(input, Vec::new(alloc));
     let mut sink = MemSink::new(alloc, ROOM, Vec::new(alloc))?;
-    let status = answer(alloc, &words, &mut source, &mut sink);
+    let mut receipts = Vec::new(alloc);
+    let status = answer(
+        rt,
+        alloc,
+        &words,
+        &mut source,
+        &mut sink,
+        &NoPace,
+        &mut receipts,
+    );
     Ok(is_status(status, case.status) && sink.written() == output.as_slice())
 }
 

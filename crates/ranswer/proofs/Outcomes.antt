@@ -63,6 +63,20 @@ written watchers asked bytes text before after quiet failed same status.Words ou
 written watchers asked bytes text before after quiet failed same status.ReadFault out h = absurd h
 written watchers asked bytes text before after quiet failed same status.TooLong out h = absurd h
 
+-- a text that was written without want of memory
+surely : (text : List ℕ) (before after : Option (List ℕ)) (quiet failed same : Type 0) (s : ToolStatus) → IsWritten text before after quiet failed ⊥ s → IsWritten text before after quiet failed same s
+surely text before after quiet failed same status.Done h = h
+surely text before after quiet failed same status.WriteFault h = h
+surely text before after quiet failed same status.NoMemory h = absurd h
+surely text before after quiet failed same status.Script h = absurd h
+surely text before after quiet failed same status.Trace h = absurd h
+surely text before after quiet failed same status.Words h = absurd h
+surely text before after quiet failed same status.ReadFault h = absurd h
+surely text before after quiet failed same status.TooLong h = absurd h
+
+pub surely_written : (made text : List ℕ) (before after : Option (List ℕ)) (quiet failed same : Type 0) (s : ToolStatus) → made ≡ text → IsWritten made before after quiet failed ⊥ s → IsWritten text before after quiet failed same s
+surely_written made text before after quiet failed same s is h = surely text before after quiet failed same s (subst (λ t. IsWritten t before after quiet failed ⊥ s) is h)
+
 -- a command that refuses so answers so, where the line of the first fault was written
 refused : (watchers : List Seen) (asked : Option Command) (bytes line : List ℕ) (before after : Option (List ℕ)) (quiet failed same : Type 0) (under : ToolStatus)
     → refusal_of asked ≡ Some under → IsFaultLine asked bytes line → LineWritten line before after quiet failed → IsAnswer watchers asked bytes before after quiet failed same under

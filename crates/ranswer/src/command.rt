@@ -1,6 +1,6 @@
 // The words after the program's name, and what they ask for.
-ghost use Rattle.std.specs.Prelude.{◌≡◌, Some, IfSome, map, string_bytes};
-ghost use Rattle.ranswer.specs.Words.{run_in, plain_in, IsPlain};
+ghost use Rattle.std.specs.Prelude.{◌≡◌, Some, None, IfSome, map, string_bytes, if◌then◌else◌};
+ghost use Rattle.ranswer.specs.Words.{command_in, run_in, plain_in, IsPlain};
 ghost use Rattle.ranswer.specs.Outputs.{limit_of};
 
 /// What words ask for.
@@ -35,13 +35,23 @@ impl Command {
     }
 }
 
-/// What the words ask of the tool that waits for its workers; None where they are no form of it.
-pub fn run_of(words: &[String]) -> Option<Command>
-    ensures { result ≡ run_in (map string_bytes words.now) }
+/// Whether the words are for the tool that waits for its workers: the first of them is `run`.
+pub fn are_for_run(words: &[String]) -> bool
+    ensures { command_in (map string_bytes words.now) ≡ (if result then run_in (map string_bytes words.now) else plain_in (map string_bytes words.now)) }
 {
     match words {
-        [word] if word.as_str() == "run" => Some(Command::Run),
-        _ => None,
+        [word, ..] => word.as_str() == "run",
+        [] => false,
+    }
+}
+
+/// Whether the words ask for a run.
+pub fn ask_for_run(words: &[String]) -> bool
+    ensures { run_in (map string_bytes words.now) ≡ (if result then Some Command.Run else None) }
+{
+    match words {
+        [word] => word.as_str() == "run",
+        _ => false,
     }
 }
 

@@ -6,9 +6,10 @@ ghost use Rattle.ranswer.specs.Writing.{IsWritten, LineWritten};
 use crate::ToolStatus;
 use io_ends::{Sink, write_all};
 
-/// Writes an output that was made, and answers how that ended: done, or a fault of the sink behind a front part of it.
+/// Writes an output that was made, and answers how that ended: done, or a fault of the sink behind a front part of it. It
+/// takes no memory.
 pub fn write_output<K: Sink>(sink: &mut K, text: &[u8]) -> ToolStatus
-    ensures { IsWritten text.now (K.written sink.old) (K.written sink.new) (K.faults sink.new ≡ K.faults sink.old) (Rose (K.faults sink.old) (K.faults sink.new)) (sink.new ≡ sink.old) result }
+    ensures { IsWritten text.now (K.written sink.old) (K.written sink.new) (K.faults sink.new ≡ K.faults sink.old) (Rose (K.faults sink.old) (K.faults sink.new)) ⊥ result }
 {
     match write_all(sink, text) {
         Ok(()) => ToolStatus::Done,

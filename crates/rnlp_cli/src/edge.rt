@@ -6,63 +6,88 @@ ghost use Rattle.rnlp_cli.specs.Program.{ProgramAnswer, RunAnswer};
 
 use crate::explain::{Told, explain};
 use crate::own::own_text;
+use crate::running::told_run;
 use crate::tool::told_tool;
-use io_ends::{Sink, Source, write_all};
-use ranswer::ToolStatus;
+use io_ends::{Sink, Source};
+use ranswer::{ToolStatus, are_for_run, write_output};
+use rguard::Receipt;
+use rrun::Pace;
+use rvalue::Edit;
 use std::alloc::Global;
 use std::env;
 use std::io::ErrorKind;
 use std::process::ExitCode;
 use std::rt::Env;
+use std::sync::Wait;
+use std::thread::Threads;
 
 /// Runs the program: answers the words that it was started with, tells a person on standard error what went wrong, and
 /// gives the exit status.
 ///
 /// Which words an environment holds no contract can say: `words_of` takes those behind the program's name.
-pub fn run<R: Env + AllocGlobal + Eprint, S: Source, K: Sink>(
+pub fn run<R: Env + AllocGlobal + Eprint + Threads + Wait + Sync, S: Source, K: Sink, G: Pace>(
     rt: &R,
     source: &mut S,
     sink: &mut K,
+    pace: &G,
+    receipts: &mut Vec<Receipt<Edit>>,
 ) -> ExitCode
-    ensures { (status : ToolStatus) × (exit_status result ≡ status_number status) × RunAnswer S.left S.faults K.written K.faults source.old source.new sink.old sink.new status }
+    ensures { (status : ToolStatus) × (exit_status result ≡ status_number status)
+        × RunAnswer S.left S.faults K.written K.faults source.old source.new sink.old sink.new receipts.old.items receipts.new.items status }
 {
     let mut told = None;
     let status = match words_of(rt) {
-        Ok(words) => told_answer(rt.alloc(), &words, source, sink, &mut told),
+        Ok(words) => told_answer(
+            rt,
+            rt.alloc(),
+            &words,
+            source,
+            sink,
+            pace,
+            receipts,
+            &mut told,
+        ),
         Err(status) => status,
     };
     explain(rt, status, told);
     ExitCode::from(status.number())
 }
 
-/// Answers the words that ask about the program itself, and else runs the tool that they name.
-pub fn answer<S: Source, K: Sink>(
+/// Answers the words that ask about the program itself, and else runs the tool that they are for.
+pub fn answer<R: Threads + Wait + Sync, S: Source, K: Sink, G: Pace>(
+    rt: &R,
     alloc: Global,
     words: &[String],
     source: &mut S,
     sink: &mut K,
+    pace: &G,
+    receipts: &mut Vec<Receipt<Edit>>,
 ) -> ToolStatus
-    ensures { ProgramAnswer S.left S.faults K.written K.faults (map string_bytes words.now) source.old source.new sink.old sink.new result }
+    ensures { ProgramAnswer S.left S.faults K.written K.faults (map string_bytes words.now) source.old source.new sink.old sink.new receipts.old.items receipts.new.items result }
 {
-    told_answer(alloc, words, source, sink, &mut None)
+    told_answer(rt, alloc, words, source, sink, pace, receipts, &mut None)
 }
 
 // The same; and the first fault of an input that is refused is put into `told` too, for a person.
-fn told_answer<S: Source, K: Sink>(
+fn told_answer<R: Threads + Wait + Sync, S: Source, K: Sink, G: Pace>(
+    rt: &R,
     alloc: Global,
     words: &[String],
     source: &mut S,
     sink: &mut K,
+    pace: &G,
+    receipts: &mut Vec<Receipt<Edit>>,
     told: &mut Option<Told>,
 ) -> ToolStatus
-    ensures { ProgramAnswer S.left S.faults K.written K.faults (map string_bytes words.now) source.old source.new sink.old sink.new result }
+    ensures { ProgramAnswer S.left S.faults K.written K.faults (map string_bytes words.now) source.old source.new sink.old sink.new receipts.old.items receipts.new.items result }
 {
-    match own_text(words) {
-        Some(text) => match write_all(sink, text) {
-            Ok(()) => ToolStatus::Done,
-            Err(_) => ToolStatus::WriteFault,
-        },
-        None => told_tool(alloc, words, source, sink, told),
+    if let Some(text) = own_text(words) {
+        return write_output(sink, text);
+    }
+    if are_for_run(words) {
+        told_run(rt, alloc, words, source, sink, pace, receipts, told)
+    } else {
+        told_tool(alloc, words, source, sink, told)
     }
 }
 

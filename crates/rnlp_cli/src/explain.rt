@@ -3,25 +3,35 @@ use ranswer::ToolStatus;
 use rclaim::RequestErr;
 use rforms::{Code, Fault, Refusal};
 use rmodel::Refused;
+use rscript::Code as ScriptCode;
 use std::io;
 
-/// What is told of a refused input.
+/// What is told of a refused input: its first fault.
 #[derive(Drop)]
-pub struct Told {
-    /// Its first fault.
-    pub fault: Fault,
-    /// The line that is due in its place, where one is.
-    pub expected: Option<String>,
+pub enum Told {
+    /// Of an event list or a report, and the line that is due in its place, where one is.
+    List {
+        fault: Fault,
+        expected: Option<String>,
+    },
+    /// Of a script: the record's number, counted from 1, and what is wrong with it.
+    Script {
+        line: u64,
+        code: ScriptCode,
+    },
 }
 
 /// Tells a person what a status means, and of a refused input what is wrong with which record, and which line is due there.
 pub fn explain(rt: &impl Eprint, status: ToolStatus, told: Option<Told>) {
     match told {
-        Some(told) => {
-            let _ = explain_fault(rt, told.fault);
-            if let Some(line) = told.expected {
+        Some(Told::List { fault, expected }) => {
+            let _ = explain_fault(rt, fault);
+            if let Some(line) = expected {
                 let _ = rt.eprintln(format_args!("rnlp: expected: {line}"));
             }
+        }
+        Some(Told::Script { line, code }) => {
+            let _ = explain_script(rt, line, code);
         }
         None => {
             let _ = explain_status(rt, status);
@@ -33,7 +43,7 @@ fn explain_status(rt: &impl Eprint, status: ToolStatus) -> io::Result<()> {
     let meaning = match status {
         ToolStatus::Done => return Ok(()),
         ToolStatus::Words => {
-            "no such form. A form reads standard input: rnlp replay < LIST, or rnlp audit < REPORT. rnlp --help tells all"
+            "no such form. A form reads standard input: rnlp run < SCRIPT, rnlp replay < LIST, or rnlp audit < REPORT. rnlp --help tells all"
         }
         ToolStatus::ReadFault => "standard input failed",
         ToolStatus::WriteFault => "standard output failed",
@@ -45,6 +55,12 @@ fn explain_status(rt: &impl Eprint, status: ToolStatus) -> io::Result<()> {
     rt.eprintln(format_args!("rnlp: {meaning}"))
 }
 
+fn explain_script(rt: &impl Eprint, line: u64, code: ScriptCode) -> io::Result<()> {
+    let meaning = meaning_in_script(code);
+    let number = code.number();
+    rt.eprintln(format_args!("rnlp: record {line}: {meaning} (code {number})"))
+}
+
 fn explain_fault(rt: &impl Eprint, fault: Fault) -> io::Result<()> {
     let line = fault.line;
     match fault.code {
@@ -53,6 +69,29 @@ fn explain_fault(rt: &impl Eprint, fault: Fault) -> io::Result<()> {
             rt.eprintln(format_args!("rnlp: record {line}: the event is refused: {cause}"))
         }
         code => rt.eprintln(format_args!("rnlp: record {line}: {}", meaning_of(code))),
+    }
+}
+
+fn meaning_in_script(code: ScriptCode) -> &'static str {
+    match code {
+        ScriptCode::BadField =>
+            "it is no record of a script, has another number of fields, or the version is not 1",
+        ScriptCode::BadOrder => "it may not stand at this place",
+        ScriptCode::NoResources => "no resource stands before it",
+        ScriptCode::NoTask => "no task stands before it",
+        ScriptCode::BadName => "the name that it declares is none",
+        ScriptCode::Repeated => "the name that it declares is declared already",
+        ScriptCode::TooMany => "there are as many resources, tasks or groups as there may be",
+        ScriptCode::UnknownName => "it names a resource that is not declared",
+        ScriptCode::BadNumber => "a number of it is none, or above its limit",
+        ScriptCode::EmptyGroup => "its group is empty",
+        ScriptCode::EmptyRequest => "its request is about nothing",
+        ScriptCode::Undeclared => "the resources to read are not declared together",
+        ScriptCode::FirstOutside => "the first part is empty, or not within the request",
+        ScriptCode::NotHeld =>
+            "it shows or edits what the section does not hold, or asks for nothing or for more than the request",
+        ScriptCode::NotWritable => "it edits what the section holds for reading only",
+        ScriptCode::NoEnd => "the script has no end record",
     }
 }
 

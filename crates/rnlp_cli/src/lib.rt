@@ -9,8 +9,10 @@ mod edge;
 mod expected;
 mod explain;
 mod own;
+mod running;
 mod tool;
 
 pub use edge::{answer, run, words_of};
 pub use ranswer::{LIST_LIMIT, ToolStatus};
+pub use running::run_tool;
 pub use tool::plain_tool;

@@ -77,7 +77,7 @@ fn replay<K: Sink>(alloc: Global, bytes: &[u8], sink: &mut K, told: &mut Option<
     match replay_of(alloc, bytes) {
         Ok(made) => report(&made, sink),
         Err(TextErr::Bad(fault)) => {
-            *told = Some(Told {
+            *told = Some(Told::List {
                 fault,
                 expected: None,
             });
@@ -110,7 +110,7 @@ fn audit<K: Sink>(alloc: Global, bytes: &[u8], sink: &mut K, told: &mut Option<T
     match count_events(alloc, bytes, &mut counting) {
         Ok(events) => tell(alloc, events, sink),
         Err(TextErr::Bad(fault)) => {
-            *told = Some(Told {
+            *told = Some(Told::List {
                 fault,
                 expected: expected(alloc, &counting.reading, fault.code),
             });

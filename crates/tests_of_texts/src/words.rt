@@ -4,10 +4,13 @@ ghost use Rattle.std.specs.Io.{WritesAtMost};
 use crate::runs::{SMALLEST, SMALLEST_REPORT};
 use io_ends::{MemSink, MemSource};
 use rnlp_cli::{ToolStatus, answer, words_of};
+use rrun::NoPace;
 use std::alloc::Global;
 use std::env::FillError;
 use std::rt::Env;
+use std::sync::Wait;
 use std::test::Fail;
+use std::thread::Threads;
 
 // An environment whose program was started with these arguments; its own name is the first.
 #[derive(Drop)]
@@ -88,20 +91,29 @@ fn words_that_are_no_text_are_wrong(rt: HostRuntime) {
 }
 
 // Whether the first write of what these words ask fails, and nothing else is answered.
-fn breaks_off(alloc: Global, word: &str) -> Result<bool, Fail> {
+fn breaks_off<R: Threads + Wait + Sync>(rt: &R, alloc: Global, word: &str) -> Result<bool, Fail> {
     let mut words = Vec::new(alloc);
     words.push(String::from_str(alloc, word)?)?;
     let mut source = MemSource::new(SMALLEST.to_vec(alloc)?, Vec::new(alloc));
     let mut sink = MemSink::new(alloc, SMALLEST_REPORT.len(), [1].to_vec(alloc)?)?;
-    let status = answer(alloc, &words, &mut source, &mut sink);
+    let mut receipts = Vec::new(alloc);
+    let status = answer(
+        rt,
+        alloc,
+        &words,
+        &mut source,
+        &mut sink,
+        &NoPace,
+        &mut receipts,
+    );
     Ok(status == ToolStatus::WriteFault && sink.written().is_empty())
 }
 
 #[test]
 fn a_text_of_the_program_is_broken_off(rt: HostRuntime) -> Result<(), Fail> {
-    let help = breaks_off(rt.alloc(), "--help")?;
-    let version = breaks_off(rt.alloc(), "--version")?;
-    let replay = breaks_off(rt.alloc(), "replay")?;
+    let help = breaks_off(&rt, rt.alloc(), "--help")?;
+    let version = breaks_off(&rt, rt.alloc(), "--version")?;
+    let replay = breaks_off(&rt, rt.alloc(), "replay")?;
     assert!(rt; help && version && replay);
     Ok(())
 }

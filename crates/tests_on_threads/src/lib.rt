@@ -17,3 +17,5 @@ mod sections;
 mod signing;
 #[cfg(test)]
 mod tasks;
+#[cfg(test)]
+mod tools;
