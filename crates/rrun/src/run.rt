@@ -8,11 +8,13 @@ ghost use Rattle.rrun.specs.Reporting.{HasOpened, TellsHeadOf, IsReportOf};
 
 use crate::Pace;
 use crate::tasks::{Ended, run_tasks};
+use rexpand::Groups;
 use rguard::{Closed, Receipt, Rnlp, Seat};
 use rmodel::Machine;
 use rplain::Plain;
 use rreport::Report;
 use rscript::Script;
+use rset::NameTable;
 use rvalue::{Edit, Ledger};
 use std::alloc::{AllocError, Global};
 use std::sync::{Arc, Wait};
@@ -98,15 +100,51 @@ fn report_of(
     ensures receipt { IfOk result (λ r. r.1 ≡ closed.2) }
 {
     let (history, values, receipt) = closed;
+    let Head {
+        resources,
+        groups,
+        tasks,
+        ledgers,
+    } = head_of(alloc, script, values.as_slice())?;
     let report = Report {
-        resources: script.resources().copy(alloc)?,
-        groups: script.groups().copy(alloc)?,
-        tasks: script.tasks().copy(alloc)?,
+        resources,
+        groups,
+        tasks,
         cap: script.tasks().len(),
         history,
-        ledgers: ledgers_of(alloc, values.as_slice())?,
+        ledgers,
     };
     Ok((report, receipt))
+}
+
+// What a report has beside its history.
+#[derive(Drop)]
+struct Head {
+    resources: NameTable,
+    groups: Groups,
+    tasks: NameTable,
+    ledgers: Vec<Ledger>,
+}
+
+// What the script declares, and the ledgers of which these are shares.
+fn head_of(
+    alloc: Global,
+    script: &Script,
+    values: &[Arc<Ledger, Global>],
+) -> Result<Head, AllocError>
+    ensures declared { IfOk result (λ b. (b.resources ≡ script.now.resources) × (b.groups ≡ record { q = length script.now.resources; groups = script.now.groups }) × (b.tasks ≡ script.now.tasks)) }
+    ensures ledgers { IfOk result (λ b. b.ledgers.items ≡ map arc_value values.now) }
+{
+    let ledgers = ledgers_of(alloc, values)?;
+    let groups = script.groups().copy(alloc)?;
+    let resources = script.resources().copy(alloc)?;
+    let tasks = script.tasks().copy(alloc)?;
+    Ok(Head {
+        resources,
+        groups,
+        tasks,
+        ledgers,
+    })
 }
 
 // The ledgers of which these are shares.
