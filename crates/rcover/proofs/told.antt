@@ -5,3 +5,4 @@ pub mod OneClaim
 pub mod Runs
 pub mod Waits
 pub mod Few
+pub mod Tracking

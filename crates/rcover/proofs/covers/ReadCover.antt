@@ -86,7 +86,7 @@ entitled_without v m a h = record {
 }
 
 -- the write, once satisfied, is so from then on
-satisfied_on : (v : Claim) (s : LockState) (es : List Event) → IsReached s → AreAccepted s es → AllByRecursion (IsActiveWrite v) (moments s es) → Sat v s.claims → moments_without v (moments s es) ≡ []
+pub satisfied_on : (v : Claim) (s : LockState) (es : List Event) → IsReached s → AreAccepted s es → AllByRecursion (IsActiveWrite v) (moments s es) → Sat v s.claims → moments_without v (moments s es) ≡ []
 satisfied_on v s [] reached accepted active sat = filter_no (λ m. not (holds_at v m)) s.claims [] (ap not (holds_sat v s.claims sat))
 satisfied_on v s (e ∷ es) reached accepted active sat =
     let a = active.1.0 in

@@ -1,7 +1,7 @@
 -- The sections of a write wait, followed moment by moment.
 use Rattle.std.proofs.Common.{◌≡◌, Bool, true, false, not, ◌&&◌, cond, Option, Some, None, List, [], ◌∷◌, ◌++◌, filter, refl, sym, ap, ◌∙◌, inl, inr}
 use Rattle.std.proofs.lemmas.Bool.{and_parts, and_from, or_left}
-use Rattle.std.specs.List.{list_any, filter_map, cons_option, AllByRecursion}
+use Rattle.std.specs.List.{filter_map, cons_option, AllByRecursion}
 use Rattle.std.specs.Option.{option_to_list}
 use Rattle.rclaim.specs.declared.claim.Claim.{Claim}
 use Rattle.rclaim.specs.declared.event.Event.{Event}
@@ -14,10 +14,11 @@ use Rattle.rmodel.proofs.ListFacts.{Among, contrary, false_from, all_from, any_a
 use Rattle.rmodel.proofs.reaching.Stamps.{OfOneSeat}
 use Rattle.rmodel.proofs.settling.OneSettlement.{both_cases}
 use Rattle.rcover.specs.Last.{first_at, first_at_last}
-use Rattle.rcover.specs.Line.{least_of, is_least, leasts, is_kept_least, kept_moments, write_sections}
+use Rattle.rcover.specs.Line.{least_of, is_least, leasts, is_kept_least, write_sections}
 use Rattle.rcover.specs.Moments.{Moment, moments, holds_at}
-use Rattle.rcover.specs.Sections.{Sections, holder_of, different}
+use Rattle.rcover.specs.Sections.{Sections, different}
 use Rattle.rcover.specs.Shown.{reads_against, with_option, write_shown}
+use Rattle.rcover.specs.Tracked.{taken_over, held_over, IsClosed}
 use Rattle.rcover.specs.Waits.{WriteWaits}
 use Rattle.rcover.proofs.covers.WriteCover.{each_there, each_held, that_least, least_among}
 use Rattle.rcover.proofs.lists.Found.{filter_yes, filter_no, all_so, not_empty}
@@ -27,20 +28,6 @@ use Rattle.rcover.proofs.runs.Moments.{is_itself}
 use Rattle.rcover.proofs.runs.Push.{filter_append, filter_map_append, append_none, different_option}
 use Rattle.rcover.proofs.runs.Throughout.{IsEntitledAndHeld}
 use Rattle.rcover.proofs.states.AtRest.{IsEntitled}
-
--- the read that is taken for a least claim, and whether it was satisfied as the least
-abbrev pub taken_over : Claim → List Moment → Claim → Option Claim
-taken_over c ms d = holder_of (reads_against d) (kept_moments c d ms)
-
-abbrev pub held_over : Claim → List Moment → Claim → Bool
-held_over c ms d = list_any (λ m. is_least c d m && holds_at d m) ms
-
--- sections that are those of the closed stretches of a run that ends at m: of the least claims before the last, and the read of the last if it is satisfied
-pub record IsClosed (c : Claim) (ms : List Moment) (m : Moment) (a : Sections) : Type 0 where
-  pub before : List Claim
-  pub leasts_are : leasts c ms ≡ before ++ least_of c m ∷ []
-  pub reads_are : a.reads ≡ different (filter_map (taken_over c ms) before ++ (cond (holds_at (least_of c m) m) (option_to_list (taken_over c ms (least_of c m))) []))
-  pub writes_are : a.writes ≡ filter (held_over c ms) before
 
 -- ---- the last moment
 

@@ -18,9 +18,10 @@ use Rattle.rcover.specs.Line.{least_of, is_least, leasts, is_kept_least, kept_mo
 use Rattle.rcover.specs.Moments.{Moment, moments, is_claim, holds_at}
 use Rattle.rcover.specs.Sections.{Sections, holder_of, different}
 use Rattle.rcover.specs.Shown.{reads_against, with_different, write_shown, write_closed}
+use Rattle.rcover.specs.Tracked.{taken_over, held_over, IsClosed, no_sections}
 use Rattle.rcover.specs.Waits.{WriteWaits}
 use Rattle.rcover.proofs.covers.WriteCover.{write_there, each_there, least_is_there}
-use Rattle.rcover.proofs.covers.WriteRun.{taken_over, held_over, IsClosed, last_among, one_of_option, shown_reads, shown_writes}
+use Rattle.rcover.proofs.covers.WriteRun.{last_among, one_of_option, shown_reads, shown_writes}
 use Rattle.rcover.proofs.lists.Different.{among_different, are_different}
 use Rattle.rcover.proofs.lists.Found.{filter_no}
 use Rattle.rcover.proofs.runs.LineOverTime.{rises_to_last}
@@ -235,9 +236,6 @@ module _ (c : Claim) (s : LockState) (es : List Event) (reached : IsReached s) (
     closed_next = both_cases (is_claim e f) closed_one closed_new
 
 -- ---- the first moment
-
-abbrev no_sections : Sections
-no_sections = record { reads = []; writes = [] }
 
 pub closed_first : (c : Claim) (m : Moment) → IsClosed c (m ∷ []) m no_sections
 closed_first c m = record {

@@ -10,10 +10,11 @@ use Rattle.rmodel.specs.Holds.{held_by, is_nothing}
 use Rattle.rmodel.specs.Reached.{IsReached}
 use Rattle.rmodel.specs.State.{LockState, opening}
 use Rattle.rmodel.specs.Steps.{after, AreAccepted}
+use Rattle.rmodel.specs.WellFormed.{EachPair}
 use Rattle.rmodel.proofs.ListFacts.{Among, false_from, contrary, any_among}
 use Rattle.rmodel.proofs.reaching.Histories.{accepted_parts, after_append}
 use Rattle.rmodel.proofs.reaching.Reached.{reached_after, reached_opening}
-use Rattle.rmodel.proofs.reaching.Stamps.{one_seat_after}
+use Rattle.rmodel.proofs.reaching.Stamps.{OfOneSeat, one_seat_after}
 use Rattle.rmodel.proofs.settling.Keeping.{not_false}
 use Rattle.rbound.specs.Bounds.{first_bound, rise_bound, ask_bound_of}
 use Rattle.rcover.specs.Covers.{IsReadCovered, IsWriteCovered, IsAskCovered}
@@ -41,15 +42,17 @@ joined [] ys zs = refl
 joined (x ∷ xs) ys zs = ap (λ ws. x ∷ ws) (joined xs ys zs)
 
 -- the wait of a claim so far: a run that some of the events make, at each moment of which the very claim stands so
-record IsWait (groups : ReadGroups) (seats cap : ℕ) (events rest : List Event) (test : Moment → Claimed → Bool) (x : Claimed) : Type 0 where
-  start : LockState
-  more : List Event
-  reached : IsReached start
-  accepted : AreAccepted start more
-  is : wait_so_far test x.claim (moments (opening groups seats cap) events) ≡ moments start more
-  each : AllByRecursion (StandsAs test x.claim) (moments start more)
-  last : Among x (after start more).claims
-  within : AreWithinBounds groups seats cap (events ++ rest) (moments start more)
+pub record IsWait (groups : ReadGroups) (seats cap : ℕ) (events rest : List Event) (test : Moment → Claimed → Bool) (x : Claimed) : Type 0 where
+  pub start : LockState
+  pub more : List Event
+  pub reached : IsReached start
+  pub accepted : AreAccepted start more
+  pub seats_apart : EachPair OfOneSeat start.claims
+  pub ends : after start more ≡ after (opening groups seats cap) events
+  pub is : wait_so_far test x.claim (moments (opening groups seats cap) events) ≡ moments start more
+  pub each : AllByRecursion (StandsAs test x.claim) (moments start more)
+  pub last : Among x (after start more).claims
+  pub within : AreWithinBounds groups seats cap (events ++ rest) (moments start more)
 
 module _ (groups : ReadGroups) (seats cap : ℕ) (events rest : List Event) (accepted : AreAccepted (opening groups seats cap) events) where
   abbrev first : LockState
@@ -58,7 +61,7 @@ module _ (groups : ReadGroups) (seats cap : ℕ) (events rest : List Event) (acc
   abbrev now : LockState
   now = after first events
 
-  wait_is : (test : Moment → Claimed → Bool) (x : Claimed) → Among x now.claims → test now.claims x ≡ true → IsWait groups seats cap events rest test x
+  pub wait_is : (test : Moment → Claimed → Bool) (x : Claimed) → Among x now.claims → test now.claims x ≡ true → IsWait groups seats cap events rest test x
   wait_is test x there on =
       let p = stands test x.claim in
       let r = run_is p first events (any_among (λ y. is_claim x.claim y.claim && test now.claims y) now.claims x there (and_from (is_claim x.claim x.claim) (test now.claims x) (is_itself x.claim) on)) in
@@ -72,6 +75,8 @@ module _ (groups : ReadGroups) (seats cap : ℕ) (events rest : List Event) (acc
         more = r.more;
         reached = reached;
         accepted = parts.1;
+        seats_apart = one_seat_after first r.before (reached_opening groups seats cap) parts.0 tt;
+        ends = sym (ap (after first) r.parts ∙ after_append first r.before r.more);
         is = r.is;
         each = standing test x.claim start r.more reached parts.1 (one_seat_after first r.before (reached_opening groups seats cap) parts.0 tt) r.passes (record { at = x; among = last; is = refl });
         last = last;
