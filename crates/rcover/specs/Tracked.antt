@@ -1,8 +1,13 @@
 -- How waits are followed from moment to moment: what is kept of a wait, and what its sections are then.
-use Rattle.std.specs.Prelude.{◌≡◌, ℕ, Bool, true, false, ◌&&◌, Option, Some, None, List, [], ◌∷◌, ◌++◌, filter, if◌then◌else◌}
+use Rattle.std.specs.Prelude.{◌≡◌, ◌≤◌, ℕ, length, Bool, true, false, ◌&&◌, Option, Some, None, List, [], ◌∷◌, ◌++◌, filter, if◌then◌else◌}
 use Rattle.std.specs.List.{list_any, filter_map}
 use Rattle.std.specs.Option.{option_to_list}
 use Rattle.rclaim.specs.declared.claim.Claim.{Claim}
+use Rattle.rclaim.specs.declared.event.Event.{Event}
+use Rattle.rcover.specs.declared.wait_end.WaitEnd.{WaitEnd}
+use Rattle.rcover.specs.Ended.{wait_of, waits_in, wait_end}
+use Rattle.rcover.specs.History.{length_in}
+use Rattle.rcover.specs.Within.{numbers_of}
 use Rattle.rmodel.specs.declared.claimed.Claimed.{Claimed}
 use Rattle.rmodel.specs.Claims.{conflicts, conflicts_on}
 use Rattle.rmodel.specs.WellFormed.{Among}
@@ -76,6 +81,20 @@ abbrev pub shown : Which → Claimed → Sections → Moment → Sections
 shown First x a m = if x.claim.write_half then write_shown (least_of x.claim m) a m else read_shown_if (keeper_at x.claim m) a.reads m
 shown Rise x a m = write_shown (least_of x.claim m) a m
 shown (Ask number) x a m = record { reads = option_to_list (first_at (λ d. conflicts_on d x.claim x.asked) m); writes = [] }
+
+-- what is told of a wait of a claim at m, if a next moment n ends it, with what is kept for each seat
+abbrev pub told_if : (Claim → ℕ) → Moment → Moment → (ℕ → Sections) → Claimed → Option Which → Option WaitEnd
+told_if len m n table x None = None
+told_if len m n table x (Some w) = if stands (waits_in w) x.claim n then None else Some (wait_end w x.claim (numbers_of len (shown w x (table x.claim.seat) m)))
+
+-- what is told of the waits at the last moment m of the events so far that a next moment n ends
+abbrev pub told : List Event → Moment → Moment → (ℕ → Sections) → List WaitEnd
+told es m n table = filter_map (λ x. told_if (length_in es) m n table x (wait_of es m x)) m
+
+-- sections are no more than this
+pub record AreAtMost (top : ℕ) (a : Sections) : Type 0 where
+  pub reads : length a.reads ≤ top
+  pub writes : length a.writes ≤ top
 
 -- what is kept of a claim's wait that goes on once a moment n comes behind m
 abbrev pub gone_on : Claim → Sections → Moment → Moment → Sections

@@ -17,6 +17,7 @@ use Rattle.rbound.specs.declared.which.Which.{Which}
 use Rattle.rbound.specs.declared.which.Which.TheVariants.{First, Rise, Ask}
 use Rattle.rcover.specs.Ended.{wait_of, waits_in, sections_in}
 use Rattle.rcover.specs.Lists.{AreFew}
+use Rattle.rcover.specs.Tracked.{AreAtMost}
 use Rattle.rcover.specs.Moments.{Moment, moments}
 use Rattle.rcover.specs.Sections.{Sections, read_sections, ask_sections}
 use Rattle.rbound.specs.Zones.{zone_of}
@@ -69,10 +70,13 @@ module _ (ns : List Needed) (tasks cap : ℕ) (some : 1 ≤ cap) where
   ask_small part None = record { reads = omega arith; writes = omega arith }
   ask_small part (Some n) = record { reads = omega (arith, one_at_most); writes = omega arith }
 
-few_from : (len : Claim → ℕ) (a : Sections) (bound : Numbers) (cap : ℕ) → cap ≤ SEATS → IsWithin (numbers_of len a) bound → IsSmall cap bound → AreFew a
-few_from len a bound cap seats within small =
+few_from : (len : Claim → ℕ) (a : Sections) (bound : Numbers) (cap : ℕ) → IsWithin (numbers_of len a) bound → IsSmall cap bound → AreAtMost cap a
+few_from len a bound cap within small =
     let r = within.reads in let w = within.writes in let sr = small.reads in let sw = small.writes in
     record { reads = omega arith; writes = omega arith }
+
+are_few : (cap : ℕ) (a : Sections) → cap ≤ SEATS → AreAtMost cap a → AreFew a
+are_few cap a small few = let r = few.reads in let w = few.writes in record { reads = omega arith; writes = omega arith }
 
 -- the test that a wait stands on
 Stands : Bool → Bool → Bool → Which → Type 0
@@ -95,7 +99,14 @@ told_by false false false number First is = cc
 told_by false false false number Rise is = cc
 told_by false false false number (Ask k) is = cc
 
-module _ (groups : ReadGroups) (seats cap : ℕ) (events : List Event) (some : 1 ≤ cap) (small : cap ≤ SEATS) (accepted : AreAccepted (opening groups seats cap) events)
+-- a wait that is told is one in which the claim is
+pub waits_told : (es : List Event) (m : Moment) (x : Claimed) (w : Which) → wait_of es m x ≡ Some w → waits_in w m x ≡ true
+unfolding Stands
+waits_told es m x First is = told_by (waits_first m x) (waits_to_rise m x) (waits_for_ask m x) (last_ask es x.claim) First is
+waits_told es m x Rise is = told_by (waits_first m x) (waits_to_rise m x) (waits_for_ask m x) (last_ask es x.claim) Rise is
+waits_told es m x (Ask k) is = told_by (waits_first m x) (waits_to_rise m x) (waits_for_ask m x) (last_ask es x.claim) (Ask k) is
+
+module _ (groups : ReadGroups) (seats cap : ℕ) (events : List Event) (some : 1 ≤ cap) (accepted : AreAccepted (opening groups seats cap) events)
     (x : Claimed) (there : Among x (after (opening groups seats cap) events).claims) where
   abbrev now : Moment
   now = (after (opening groups seats cap) events).claims
@@ -112,25 +123,24 @@ module _ (groups : ReadGroups) (seats cap : ℕ) (events : List Event) (some : 1
   abbrev bounded : AreBounded (needed_by groups seats (events ++ [])) (length_in (events ++ [])) (number_in (events ++ [])) seats cap (moments (opening groups seats cap) events) now x
   bounded = each_wait_is_bounded groups seats cap events [] accepted x there
 
-  few_first : waits_first now x ≡ true → AreFew (cond x.claim.write_half (write_sections x.claim (run waits_first)) (read_sections x.claim (run waits_first)))
+  few_first : waits_first now x ≡ true → AreAtMost cap (cond x.claim.write_half (write_sections x.claim (run waits_first)) (read_sections x.claim (run waits_first)))
   few_first h =
       both_cases x.claim.write_half
       (λ write.
-      subst (λ b. AreFew (cond b (write_sections x.claim (run waits_first)) (read_sections x.claim (run waits_first)))) (sym write)
-      (few_from (length_in (events ++ [])) (write_sections x.claim (run waits_first)) (first_bound ns seats cap x.claim.seat number) cap small (bounded.first_write write h).is_within (first_small ns seats cap some (first_need ns x.claim.seat number))))
+      subst (λ b. AreAtMost cap (cond b (write_sections x.claim (run waits_first)) (read_sections x.claim (run waits_first)))) (sym write)
+      (few_from (length_in (events ++ [])) (write_sections x.claim (run waits_first)) (first_bound ns seats cap x.claim.seat number) cap (bounded.first_write write h).is_within (first_small ns seats cap some (first_need ns x.claim.seat number))))
       (λ read.
-      subst (λ b. AreFew (cond b (write_sections x.claim (run waits_first)) (read_sections x.claim (run waits_first)))) (sym read)
-      (few_from (length_in (events ++ [])) (read_sections x.claim (run waits_first)) (first_bound ns seats cap x.claim.seat number) cap small (bounded.first_read read h).is_within (first_small ns seats cap some (first_need ns x.claim.seat number))))
+      subst (λ b. AreAtMost cap (cond b (write_sections x.claim (run waits_first)) (read_sections x.claim (run waits_first)))) (sym read)
+      (few_from (length_in (events ++ [])) (read_sections x.claim (run waits_first)) (first_bound ns seats cap x.claim.seat number) cap (bounded.first_read read h).is_within (first_small ns seats cap some (first_need ns x.claim.seat number))))
 
-  pub few_sections : (w : Which) → wait_of events now x ≡ Some w → AreFew (sections_in w x (wait_so_far (waits_in w) x.claim (moments (opening groups seats cap) events)))
-  unfolding Stands
-  few_sections First is = few_first (told_by (waits_first now x) (waits_to_rise now x) (waits_for_ask now x) (last_ask events x.claim) First is)
-  few_sections Rise is =
-      few_from (length_in (events ++ [])) (write_sections x.claim (run waits_to_rise)) (rise_bound ns seats cap x.claim.seat number) cap small
-      (bounded.rise (told_by (waits_first now x) (waits_to_rise now x) (waits_for_ask now x) (last_ask events x.claim) Rise is)).is_within (rise_small ns seats cap some (write_need ns x.claim.seat number))
-  few_sections (Ask k) is =
-      few_from (length_in (events ++ [])) (ask_sections x.claim x.asked (run waits_for_ask)) (ask_bound_of ns x.claim.seat number x.asked) cap small
-      (bounded.ask (told_by (waits_first now x) (waits_to_rise now x) (waits_for_ask now x) (last_ask events x.claim) (Ask k) is)).is_within (ask_small ns seats cap some x.asked (write_need ns x.claim.seat number))
+  pub at_most : (w : Which) → waits_in w now x ≡ true → AreAtMost cap (sections_in w x (wait_so_far (waits_in w) x.claim (moments (opening groups seats cap) events)))
+  at_most First on = few_first on
+  at_most Rise on =
+      few_from (length_in (events ++ [])) (write_sections x.claim (run waits_to_rise)) (rise_bound ns seats cap x.claim.seat number) cap (bounded.rise on).is_within
+      (rise_small ns seats cap some (write_need ns x.claim.seat number))
+  at_most (Ask k) on =
+      few_from (length_in (events ++ [])) (ask_sections x.claim x.asked (run waits_for_ask)) (ask_bound_of ns x.claim.seat number x.asked) cap (bounded.ask on).is_within
+      (ask_small ns seats cap some x.asked (write_need ns x.claim.seat number))
 
 pub all_few : (groups : ReadGroups) (seats cap : ℕ) (events : List Event) → 1 ≤ cap → cap ≤ SEATS → AreAccepted (opening groups seats cap) events
     → (m : Moment) → (after (opening groups seats cap) events).claims ≡ m → (ms : List Moment) → moments (opening groups seats cap) events ≡ ms
@@ -138,4 +148,4 @@ pub all_few : (groups : ReadGroups) (seats cap : ℕ) (events : List Event) → 
 all_few groups seats cap events some small accepted m is ms are =
     subst (λ (p : Moment × List Moment). AllByRecursion (λ x. (w : Which) → wait_of events p.0 x ≡ Some w → AreFew (sections_in w x (wait_so_far (waits_in w) x.claim p.1))) p.0) (λ i. (is i, are i))
     (all_from (λ x. (w : Which) → wait_of events (after (opening groups seats cap) events).claims x ≡ Some w → AreFew (sections_in w x (wait_so_far (waits_in w) x.claim (moments (opening groups seats cap) events))))
-    (after (opening groups seats cap) events).claims (λ x there. few_sections groups seats cap events some small accepted x there))
+    (after (opening groups seats cap) events).claims (λ x there w is. are_few cap _ small (at_most groups seats cap events some accepted x there w (waits_told events (after (opening groups seats cap) events).claims x w is))))

@@ -1,5 +1,5 @@
 -- What is kept of waits is right at each moment, and shows their sections.
-use Rattle.std.proofs.Common.{◌≡◌, ℕ, ◌<◌, Bool, true, false, not, ◌&&◌, ◌||◌, cond, Some, List, [], ◌∷◌, ◌++◌, find, refl, sym, ap, subst, ◌∙◌, arith}
+use Rattle.std.proofs.Common.{◌≡◌, ℕ, ◌<◌, ◌≤◌, length, length-append, Bool, true, false, not, ◌&&◌, ◌||◌, cond, Option, Some, None, List, [], ◌∷◌, ◌++◌, find, refl, sym, ap, subst, ◌∙◌, arith}
 use Rattle.std.proofs.lemmas.Bool.{and_parts, and_from}
 use Rattle.std.specs.List.{list_any, list_all, AllByRecursion}
 use Rattle.std.specs.Option.{option_map, option_to_list}
@@ -21,14 +21,16 @@ use Rattle.rmodel.proofs.settling.OneSettlement.{both_cases}
 use Rattle.rbound.specs.declared.which.Which.{Which}
 use Rattle.rbound.specs.declared.which.Which.TheVariants.{First, Rise, Ask}
 use Rattle.rcover.specs.Covers.{IsKeptBy}
-use Rattle.rcover.specs.Ended.{waits_in, sections_in}
+use Rattle.rcover.specs.Ended.{waits_in, sections_in, wait_of, ended_if, ended_by, wait_end}
+use Rattle.rcover.specs.History.{length_in}
+use Rattle.rcover.specs.Within.{numbers_of}
 use Rattle.rcover.specs.Last.{first_at}
 use Rattle.rcover.specs.Line.{least_of, write_sections}
 use Rattle.rcover.specs.Moments.{Moment, moments, is_claim, holds_at}
 use Rattle.rcover.specs.Sections.{Sections, holder_of, moments_without, sections_by, sections_of_keeper, read_sections, ask_sections}
-use Rattle.rcover.specs.Shown.{write_shown, write_closed}
+use Rattle.rcover.specs.Shown.{reads_against, with_option, write_shown, write_closed}
 use Rattle.rcover.specs.Told.{waits_first, waits_to_rise, waits_for_ask, stands, run_of, wait_so_far}
-use Rattle.rcover.specs.Tracked.{IsClosed, no_sections, keeper_at, IsReadClosed, read_shown, read_shown_if, read_closed_if, IsTracked, AreTracked, shown, gone_on, kept_by, AreKept}
+use Rattle.rcover.specs.Tracked.{IsClosed, no_sections, keeper_at, IsReadClosed, read_shown, read_shown_if, read_closed_if, IsTracked, AreTracked, shown, told_if, told, AreAtMost, IsKept, gone_on, kept_by, AreKept}
 use Rattle.rcover.specs.Waits.{ReadWaits, WriteWaits}
 use Rattle.rcover.proofs.covers.ReadCover.{IsActiveWrite, satisfied_on, has_keeper}
 use Rattle.rcover.proofs.covers.ReadRun.{read_closed}
@@ -36,11 +38,12 @@ use Rattle.rcover.proofs.covers.WriteRun.{last_among, write_sections_shown}
 use Rattle.rcover.proofs.covers.WriteStep.{closed_first, closed_next}
 use Rattle.rcover.proofs.lists.Found.{all_both, not_empty}
 use Rattle.rcover.proofs.runs.Moments.{at_moments, is_itself, are_one, sat_holds}
-use Rattle.rcover.proofs.runs.Push.{moments_push}
+use Rattle.rcover.proofs.runs.Push.{moments_push, filter_map_same}
 use Rattle.rcover.proofs.states.AtRest.{stamp_given}
 use Rattle.rcover.proofs.states.ThroughEvent.{there_before}
 use Rattle.rcover.proofs.told.Asked.{ask_run}
 use Rattle.rcover.proofs.told.EachWait.{IsWait, wait_is}
+use Rattle.rcover.proofs.told.Few.{waits_told, at_most}
 use Rattle.rcover.proofs.told.OneClaim.{StandsAs, one_of_stamp}
 use Rattle.rcover.proofs.told.Runs.{run_push}
 use Rattle.rcover.proofs.told.Waits.{read_waits, write_waits, rise_waits}
@@ -145,6 +148,32 @@ module _ (c : Claim) (s : LockState) (es : List Event) (reached : IsReached s) (
 pub read_closed_first : (c : Claim) (n : Moment) → IsReadClosed c (n ∷ []) n no_sections
 read_closed_first c n = record { kept = λ v keeps on. sym (ap (λ b. option_to_list (holder_of (λ d. conflicts d v) (cond (not b) (n ∷ []) []))) on) }
 
+-- what is kept of a write wait is among what it shows
+shown_at_most : {top : ℕ} (e : Claim) (a : Sections) (m : Moment) → AreAtMost top (write_shown e a m) → AreAtMost top a
+shown_at_most {top} e a m few = record { reads = reads (holds_at e m) few.reads; writes = writes (holds_at e m) few.writes }
+  where
+    longer : (b : Bool) (d : Claim) → length a.reads ≤ length (cond b a.reads (a.reads ++ d ∷ []))
+    longer true d = omega arith
+    longer false d = omega (arith, length-append a.reads (d ∷ []))
+
+    with_one : (o : Option Claim) → length a.reads ≤ length (with_option a.reads o)
+    with_one None = omega arith
+    with_one (Some d) = longer (list_any (λ c. is_claim c d) a.reads) d
+
+    reads : (b : Bool) → length (cond b a.reads (with_option a.reads (first_at (reads_against e) m))) ≤ top → length a.reads ≤ top
+    reads true h = h
+    reads false h = let more = with_one (first_at (reads_against e) m) in omega arith
+
+    writes : (b : Bool) → length (cond b (a.writes ++ e ∷ []) a.writes) ≤ top → length a.writes ≤ top
+    writes true h = omega (arith, length-append a.writes (e ∷ []), h)
+    writes false h = h
+
+-- a wait is that of an ask
+abbrev pub is_ask : Which → Bool
+is_ask First = false
+is_ask Rise = false
+is_ask (Ask number) = true
+
 -- ---- all waits of a state
 
 module _ (groups : ReadGroups) (seats cap : ℕ) (es : List Event) (accepted : AreAccepted (opening groups seats cap) es) where
@@ -224,6 +253,29 @@ module _ (groups : ReadGroups) (seats cap : ℕ) (es : List Event) (accepted : A
       write_is waits_to_rise x w (rises_over x w) (table x.claim.seat) ((tracked x there).rise on)
   shown_is table tracked x there (Ask number) on = ask_is x (wait_at waits_for_ask x there on)
 
+  -- what is told with what is kept is what the definitions say of the waits that end
+  pub told_are_ended : (table : ℕ → Sections) → AreTracked ms m table → (event : Event) → told es m (next now event).claims table ≡ ended_by first es event
+  told_are_ended table tracked event =
+      filter_map_same (λ x. told_if (length_in es) m n table x (wait_of es m x)) (λ x. ended_if es ms n x (wait_of es m x)) m (λ x there. at x there (wait_of es m x) refl)
+    where
+      n : Moment
+      n = (next now event).claims
+
+      at : (x : Claimed) → Among x m → (o : Option Which) → wait_of es m x ≡ o → told_if (length_in es) m n table x o ≡ ended_if es ms n x o
+      at x there None is = refl
+      at x there (Some w) is =
+          ap (λ (a : Sections). cond (stands (waits_in w) x.claim n) None (Some (wait_end w x.claim (numbers_of (length_in es) a)))) (sym (shown_is table tracked x there w (waits_told es m x w is)))
+
+  -- the sections that are kept of a write wait are no more than the cap
+  pub kept_at_most : 1 ≤ cap → (table : ℕ → Sections) → AreTracked ms m table → (x : Claimed) → Among x m → x.claim.write_half ≡ true → (w : Which) → waits_in w m x ≡ true → is_ask w ≡ false → AreAtMost cap (table x.claim.seat)
+  kept_at_most some table tracked x there write First on plain =
+      shown_at_most (least_of x.claim m) (table x.claim.seat) m
+      (subst (AreAtMost cap) (shown_is table tracked x there First on ∙ ap (λ b. cond b (write_shown (least_of x.claim m) (table x.claim.seat) m) (read_shown_if (keeper_at x.claim m) (table x.claim.seat).reads m)) write)
+      (at_most groups seats cap es some accepted x there First on))
+  kept_at_most some table tracked x there write Rise on plain =
+      shown_at_most (least_of x.claim m) (table x.claim.seat) m (subst (AreAtMost cap) (shown_is table tracked x there Rise on) (at_most groups seats cap es some accepted x there Rise on))
+  kept_at_most some table tracked x there write (Ask number) on plain = contrary true refl plain
+
   module _ (event : Event) (comes : Comes now event) where
     abbrev n : Moment
     n = (next now event).claims
@@ -273,10 +325,7 @@ module _ (groups : ReadGroups) (seats cap : ℕ) (es : List Event) (accepted : A
     begins : (test : Moment → Claimed → Bool) (c : Claim) → stands test c m ≡ false → wait_so_far test c ms ≡ []
     begins test c off = run_none (stands test c) first es off
 
-    module _ (table table' : ℕ → Sections) (tracked : AreTracked ms m table) (kept : AreKept m n table table') (x : Claimed) (there : Among x n) where
-      c : Claim
-      c = x.claim
-
+    module _ (table table' : ℕ → Sections) (tracked : AreTracked ms m table) (x : Claimed) (there : Among x n) (kept : IsKept m n table table' x) where
       stands_as : (test : Moment → Claimed → Bool) → test n x ≡ true → StandsAs test x.claim n
       stands_as test on = record { at = x; among = there; is = refl; passes = on }
 
@@ -304,7 +353,7 @@ module _ (groups : ReadGroups) (seats cap : ℕ) (es : List Event) (accepted : A
       read_kept : waits_first n x ≡ true → x.claim.write_half ≡ false → IsReadClosed x.claim (wait_so_far waits_first x.claim (ms ++ n ∷ [])) n (table' x.claim.seat)
       read_kept on read =
           let waits' = read_waits (next now event) reached_next_now x.claim read (stands_as waits_first on) in
-          subst (λ (p : List Moment × Sections). IsReadClosed x.claim p.0 n p.1) (λ i. (sym (goes_on waits_first x there on) i, sym ((kept x there).first on) i))
+          subst (λ (p : List Moment × Sections). IsReadClosed x.claim p.0 n p.1) (λ i. (sym (goes_on waits_first x there on) i, sym (kept.first on) i))
           (both_cases (stands waits_first x.claim m)
           (λ stood.
           let y = was_before waits_first x there stood in
@@ -320,21 +369,21 @@ module _ (groups : ReadGroups) (seats cap : ℕ) (es : List Event) (accepted : A
           (λ i. (sym (begins waits_first x.claim new) i, ap (λ b. cond b (gone_on x.claim (table x.claim.seat) m n) no_sections) (sym new) i))
           (read_closed_first x.claim n)))
 
-      kept_right : IsTracked (ms ++ n ∷ []) n (table' x.claim.seat) x
+      pub kept_right : IsTracked (ms ++ n ∷ []) n (table' x.claim.seat) x
       kept_right = record {
         first_read = λ read on. read_kept on read;
         first_write = λ write on.
-            write_kept waits_first on (write_waits (next now event) reached_next_now x.claim write (stands_as waits_first on)) write (λ y there on write. (tracked y there).first_write write on) (λ y w write. writes_over y w write) ((kept x there).first on);
+            write_kept waits_first on (write_waits (next now event) reached_next_now x.claim write (stands_as waits_first on)) write (λ y there on write. (tracked y there).first_write write on) (λ y w write. writes_over y w write) (kept.first on);
         rise = λ on.
             let waits' = rise_waits (next now event) reached_next_now x.claim (stands_as waits_to_rise on) in
-            write_kept waits_to_rise on waits' waits'.write (λ y there on write. (tracked y there).rise on) (λ y w write. rises_over y w) ((kept x there).rise on);
+            write_kept waits_to_rise on waits' waits'.write (λ y there on write. (tracked y there).rise on) (λ y w write. rises_over y w) (kept.rise on);
       }
 
     -- what is kept for the next moment is right there
     pub tracked_next : (table table' : ℕ → Sections) → AreTracked ms m table → AreKept m n table table' → AreTracked (moments first (es ++ event ∷ [])) (after first (es ++ event ∷ [])).claims table'
     tracked_next table table' tracked kept =
         subst (λ (p : List Moment × Moment). AreTracked p.0 p.1 table') (λ i. (sym (moments_push first es event) i, ap (λ (s : LockState). s.claims) (sym (after_append first es (event ∷ []))) i))
-        (λ x there. kept_right table table' tracked kept x there)
+        (λ x there. kept_right table table' tracked x there (kept x there))
 
 -- at first nothing is there
 pub tracked_opening : (groups : ReadGroups) (seats cap : ℕ) (table : ℕ → Sections) → AreTracked (moments (opening groups seats cap) []) (opening groups seats cap).claims table
