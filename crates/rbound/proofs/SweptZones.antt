@@ -149,7 +149,7 @@ places_among [] p there = absurd there
 places_among (n ∷ ns) p (inl same) = (n, inl refl, same)
 places_among (n ∷ ns) p (inr later) = let found = places_among ns p later in (found.0, inr found.1, found.2)
 
-zone_within : (ns : List Needed) (places s : Set) → IsClosed ns s → is_subset places s ≡ true → is_subset (zone_of ns places) s ≡ true
+pub zone_within : (ns : List Needed) (places s : Set) → IsClosed ns s → is_subset places s ≡ true → is_subset (zone_of ns places) s ≡ true
 unfolding zone_of
 zone_within ns places s closed h =
     rounds_within (length ns) places s (all_places ns)

@@ -1,7 +1,10 @@
 -- How needs are kept: for each task a vector of its requests, each with a vector of its asks. No contract of another crate speaks of it.
-use Rattle.std.specs.Prelude.{◌≡◌, ◌≤◌, List, map, length}
+use Rattle.std.specs.Prelude.{◌≡◌, ◌≤◌, ℕ, List, map, length, IsTrue}
+use Rattle.std.specs.List.{AllByRecursion}
 use Rattle.std.specs.declared.vec.Vec.{Vec}
 use Rattle.std.specs.declared.alloc.Global.{Global}
+use Rattle.rset.specs.Sets.{all_below}
+use Rattle.rclaim.specs.Requests.{RequestFields, IsNormal}
 use Rattle.rexpand.specs.Groups.{ReadGroups}
 use Rattle.rbound.specs.Needs.{Needed, Needs, RequestNeeds, all_needed}
 use Rattle.rbound.specs.declared.requests.RequestAsks.{RequestAsks}
@@ -14,7 +17,18 @@ needs_in x = record { request = x.request; asks = x.asks.items }
 abbrev pub tasks_in : List (Vec RequestAsks Global) → Needs
 tasks_in tasks = map (λ v. map needs_in v.items) tasks
 
+-- a request over q resources, in normal form
+pub record IsFine (q : ℕ) (r : RequestFields) : Type 0 where
+  pub normal : IsNormal r
+  pub reads : IsTrue (all_below q r.reads)
+  pub writes : IsTrue (all_below q r.writes)
+
+-- all requests of tasks are
+abbrev pub AreFine : ℕ → Needs → Type 0
+AreFine q needs = AllByRecursion (λ (ns : List RequestNeeds). AllByRecursion (λ (n : RequestNeeds). IsFine q n.request) ns) needs
+
 -- the claims kept beside are those that are needed, and there are no more tasks than have a number
 pub record AreKept (groups : ReadGroups) (tasks : List (Vec RequestAsks Global)) (needed : List Needed) : Type 0 where
   pub few : length tasks ≤ 255
+  pub fine : AreFine groups.q (tasks_in tasks)
   pub claims : needed ≡ all_needed groups.groups (tasks_in tasks)

@@ -67,6 +67,10 @@ asks_of (Some n) = n.asks
 abbrev pub asks_at : Needs → ℕ → ℕ → List Set
 asks_at needs task number = asks_of (slice_get (requests_of needs task) number)
 
+-- a request, where there is one
+abbrev pub request_at : Needs → ℕ → ℕ → Option RequestFields
+request_at needs task number = option_map (λ n. n.request) (slice_get (requests_of needs task) number)
+
 -- the kind of a request, where there is one
 abbrev pub kind_at : Needs → ℕ → ℕ → Option Kind
 kind_at needs task number = option_map (λ n. n.request.kind) (slice_get (requests_of needs task) number)

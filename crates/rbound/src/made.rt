@@ -2,6 +2,7 @@
 ghost use Rattle.std.specs.Prelude.{◌≡◌, ◌≤◌, ◌<◌, ◌+◌, ◌∷◌, ◌++◌, List, IsTrue, length, take, drop, option_to_list, vec_capacity};
 ghost use Rattle.std.specs.List.{insert, AllByRecursion};
 ghost use Rattle.rset.specs.Sets.{all_below};
+ghost use Rattle.rclaim.specs.Requests.{IsNormal};
 ghost use Rattle.rmodel.specs.Claims.{claim_of};
 ghost use Rattle.rbound.specs.Needs.{Needed, needed_of};
 
@@ -48,7 +49,8 @@ pub(crate) fn needed_of(
 ) -> (Needed, Option<Needed>)
     requires reads { IsTrue (all_below groups.now.q request.now.reads) }
     requires writes { IsTrue (all_below groups.now.q request.now.writes) }
-    ensures { result.0 ∷ option_to_list result.1 ≡ needed_of groups.now.groups task number request.now }
+    ensures value { result.0 ∷ option_to_list result.1 ≡ needed_of groups.now.groups task number request.now }
+    ensures normal { IsNormal request.now }
 {
     let kind = request.kind();
     let reads = request.reads();

@@ -1,13 +1,18 @@
 // What tasks need, with the claims that this makes kept beside it.
-ghost use Rattle.std.specs.Prelude.{◌≡◌, ◌≤◌, ◌<◌, ◌==◌, ◌&&◌, Some, IfOk, OnOk, OnErr, IsTrue, true, length};
+ghost use Rattle.std.specs.Prelude.{◌≡◌, ◌≤◌, ◌<◌, ◌==◌, ◌&&◌, ◌∷◌, Some, IfOk, OnOk, OnErr, IsTrue, true, length, option_to_list};
 ghost use Rattle.rset.specs.Sets.{all_below};
 ghost use Rattle.rbound.specs.Zones.{zone_of};
 ghost use Rattle.rbound.specs.Bounds.{numbers_in};
+ghost use Rattle.rbound.specs.Kept.{tasks_in, AreFine};
+ghost use Rattle.rbound.specs.Answers.{AreClaimsOf, AreAnswers};
 ghost use Rattle.rbound.specs.TaskNeeds.{none_needed, with_request, with_ask, requests_of, last_is_nested, kind_at, asks_at, needed_in, bound_of};
 
-use crate::bound::{ask_bound_of, first_bound, no_wait, rise_bound};
+use crate::answers::{Answers, answers_of, asked_answer, first_answer, rise_answer, write_among};
+use crate::bound::no_wait;
 use crate::made::{insert_needed, needed_of, place_behind};
-use crate::requests::{RequestAsks, asks_at, kind_at, len_of, no_requests, push_ask, push_request};
+use crate::requests::{
+    RequestAsks, asks_at, kind_at, len_of, no_requests, push_ask, push_request, request_at,
+};
 use crate::zone::zone_among;
 use crate::{Bound, Needed, Which};
 use rclaim::{Kind, Request};
@@ -127,8 +132,56 @@ pub fn zone_of(needs: &Needs, claim_places: ResourceSet) -> ResourceSet
     zone_among(&needs.claims, claim_places)
 }
 
+/// The claims of a request of a task.
+fn claims_at(
+    groups: &Groups,
+    tasks: &[Vec<RequestAsks>],
+    task: u8,
+    number: usize,
+) -> (Needed, Option<Needed>)
+    requires task { task < length tasks.now }
+    requires number { number < length (requests_of (tasks_in tasks.now) task) }
+    requires fine { AreFine groups.now.q (tasks_in tasks.now) }
+    ensures { AreClaimsOf groups.now.groups (tasks_in tasks.now) task number (result.0 ∷ option_to_list result.1) }
+{
+    let request = request_at(tasks, usize::from(task), number);
+    needed_of(groups, task, number as u64, &request)
+}
+
+/// The bound of a wait, by what answers all bounds of these needs.
+pub(crate) fn answered(answers: &Answers, needs: &Needs, task: u8, k: usize, which: Which) -> Bound
+    requires task { task < length needs.now.tasks }
+    requires number { k < length (requests_of needs.now.tasks task) }
+    requires answers { AreAnswers (needed_in needs.now) (length needs.now.tasks) answers.now }
+    ensures { numbers_in result ≡ bound_of needs.now answers.now.cap task k which }
+{
+    let (first, second) = claims_at(&needs.groups, &needs.tasks, task, k);
+    match which {
+        Which::First => first_answer(answers, &first.claim),
+        Which::Rise => rise_answer(answers, write_among(first, second)),
+        Which::Ask(i) => {
+            let asks = asks_at(&needs.tasks, usize::from(task), k);
+            if i < asks.len() {
+                asked_answer(answers, write_among(first, second), asks[i])
+            } else {
+                no_wait()
+            }
+        }
+    }
+}
+
+/// What answers all bounds of these needs.
+pub(crate) fn answers_to(alloc: Global, needs: &Needs, cap: u8) -> Result<Answers, AllocError>
+    requires { 1 ≤ cap }
+    ensures answers { IfOk result (AreAnswers (needed_in needs.now) (length needs.now.tasks)) }
+    ensures cap { IfOk result (λ answers. answers.cap ≡ cap) }
+{
+    let tasks = needs.tasks.len() as u8;
+    answers_of(alloc, &needs.claims, tasks, cap)
+}
+
 /// The bound of a wait of the request number `k` of a task, both counted from 0, where no more than `cap` requests may be
-/// incomplete.
+/// incomplete. All needs are looked through for it: [`Bounds`](crate::Bounds) does so once for all bounds.
 ///
 /// # Errors
 ///
@@ -146,18 +199,6 @@ pub fn bound_of(
     requires number { k < length (requests_of needs.now.tasks task) }
     ensures { IfOk result (λ b. numbers_in b ≡ bound_of needs.now cap task k which) }
 {
-    let tasks = needs.tasks.len() as u8;
-    let number = k as u64;
-    match which {
-        Which::First => first_bound(alloc, &needs.claims, tasks, cap, task, number),
-        Which::Rise => rise_bound(alloc, &needs.claims, tasks, cap, task, number),
-        Which::Ask(i) => {
-            let asks = asks_at(&needs.tasks, usize::from(task), k);
-            if i < asks.len() {
-                Ok(ask_bound_of(&needs.claims, task, number, asks[i]))
-            } else {
-                Ok(no_wait())
-            }
-        }
-    }
+    let answers = answers_to(alloc, needs, cap)?;
+    Ok(answered(&answers, needs, task, k, which))
 }

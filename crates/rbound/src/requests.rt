@@ -1,6 +1,6 @@
 // The requests of tasks with their asks, as they are kept.
 ghost use Rattle.std.specs.Prelude.{◌≡◌, ◌<◌, Some, IfOk, OnOk, OnErr, length, map};
-ghost use Rattle.rbound.specs.TaskNeeds.{none_needed, with_request, with_ask, with_last_ask, requests_of, kind_at, asks_at};
+ghost use Rattle.rbound.specs.TaskNeeds.{none_needed, with_request, with_ask, with_last_ask, requests_of, request_at, kind_at, asks_at};
 ghost use Rattle.rbound.specs.Kept.{tasks_in, needs_in};
 
 use rclaim::{Kind, Request};
@@ -78,6 +78,15 @@ pub(crate) fn len_of(tasks: &[Vec<RequestAsks>], task: usize) -> usize
     ensures { result ≡ length (requests_of (tasks_in tasks.now) task) }
 {
     tasks[task].len()
+}
+
+/// A request.
+pub(crate) fn request_at(tasks: &[Vec<RequestAsks>], task: usize, number: usize) -> Request
+    requires task { task < length tasks.now }
+    requires number { number < length (requests_of (tasks_in tasks.now) task) }
+    ensures { request_at (tasks_in tasks.now) task number ≡ Some result }
+{
+    tasks[task][number].request
 }
 
 /// The kind of a request.

@@ -1,11 +1,10 @@
 // The greatest sum of so many of the write lengths of tasks, by a row of the greatest sums of fewer.
 ghost use Rattle.std.specs.Prelude.{◌≡◌, ◌≤◌, ◌<◌, ◌*◌, ◌^◌, ℕ, IfOk, length, map, slice_index};
-ghost use Rattle.rbound.specs.Bounds.{largest, write_length, tasks_of};
+ghost use Rattle.rbound.specs.Bounds.{largest, tasks_of};
+ghost use Rattle.rbound.specs.ZoneRows.{write_length_in};
 ghost use Rattle.rbound.specs.Rows.{with_length, IsSmallRow};
 
-use crate::Needed;
 use crate::write_wait::write_length;
-use rset::ResourceSet;
 use std::alloc::{AllocError, Global};
 
 /// Takes one more length into a row, from its last place down, so that each place still sees the old one before it.
@@ -27,14 +26,13 @@ fn take_length(row: &mut [u64], len: u32)
 /// The greatest sum of so many at most of the write lengths of all tasks.
 pub(crate) fn largest_writes(
     alloc: Global,
-    needs: &[Needed],
+    writes: &[Option<u32>],
     tasks: u8,
     task: u8,
-    zone: ResourceSet,
     count: usize,
 ) -> Result<u64, AllocError>
     requires { count < 255 }
-    ensures sum { IfOk result (λ sum. sum ≡ largest count (map (write_length needs.now task zone) (tasks_of tasks))) }
+    ensures sum { IfOk result (λ sum. sum ≡ largest count (map (write_length_in writes.now task) (tasks_of tasks))) }
     ensures small { IfOk result (λ sum. sum ≤ 255 * 2 ^ 32) }
 {
     let mut sums = vec![in alloc; 0u64; count + 1]?;
@@ -42,7 +40,7 @@ pub(crate) fn largest_writes(
     let mut left = tasks;
     while left > 0 {
         left -= 1;
-        let len = write_length(needs, task, zone, left);
+        let len = write_length(writes, task, left);
         take_length(row, len);
     }
     Ok(row[count])

@@ -1,125 +1,88 @@
-// The numbers that bound the wait of a write claim of a task, in the zone of that claim.
-ghost use Rattle.std.specs.Prelude.{◌≡◌, ◌≤◌, ◌<◌};
-ghost use Rattle.std.specs.List.{list_any};
-ghost use Rattle.rbound.specs.Bounds.{reads_there, upgrades_there, is_writer, writers, writes_of, all_may_write, none_beside, reads_of, greatest, write_length};
+// The numbers that bound the wait of a write claim of a task, by what the claims of each task come to in its zone.
+ghost use Rattle.std.specs.Prelude.{◌≡◌, ◌≤◌, ◌<◌, unwrap_or};
+ghost use Rattle.rbound.specs.Columns.{beside, row_at};
+ghost use Rattle.rbound.specs.ZoneRows.{other_at, writers_in, writes_in, all_may_write_in, none_beside_in, reads_in, write_length_in};
 
-use crate::Needed;
-use crate::needed::{reads_there, upgrades_there, writes_there};
-use rset::ResourceSet;
+use crate::columns::{row_at, row_beside};
+use crate::rows::ZoneRows;
 
-/// Whether another task has a write claim in the zone.
-fn is_writer(needs: &[Needed], task: u8, zone: ResourceSet, other: u8) -> bool
-    ensures { result ≡ is_writer needs.now task zone other }
+/// What another task than this one has in a row.
+fn other_at(row: &[Option<u32>], task: u8, other: u8) -> Option<u32>
+    ensures { result ≡ other_at row.now task other }
 {
-    needs
-        .iter()
-        .any(|n| writes_there(task, zone, n) && n.claim.seat == other)
+    if other == task {
+        None
+    } else {
+        row_at(row, other)
+    }
 }
 
-/// The number of such tasks.
-fn writers(needs: &[Needed], tasks: u8, task: u8, zone: ResourceSet) -> usize
-    ensures { result ≡ writers needs.now tasks task zone }
+/// The number of other tasks with a write claim there.
+fn writers(writes: &[Option<u32>], tasks: u8, task: u8) -> usize
+    ensures { result ≡ writers_in writes.now tasks task }
 {
     (0..tasks)
-        .filter(|other| is_writer(needs, task, zone, *other))
+        .filter(|other| other_at(writes, task, *other).is_some())
         .count()
 }
 
 /// The writes: each other writer, but no more than may be incomplete beside the request itself.
-pub(crate) fn writes_of(needs: &[Needed], tasks: u8, cap: u8, task: u8, zone: ResourceSet) -> usize
+pub(crate) fn writes_of(rows: &ZoneRows, tasks: u8, cap: u8, task: u8) -> usize
     requires { 1 ≤ cap }
-    ensures value { result ≡ writes_of needs.now tasks cap task zone }
+    ensures value { result ≡ writes_in rows.now.writes.items tasks cap task }
     ensures few { result < 255 }
 {
-    writers(needs, tasks, task, zone).min(usize::from(cap - 1))
+    writers(&rows.writes, tasks, task).min(usize::from(cap - 1))
 }
 
-/// Whether each task that may read in the zone may also write there.
-fn all_may_write(needs: &[Needed], task: u8, zone: ResourceSet) -> bool
-    ensures { result ≡ all_may_write needs.now task zone }
+/// Whether each task that may read there may also write there.
+fn all_may_write(rows: &ZoneRows, tasks: u8, task: u8) -> bool
+    ensures { result ≡ all_may_write_in rows.now tasks task }
 {
-    needs.iter().all(|n| !reads_there(task, zone, n) || is_writer(needs, task, zone, n.claim.seat))
-}
-
-/// Whether a claim of an upgrade of another task is there.
-fn has_upgrade(needs: &[Needed], task: u8, zone: ResourceSet) -> bool
-    ensures { result ≡ list_any (upgrades_there task zone) needs.now }
-{
-    needs.iter().any(|n| upgrades_there(task, zone, n))
-}
-
-/// Whether a read claim of another task is there.
-fn has_read(needs: &[Needed], task: u8, zone: ResourceSet) -> bool
-    ensures { result ≡ list_any (reads_there task zone) needs.now }
-{
-    needs.iter().any(|n| reads_there(task, zone, n))
+    (0..tasks).all(|t| {
+        t == task || !row_at(&rows.reads, t).is_some() || row_at(&rows.writes, t).is_some()
+    })
 }
 
 /// Whether no other reader can be incomplete beside all writers that count, of which there are `writes`, and none is an
 /// upgrade.
-fn none_beside(
-    needs: &[Needed],
-    tasks: u8,
-    cap: u8,
-    task: u8,
-    zone: ResourceSet,
-    writes: usize,
-) -> bool
+fn none_beside(rows: &ZoneRows, tasks: u8, cap: u8, task: u8, writes: usize) -> bool
     requires cap { 1 ≤ cap }
-    requires writes { writes ≡ writes_of needs.now tasks cap task zone }
-    ensures { result ≡ none_beside needs.now tasks cap task zone }
+    requires writes { writes ≡ writes_in rows.now.writes.items tasks cap task }
+    ensures { result ≡ none_beside_in rows.now tasks cap task }
 {
-    !has_upgrade(needs, task, zone)
-        && (writes == usize::from(cap - 1) || all_may_write(needs, task, zone))
+    row_beside(&rows.upgrades, tasks, task).is_none()
+        && (writes == usize::from(cap - 1) || all_may_write(rows, tasks, task))
 }
 
 /// The reads, beside so many writes: none where no other task reads there; else one for each write, and one more unless no
 /// reader can be beside them.
-pub(crate) fn reads_of(
-    needs: &[Needed],
-    tasks: u8,
-    cap: u8,
-    task: u8,
-    zone: ResourceSet,
-    writes: usize,
-) -> usize
+pub(crate) fn reads_of(rows: &ZoneRows, tasks: u8, cap: u8, task: u8, writes: usize) -> usize
     requires cap { 1 ≤ cap }
-    requires writes { writes ≡ writes_of needs.now tasks cap task zone }
+    requires writes { writes ≡ writes_in rows.now.writes.items tasks cap task }
     requires few { writes < 255 }
-    ensures value { result ≡ reads_of needs.now tasks cap task zone }
+    ensures value { result ≡ reads_in rows.now tasks cap task }
     ensures few { result ≤ 255 }
 {
-    if !has_read(needs, task, zone) {
+    if row_beside(&rows.reads, tasks, task).is_none() {
         0
-    } else if none_beside(needs, tasks, cap, task, zone, writes) {
+    } else if none_beside(rows, tasks, cap, task, writes) {
         writes
     } else {
         writes + 1
     }
 }
 
-/// The longest length of another task's read claim in the zone, 0 of none.
-pub(crate) fn read_length(needs: &[Needed], task: u8, zone: ResourceSet) -> u32
-    ensures { result ≡ greatest (reads_there task zone) needs.now }
+/// The longest length of another task's read claim there, 0 of none.
+pub(crate) fn read_length(rows: &ZoneRows, tasks: u8, task: u8) -> u32
+    ensures { result ≡ unwrap_or (beside tasks task (row_at rows.now.reads.items)) 0 }
 {
-    needs.iter().fold(0, |most, n| {
-        if reads_there(task, zone, n) {
-            most.max(n.len)
-        } else {
-            most
-        }
-    })
+    row_beside(&rows.reads, tasks, task).unwrap_or(0)
 }
 
-/// The longest write length of a task in the zone, 0 of none.
-pub(crate) fn write_length(needs: &[Needed], task: u8, zone: ResourceSet, other: u8) -> u32
-    ensures { result ≡ write_length needs.now task zone other }
+/// The write length of another task than this one, 0 where it does not write there.
+pub(crate) fn write_length(writes: &[Option<u32>], task: u8, other: u8) -> u32
+    ensures { result ≡ write_length_in writes.now task other }
 {
-    needs.iter().fold(0, |most, n| {
-        if writes_there(task, zone, n) && n.claim.seat == other {
-            most.max(n.len)
-        } else {
-            most
-        }
-    })
+    other_at(writes, task, other).unwrap_or(0)
 }

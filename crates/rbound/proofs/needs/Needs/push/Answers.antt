@@ -1,8 +1,10 @@
-use Rattle.std.proofs.Common.{◌≡◌, ◌<◌, ◌∷◌, length, option_to_list, sym, ap, subst, ◌∙◌, arith}
-use Rattle.rbound.specs.Needs.{all_needed, needed_of}
+use Rattle.std.proofs.Common.{◌≡◌, ◌<◌, ◌∷◌, length, option_to_list, IsTrue, sym, ap, subst, ◌∙◌, arith}
+use Rattle.rset.specs.Sets.{all_below}
+use Rattle.rbound.specs.Needs.{Needs, all_needed, needed_of}
 use Rattle.rbound.specs.TaskNeeds.{TaskNeeds, requests_of, with_request}
-use Rattle.rbound.specs.Kept.{tasks_in}
+use Rattle.rbound.specs.Kept.{tasks_in, AreFine}
 use Rattle.rbound.proofs.Inserted.{inserted}
+use Rattle.rbound.proofs.Fine.{fine_pushed}
 use Rattle.rbound.proofs.needs.Needs.push.Goals as goal
 
 pub invariant_of-self-2 : goal.invariant_of-self-2
@@ -16,9 +18,12 @@ invariant_of-self-2 c =
     let number : c.len_of-number.result ≡ length (requests_of needs task) =
     c.len_of-number.ensures ∙ (λ k. length (requests_of (tasks_in (c.deref.ensures.value k)) (c.from.ensures k))) in
     let made_is : made ≡ needed_of groups task (length (requests_of needs task)) request =
-    c.needed_of-first.ensures ∙ ap (λ k. needed_of groups task k request) number in
+    c.needed_of-first.ensures.value ∙ ap (λ k. needed_of groups task k request) number in
     record {
       few = omega (arith, c.in_ok-push_request.ensures.len, c.self.invariant.few);
+      fine = subst (λ (ns : Needs). AreFine c.self.inside.groups.q ns) (sym (c.in_ok-push_request.ensures.ok ∙ ap (λ t. with_request needs t request) c.from-2.ensures))
+          (fine_pushed c.self.inside.groups.q needs task request c.self.invariant.fine
+          (record { normal = c.needed_of-first.ensures.normal; reads = subst (λ (n : TaskNeeds). IsTrue (all_below n.groups.q request.reads)) (sym c.self.view_is) c.requires.reads; writes = subst (λ (n : TaskNeeds). IsTrue (all_below n.groups.q request.writes)) (sym c.self.view_is) c.requires.writes }));
       claims =
           c.insert_needed.ensures
           ∙ inserted groups needs task request c.reserve.new.self.items made c.place_behind-at.result there (c.reserve.ensures.items ∙ c.self.invariant.claims) made_is
