@@ -5,7 +5,7 @@ ghost use Rattle.rbound.specs.TaskNeeds.{requests_of};
 ghost use Rattle.rbound_text.specs.BoundText.{bounds_text, tasks_rows, task_rows, request_rows, wait_row, asks_rows};
 
 use crate::line::push_line;
-use rbound::{Needs, Which, bound_of};
+use rbound::{Bounds, Which};
 use rclaim::Kind;
 use rscript::Script;
 use rset::NameTable;
@@ -22,115 +22,91 @@ pub fn bound_text(alloc: Global, script: &Script, cap: Option<u8>) -> Result<Vec
     requires { IfSome cap (λ m. 1 ≤ m) }
     ensures { IfOk result (λ text. text.items ≡ bounds_text script.now cap) }
 {
-    let needs = script.needs(alloc)?;
     let tasks = script.tasks();
     let cap = cap.unwrap_or(tasks.len());
+    let bounds = Bounds::of(alloc, script.needs(alloc)?, cap)?;
     let mut text = Vec::new(alloc);
-    push_tasks(alloc, &mut text, &needs, cap, tasks)?;
+    push_tasks(&mut text, &bounds, tasks)?;
     text.extend_from_slice(b"end\n")?;
     Ok(text)
 }
 
 // Appends the lines of all tasks.
-fn push_tasks(
-    alloc: Global,
-    text: &mut Vec<u8>,
-    needs: &Needs,
-    cap: u8,
-    tasks: &NameTable,
-) -> Result<(), AllocError>
-    requires cap { 1 ≤ cap }
-    requires tasks { length tasks.now ≡ length needs.now.tasks }
-    ensures { OnOk result (text.new.items ≡ text.old.items ++ text_of (tasks_rows needs.now cap tasks.now)) }
+fn push_tasks(text: &mut Vec<u8>, bounds: &Bounds, tasks: &NameTable) -> Result<(), AllocError>
+    requires { length tasks.now ≡ length bounds.now.needs.tasks }
+    ensures { OnOk result (text.new.items ≡ text.old.items ++ text_of (tasks_rows bounds.now.needs bounds.now.cap tasks.now)) }
 {
     for task in 0..tasks.len() {
-        push_task(alloc, text, needs, cap, tasks.name_of(task), task)?;
+        push_task(text, bounds, tasks.name_of(task), task)?;
     }
     Ok(())
 }
 
 // Appends the lines of a task.
-fn push_task(
-    alloc: Global,
-    text: &mut Vec<u8>,
-    needs: &Needs,
-    cap: u8,
-    name: &[u8],
-    task: u8,
-) -> Result<(), AllocError>
-    requires cap { 1 ≤ cap }
-    requires task { task < length needs.now.tasks }
-    ensures { OnOk result (text.new.items ≡ text.old.items ++ text_of (task_rows needs.now cap name.now task)) }
+fn push_task(text: &mut Vec<u8>, bounds: &Bounds, name: &[u8], task: u8) -> Result<(), AllocError>
+    requires { task < length bounds.now.needs.tasks }
+    ensures { OnOk result (text.new.items ≡ text.old.items ++ text_of (task_rows bounds.now.needs bounds.now.cap name.now task)) }
 {
-    for number in 0..needs.len(task) {
-        push_request(alloc, text, needs, cap, name, task, number)?;
+    for number in 0..bounds.needs().len(task) {
+        push_request(text, bounds, name, task, number)?;
     }
     Ok(())
 }
 
 // Appends the lines of a request.
 fn push_request(
-    alloc: Global,
     text: &mut Vec<u8>,
-    needs: &Needs,
-    cap: u8,
+    bounds: &Bounds,
     name: &[u8],
     task: u8,
     number: usize,
 ) -> Result<(), AllocError>
-    requires cap { 1 ≤ cap }
-    requires task { task < length needs.now.tasks }
-    requires number { number < length (requests_of needs.now.tasks task) }
+    requires task { task < length bounds.now.needs.tasks }
+    requires number { number < length (requests_of bounds.now.needs.tasks task) }
     requires small { number + 1 < 2 ^ 64 }
-    ensures { OnOk result (text.new.items ≡ text.old.items ++ text_of (request_rows needs.now cap name.now task number)) }
+    ensures { OnOk result (text.new.items ≡ text.old.items ++ text_of (request_rows bounds.now.needs bounds.now.cap name.now task number)) }
 {
-    push_wait(alloc, text, needs, cap, name, task, number, Which::First)?;
-    match needs.kind(task, number) {
+    push_wait(text, bounds, name, task, number, Which::First)?;
+    match bounds.needs().kind(task, number) {
         Kind::Read | Kind::Write | Kind::Mixed => Ok(()),
-        Kind::Upgrade => push_wait(alloc, text, needs, cap, name, task, number, Which::Rise),
-        Kind::Nested => push_asks(alloc, text, needs, cap, name, task, number),
+        Kind::Upgrade => push_wait(text, bounds, name, task, number, Which::Rise),
+        Kind::Nested => push_asks(text, bounds, name, task, number),
     }
 }
 
 // Appends the lines of the asks of a request.
 fn push_asks(
-    alloc: Global,
     text: &mut Vec<u8>,
-    needs: &Needs,
-    cap: u8,
+    bounds: &Bounds,
     name: &[u8],
     task: u8,
     number: usize,
 ) -> Result<(), AllocError>
-    requires cap { 1 ≤ cap }
-    requires task { task < length needs.now.tasks }
-    requires number { number < length (requests_of needs.now.tasks task) }
+    requires task { task < length bounds.now.needs.tasks }
+    requires number { number < length (requests_of bounds.now.needs.tasks task) }
     requires small { number + 1 < 2 ^ 64 }
-    ensures { OnOk result (text.new.items ≡ text.old.items ++ text_of (asks_rows needs.now cap name.now task number)) }
+    ensures { OnOk result (text.new.items ≡ text.old.items ++ text_of (asks_rows bounds.now.needs bounds.now.cap name.now task number)) }
 {
-    for i in 0..needs.asks(task, number) {
-        push_wait(alloc, text, needs, cap, name, task, number, Which::Ask(i))?;
+    for i in 0..bounds.needs().asks(task, number) {
+        push_wait(text, bounds, name, task, number, Which::Ask(i))?;
     }
     Ok(())
 }
 
 // Appends the line of a wait of a request.
 fn push_wait(
-    alloc: Global,
     text: &mut Vec<u8>,
-    needs: &Needs,
-    cap: u8,
+    bounds: &Bounds,
     name: &[u8],
     task: u8,
     number: usize,
     which: Which,
 ) -> Result<(), AllocError>
-    requires cap { 1 ≤ cap }
-    requires task { task < length needs.now.tasks }
-    requires number { number < length (requests_of needs.now.tasks task) }
+    requires task { task < length bounds.now.needs.tasks }
+    requires number { number < length (requests_of bounds.now.needs.tasks task) }
     requires small { number + 1 < 2 ^ 64 }
-    ensures { OnOk result (text.new.items ≡ text.old.items ++ line_text (wait_row needs.now cap name.now task number which)) }
+    ensures { OnOk result (text.new.items ≡ text.old.items ++ line_text (wait_row bounds.now.needs bounds.now.cap name.now task number which)) }
 {
-    let bound = bound_of(alloc, needs, cap, task, number, which)?;
+    let bound = bounds.bound(task, number, which);
     push_line(text, name, number + 1, which, &bound)
 }

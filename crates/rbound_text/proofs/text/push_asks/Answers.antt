@@ -7,5 +7,5 @@ use Rattle.rbound_text.proofs.text.push_asks.Goals as goal
 
 pub loop-i-preserved : goal.loop-i-preserved
 loop-i-preserved c =
-    let row = λ (i : ℕ). wait_row c.args.needs.now c.args.cap c.args.name.now c.args.task c.args.number (Ask i) in
+    let row = λ (i : ℕ). wait_row c.args.bounds.now.needs c.args.bounds.now.cap c.args.name.now c.args.task c.args.number (Ask i) in
     c.in_ok-push_wait.ensures ∙ ap (λ text. text ++ line_text (row c.loop-i.i)) c.loop-i.invariant ∙ row_more row c.args.text.now.items c.loop-i.i

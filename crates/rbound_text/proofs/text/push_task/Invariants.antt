@@ -5,4 +5,4 @@ use Rattle.rbound_text.specs.BoundText.{request_rows}
 use Rattle.rbound_text.proofs.text.push_task.Given as goal
 
 abbrev pub invariant-loop-number : goal.invariant-loop-number
-invariant-loop-number l = l.text.items ≡ l.fn.text.items ++ text_of (flat_map (request_rows l.needs l.cap l.name l.task) (range_with_len 0 l.number))
+invariant-loop-number l = l.text.items ≡ l.fn.text.items ++ text_of (flat_map (request_rows l.bounds.needs l.bounds.cap l.name l.task) (range_with_len 0 l.number))

@@ -6,4 +6,4 @@ use Rattle.rbound_text.specs.BoundText.{task_rows}
 use Rattle.rbound_text.proofs.text.push_tasks.Given as goal
 
 abbrev pub invariant-loop-task : goal.invariant-loop-task
-invariant-loop-task l = l.text.items ≡ l.fn.text.items ++ text_of (flat_map (λ task. task_rows l.needs l.cap (name_at l.tasks task) task) (range_with_len 0 l.task))
+invariant-loop-task l = l.text.items ≡ l.fn.text.items ++ text_of (flat_map (λ task. task_rows l.bounds.needs l.bounds.cap (name_at l.tasks task) task) (range_with_len 0 l.task))
