@@ -7,6 +7,7 @@
 use io_ends::{MemSink, MemSource};
 use rnlp_cli::{ToolStatus, answer};
 use rrun::NoPace;
+use rwatch::{Counter, WatchKind, Watcher, Watchers};
 use std::alloc::{AllocError, Global};
 use std::sync::Wait;
 use std::thread::Threads;
@@ -14,6 +15,17 @@ use std::{fs, io};
 
 // More bytes than any output here has.
 const ROOM: usize = 200_000;
+
+// What is counted, as the program counts it.
+const KINDS: [WatchKind; 7] = [
+    WatchKind::Issues,
+    WatchKind::Finishes,
+    WatchKind::Rises,
+    WatchKind::Asks,
+    WatchKind::Entitled,
+    WatchKind::Satisfied,
+    WatchKind::Grants,
+];
 
 // A case, as it stands in its file.
 #[derive(Drop)]
@@ -94,17 +106,35 @@ fn agrees<R: Threads + Wait + Sync>(
     let output = bytes_of(alloc, case.output, is_odd)?;
     let mut source = MemSource::new(input, Vec::new(alloc));
     let mut sink = MemSink::new(alloc, ROOM, Vec::new(alloc))?;
+    let status = answered(rt, alloc, &words, &mut source, &mut sink)?;
+    Ok(is_status(status, case.status) && sink.written() == output.as_slice())
+}
+
+// How the program answers the words, watched by a counter of each kind.
+fn answered<R: Threads + Wait + Sync>(
+    rt: &R,
+    alloc: Global,
+    words: &[String],
+    source: &mut MemSource,
+    sink: &mut MemSink,
+) -> Result<ToolStatus, AllocError> {
+    let mut list = Vec::new(alloc);
+    for kind in KINDS {
+        let counter: Box<dyn Watcher + Send> = Box::new(alloc, Counter::new(kind))?;
+        list.push(counter)?;
+    }
+    let mut watchers = Watchers::new(list);
     let mut receipts = Vec::new(alloc);
-    let status = answer(
+    Ok(answer(
         rt,
         alloc,
-        &words,
-        &mut source,
-        &mut sink,
+        words,
+        source,
+        sink,
         &NoPace,
         &mut receipts,
-    );
-    Ok(is_status(status, case.status) && sink.written() == output.as_slice())
+        &mut watchers,
+    ))
 }
 
 fn is_status(status: ToolStatus, number: &str) -> bool {

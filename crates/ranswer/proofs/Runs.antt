@@ -1,6 +1,6 @@
 -- What a run answers, and the receipts that it hands out, from how it ended.
 use Rattle.std.proofs.Common.{◌≡◌, ℕ, Bool, true, false, List, [], ◌∷◌, ◌++◌, codes, Option, Some, None, refl, sym, subst, inl, inr}
-use Rattle.std.specs.Prelude.{IfSome, if◌then◌else◌}
+use Rattle.std.specs.Prelude.{IfSome, if◌then◌else◌, option_map}
 use Rattle.std.specs.Str.{bytes_eq}
 use Rattle.rforms.specs.Reports.{Entry}
 use Rattle.rforms.specs.Texts.{report_text}
@@ -8,7 +8,7 @@ use Rattle.rreport.specs.Report.{ReportFields, told_by}
 use Rattle.rscript.specs.Scripts.{ScriptFields, IsTextOf}
 use Rattle.rrun.specs.Reporting.{IsReportOf}
 use Rattle.rwatch.specs.Seen.{Seen}
-use Rattle.ranswer.specs.Words.{plain_in}
+use Rattle.ranswer.specs.Words.{plain_in, events_told}
 use Rattle.ranswer.specs.Reading.{NotRead}
 use Rattle.ranswer.specs.Receipts.{OneMore, RunReceipts, Receipts}
 use Rattle.ranswer.specs.Running.{IsReported, IsRun}
@@ -108,11 +108,20 @@ no_run_either false o none e = none e
 nothing_is_no_run : ◌≡◌ {A = Option Command} None (Some Run) → ⊥
 nothing_is_no_run e = cc
 
+no_drill : (n : Option ℕ) → option_map Drill n ≡ Some Run → ⊥
+no_drill None e = cc
+no_drill (Some n) e = cc
+
+no_run_behind : (b : Bool) (n : Option ℕ) → (if b then option_map Drill n else None) ≡ Some Run → ⊥
+no_run_behind true n e = no_drill n e
+no_run_behind false n e = nothing_is_no_run e
+
 -- the tools that wait for nobody are asked for no run
 never_run : (words : List (List ℕ)) → plain_in words ≡ Some Run → ⊥
 never_run [] e = nothing_is_no_run e
 never_run (word ∷ []) e = no_run_either (bytes_eq word (codes "replay")) _ (λ h. no_run (bytes_eq word (codes "audit")) None nothing_is_no_run h) e
-never_run (word ∷ next ∷ words) e = nothing_is_no_run e
+never_run (word ∷ number ∷ []) e = no_run_behind (bytes_eq word (codes "drill")) (events_told number) e
+never_run (word ∷ number ∷ next ∷ words) e = nothing_is_no_run e
 
 -- so they hand out no receipt
 unmoved : (asked : Option Command) (left before after : Option (List ℕ)) (receipts later : List (List Entry)) (s : ToolStatus) → (asked ≡ Some Run → ⊥) → later ≡ receipts → Receipts asked left before after receipts later s

@@ -6,3 +6,4 @@ pub mod Writing
 pub mod Running
 pub mod Answer
 pub mod Receipts
+pub mod Watched

@@ -1,6 +1,7 @@
 -- The forms of the words behind the program's name, and what they ask for.
-use Rattle.std.specs.Prelude.{ℕ, ⊤, List, [], ◌∷◌, Option, Some, None, codes, if◌then◌else◌}
+use Rattle.std.specs.Prelude.{ℕ, ◌≤◌, ⊤, ◌&&◌, nat_le, List, [], ◌∷◌, length, Option, Some, None, option_map, option_and_then, codes, if◌then◌else◌}
 use Rattle.std.specs.Str.{bytes_eq}
+use Rattle.rforms.specs.Numbers.{number_told}
 use Rattle.ranswer.specs.declared.command.Command.{Command}
 use Rattle.ranswer.specs.declared.command.Command.TheVariants.{Run, Replay, Audit, Drill}
 
@@ -10,6 +11,18 @@ run_in [] = None
 run_in (word ∷ []) = if bytes_eq word (codes "run") then Some Run else None
 run_in (word ∷ next ∷ words) = None
 
+-- the most events of a drill
+abbrev pub most_events : ℕ
+most_events = 1000000
+
+-- the number of a drill's events is from 1 to the most that there may be
+abbrev pub events_within : ℕ → Option ℕ
+events_within n = if nat_le 1 n && nat_le n most_events then Some n else None
+
+-- the number of a drill's events that a word of 1 to 7 digits tells, if it tells one
+unfoldable pub events_told : List ℕ → Option ℕ
+events_told word = if nat_le (length word) 7 then option_and_then events_within (number_told word) else None
+
 -- what they ask of the tools that wait for nobody
 abbrev pub plain_in : List (List ℕ) → Option Command
 plain_in [] = None
@@ -17,14 +30,15 @@ plain_in (word ∷ []) =
     if bytes_eq word (codes "replay") then Some Replay
     else if bytes_eq word (codes "audit") then Some Audit
     else None
-plain_in (word ∷ next ∷ words) = None
+plain_in (word ∷ number ∷ []) = if bytes_eq word (codes "drill") then option_map Drill (events_told number) else None
+plain_in (word ∷ number ∷ next ∷ words) = None
 
--- a command of the tools that wait for nobody
+-- a command of the tools that wait for nobody; a drill has no more events than there may be
 abbrev pub IsPlain : Command → Type 0
 IsPlain Run = ⊥
 IsPlain Replay = ⊤
 IsPlain Audit = ⊤
-IsPlain (Drill count) = ⊥
+IsPlain (Drill count) = count ≤ most_events
 
 -- what they ask of the program: the first word says of which tool
 abbrev pub command_in : List (List ℕ) → Option Command

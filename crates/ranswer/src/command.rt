@@ -1,7 +1,10 @@
 // The words after the program's name, and what they ask for.
-ghost use Rattle.std.specs.Prelude.{◌≡◌, Some, None, IfSome, map, string_bytes, if◌then◌else◌};
-ghost use Rattle.ranswer.specs.Words.{command_in, run_in, plain_in, IsPlain};
+ghost use Rattle.std.specs.Prelude.{◌≡◌, ◌≤◌, option_map, Some, None, IfSome, map, string_bytes, if◌then◌else◌};
+ghost use Rattle.ranswer.specs.Words.{command_in, run_in, plain_in, events_within, events_told, most_events, IsPlain};
 ghost use Rattle.ranswer.specs.Outputs.{limit_of};
+
+use rdrill::MOST_EVENTS;
+use rrecords::number_of;
 
 /// What words ask for.
 #[derive(Clone, Copy, Debug, PartialEq, Eq)]
@@ -63,6 +66,41 @@ pub fn plain_of(words: &[String]) -> Option<Command>
     match words {
         [word] if word.as_str() == "replay" => Some(Command::Replay),
         [word] if word.as_str() == "audit" => Some(Command::Audit),
+        [word, number] if word.as_str() == "drill" => drill_of(number.as_str()),
         _ => None,
+    }
+}
+
+// The drill of so many events; None where the word tells no such number.
+fn drill_of(number: &str) -> Option<Command>
+    ensures asked { result ≡ option_map Command.Drill (events_told number.now) }
+    ensures plain { IfSome result IsPlain }
+{
+    match events_of(number.as_bytes()) {
+        Some(count) => Some(Command::Drill(count)),
+        None => None,
+    }
+}
+
+// The number of events that a word of 1 to 7 digits tells.
+fn events_of(word: &[u8]) -> Option<u32>
+    ensures told { result ≡ events_told word.now }
+    ensures most { IfSome result (λ count. count ≤ most_events) }
+{
+    if word.len() > 7 {
+        return None;
+    }
+    events_within(number_of(word)?)
+}
+
+// The number as that of a drill's events; None where there are none or too many.
+fn events_within(number: u64) -> Option<u32>
+    ensures told { result ≡ events_within number }
+    ensures most { IfSome result (λ count. count ≤ most_events) }
+{
+    if number == 0 || number > u64::from(MOST_EVENTS) {
+        None
+    } else {
+        Some(number as u32)
     }
 }

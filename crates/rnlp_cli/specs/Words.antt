@@ -11,6 +11,7 @@ help_text =
     ++ (codes "  run          read a script, run its tasks, each on a thread of its own, and write the report of what happened" ++ 10 ∷ [])
     ++ (codes "  replay       read an event list, and write its report" ++ 10 ∷ [])
     ++ (codes "  audit        read a report, check all of it, and write how many events and waits it has" ++ 10 ∷ [])
+    ++ (codes "  drill N      draw N events, from 1 to 1000000, and write what was counted of them; it reads no input" ++ 10 ∷ [])
     ++ (codes "  --help, -h   write this text" ++ 10 ∷ [])
     ++ (codes "  --version    write the versions of the formats and of the kit that proved the program" ++ 10 ∷ [])
     ++ (10 ∷ [])

@@ -13,6 +13,7 @@ use ranswer::{ToolStatus, are_for_run, write_output};
 use rguard::Receipt;
 use rrun::Pace;
 use rvalue::Edit;
+use rwatch::Audience;
 use std::alloc::Global;
 use std::env;
 use std::io::ErrorKind;
@@ -22,18 +23,27 @@ use std::sync::Wait;
 use std::thread::Threads;
 
 /// Runs the program: answers the words that it was started with, tells a person on standard error what went wrong, and
-/// gives the exit status.
+/// gives the exit status. Behind a replay that was watched the person is told what was counted, where standard error is
+/// a terminal.
 ///
 /// Which words an environment holds no contract can say: `words_of` takes those behind the program's name.
-pub fn run<R: Env + AllocGlobal + Eprint + Threads + Wait + Sync, S: Source, K: Sink, G: Pace>(
+pub fn run<
+    R: Env + AllocGlobal + Eprint + Threads + Wait + Sync,
+    S: Source,
+    K: Sink,
+    G: Pace,
+    A: Audience,
+>(
     rt: &R,
     source: &mut S,
     sink: &mut K,
     pace: &G,
     receipts: &mut Vec<Receipt<Edit>>,
+    audience: &mut A,
+    on_terminal: bool,
 ) -> ExitCode
     ensures { (status : ToolStatus) × (exit_status result ≡ status_number status)
-        × RunAnswer S.left S.faults K.written K.faults source.old source.new sink.old sink.new receipts.old.items receipts.new.items status }
+        × RunAnswer S.left S.faults K.written K.faults source.old source.new sink.old sink.new receipts.old.items receipts.new.items (A.all audience.old) (A.all audience.new) status }
 {
     let mut told = None;
     let status = match words_of(rt) {
@@ -45,16 +55,17 @@ pub fn run<R: Env + AllocGlobal + Eprint + Threads + Wait + Sync, S: Source, K: 
             sink,
             pace,
             receipts,
+            audience,
             &mut told,
         ),
         Err(status) => status,
     };
-    explain(rt, status, told);
+    explain(rt, status, told, audience, on_terminal);
     ExitCode::from(status.number())
 }
 
 /// Answers the words that ask about the program itself, and else runs the tool that they are for.
-pub fn answer<R: Threads + Wait + Sync, S: Source, K: Sink, G: Pace>(
+pub fn answer<R: Threads + Wait + Sync, S: Source, K: Sink, G: Pace, A: Audience>(
     rt: &R,
     alloc: Global,
     words: &[String],
@@ -62,14 +73,17 @@ pub fn answer<R: Threads + Wait + Sync, S: Source, K: Sink, G: Pace>(
     sink: &mut K,
     pace: &G,
     receipts: &mut Vec<Receipt<Edit>>,
+    audience: &mut A,
 ) -> ToolStatus
-    ensures { ProgramAnswer S.left S.faults K.written K.faults (map string_bytes words.now) source.old source.new sink.old sink.new receipts.old.items receipts.new.items result }
+    ensures { ProgramAnswer S.left S.faults K.written K.faults (map string_bytes words.now) source.old source.new sink.old sink.new receipts.old.items receipts.new.items (A.all audience.old) (A.all audience.new) result }
 {
-    told_answer(rt, alloc, words, source, sink, pace, receipts, &mut None)
+    told_answer(
+        rt, alloc, words, source, sink, pace, receipts, audience, &mut None,
+    )
 }
 
-// The same; and the first fault of an input that is refused is put into `told` too, for a person.
-fn told_answer<R: Threads + Wait + Sync, S: Source, K: Sink, G: Pace>(
+// The same; and what a person may be told of the run beyond its status is put into `told` too.
+fn told_answer<R: Threads + Wait + Sync, S: Source, K: Sink, G: Pace, A: Audience>(
     rt: &R,
     alloc: Global,
     words: &[String],
@@ -77,9 +91,10 @@ fn told_answer<R: Threads + Wait + Sync, S: Source, K: Sink, G: Pace>(
     sink: &mut K,
     pace: &G,
     receipts: &mut Vec<Receipt<Edit>>,
+    audience: &mut A,
     told: &mut Option<Told>,
 ) -> ToolStatus
-    ensures { ProgramAnswer S.left S.faults K.written K.faults (map string_bytes words.now) source.old source.new sink.old sink.new receipts.old.items receipts.new.items result }
+    ensures { ProgramAnswer S.left S.faults K.written K.faults (map string_bytes words.now) source.old source.new sink.old sink.new receipts.old.items receipts.new.items (A.all audience.old) (A.all audience.new) result }
 {
     if let Some(text) = own_text(words) {
         return write_output(sink, text);
@@ -87,7 +102,7 @@ fn told_answer<R: Threads + Wait + Sync, S: Source, K: Sink, G: Pace>(
     if are_for_run(words) {
         told_run(rt, alloc, words, source, sink, pace, receipts, told)
     } else {
-        told_tool(alloc, words, source, sink, told)
+        told_tool(alloc, words, source, sink, audience, told)
     }
 }
 

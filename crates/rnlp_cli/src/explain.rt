@@ -4,11 +4,14 @@ use rclaim::RequestErr;
 use rforms::{Code, Fault, Refusal};
 use rmodel::Refused;
 use rscript::Code as ScriptCode;
+use rwatch::{Audience, WatchKind};
 use std::io;
 
-/// What is told of a refused input: its first fault.
+/// What a person may be told beyond a status: of a refused input its first fault.
 #[derive(Drop)]
 pub enum Told {
+    /// The steps of a list were told to those who watch.
+    Steps,
     /// Of an event list or a report, and the line that is due in its place, where one is.
     List {
         fault: Fault,
@@ -21,9 +24,22 @@ pub enum Told {
     },
 }
 
-/// Tells a person what a status means, and of a refused input what is wrong with which record, and which line is due there.
-pub fn explain(rt: &impl Eprint, status: ToolStatus, told: Option<Told>) {
+/// Tells a person what a status means, and of a refused input what is wrong with which record, and which line is due there;
+/// on a terminal also what was counted of the steps that were told.
+pub fn explain<A: Audience>(
+    rt: &impl Eprint,
+    status: ToolStatus,
+    told: Option<Told>,
+    audience: &A,
+    on_terminal: bool,
+) {
     match told {
+        Some(Told::Steps) => {
+            let _ = explain_status(rt, status);
+            if on_terminal {
+                let _ = explain_counts(rt, audience);
+            }
+        }
         Some(Told::List { fault, expected }) => {
             let _ = explain_fault(rt, fault);
             if let Some(line) = expected {
@@ -43,7 +59,7 @@ fn explain_status(rt: &impl Eprint, status: ToolStatus) -> io::Result<()> {
     let meaning = match status {
         ToolStatus::Done => return Ok(()),
         ToolStatus::Words => {
-            "no such form. A form reads standard input: rnlp run < SCRIPT, rnlp replay < LIST, or rnlp audit < REPORT. rnlp --help tells all"
+            "no such form. The forms are rnlp run < SCRIPT, rnlp replay < LIST, rnlp audit < REPORT, and rnlp drill N. rnlp --help tells all"
         }
         ToolStatus::ReadFault => "standard input failed",
         ToolStatus::WriteFault => "standard output failed",
@@ -53,6 +69,27 @@ fn explain_status(rt: &impl Eprint, status: ToolStatus) -> io::Result<()> {
         ToolStatus::Trace => "the input is no event list, or no right report",
     };
     rt.eprintln(format_args!("rnlp: {meaning}"))
+}
+
+fn explain_counts<A: Audience>(rt: &impl Eprint, audience: &A) -> io::Result<()> {
+    for i in 0..audience.count() {
+        let kind = word_of(audience.kind_of(i));
+        let count = audience.count_of(i);
+        rt.eprintln(format_args!("rnlp: {kind} {count}"))?;
+    }
+    Ok(())
+}
+
+fn word_of(kind: WatchKind) -> &'static str {
+    match kind {
+        WatchKind::Issues => "issues",
+        WatchKind::Finishes => "finishes",
+        WatchKind::Rises => "rises",
+        WatchKind::Asks => "asks",
+        WatchKind::Entitled => "entitled",
+        WatchKind::Satisfied => "satisfied",
+        WatchKind::Grants => "grants",
+    }
 }
 
 fn explain_script(rt: &impl Eprint, line: u64, code: ScriptCode) -> io::Result<()> {

@@ -5,6 +5,7 @@
 #![tactic(auto)]
 
 mod auditing;
+mod drilling;
 mod edge;
 mod expected;
 mod explain;

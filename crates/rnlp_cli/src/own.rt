@@ -8,6 +8,7 @@ forms
   run          read a script, run its tasks, each on a thread of its own, and write the report of what happened
   replay       read an event list, and write its report
   audit        read a report, check all of it, and write how many events and waits it has
+  drill N      draw N events, from 1 to 1000000, and write what was counted of them; it reads no input
   --help, -h   write this text
   --version    write the versions of the formats and of the kit that proved the program
 

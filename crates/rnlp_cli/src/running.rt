@@ -1,9 +1,10 @@
 // The tool that runs scripts, and waits for its workers.
-ghost use Rattle.std.specs.Prelude.{◌≡◌, Some, [], map, string_bytes};
+ghost use Rattle.std.specs.Prelude.{◌≡◌, Some, List, [], map, string_bytes};
 ghost use Rattle.io_ends.specs.Faults.{Rose};
 ghost use Rattle.rforms.specs.Texts.{report_text};
 ghost use Rattle.rforms.specs.Written.{MayBeWritten};
 ghost use Rattle.rreport.specs.Report.{told_by, IsOverResources, HasItsLedgers};
+ghost use Rattle.rwatch.specs.Seen.{Seen};
 ghost use Rattle.ranswer.specs.Words.{run_in};
 ghost use Rattle.ranswer.specs.Answer.{ToolAnswer};
 ghost use Rattle.ranswer.specs.Outputs.{script_line};
@@ -55,7 +56,7 @@ pub fn told_run<R: Threads + Wait + Sync, S: Source, K: Sink, G: Pace>(
     receipts: &mut Vec<Receipt<Edit>>,
     told: &mut Option<Told>,
 ) -> ToolStatus
-    ensures answer { ToolAnswer S.left S.faults K.written K.faults [] (run_in (map string_bytes words.now)) source.old source.new sink.old sink.new result }
+    ensures answer { (watchers : List Seen) → ToolAnswer S.left S.faults K.written K.faults watchers (run_in (map string_bytes words.now)) source.old source.new sink.old sink.new result }
     ensures receipts { Receipts (run_in (map string_bytes words.now)) (S.left source.old) (K.written sink.old) (K.written sink.new) receipts.old.items receipts.new.items result }
 {
     if !ask_for_run(words) {
@@ -77,7 +78,7 @@ fn run_text<R: Threads + Wait + Sync, K: Sink, G: Pace>(
     receipts: &mut Vec<Receipt<Edit>>,
     told: &mut Option<Told>,
 ) -> ToolStatus
-    ensures answer { IsAnswer [] (Some Command.Run) bytes.now (K.written sink.old) (K.written sink.new) (K.faults sink.new ≡ K.faults sink.old) (Rose (K.faults sink.old) (K.faults sink.new)) (sink.new ≡ sink.old) result }
+    ensures answer { (watchers : List Seen) → IsAnswer watchers (Some Command.Run) bytes.now (K.written sink.old) (K.written sink.new) (K.faults sink.new ≡ K.faults sink.old) (Rose (K.faults sink.old) (K.faults sink.new)) (sink.new ≡ sink.old) result }
     ensures receipts { RunReceipts (Some bytes.now) (K.written sink.old) (K.written sink.new) receipts.old.items receipts.new.items result }
 {
     match read_script(alloc, bytes) {

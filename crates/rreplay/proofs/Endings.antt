@@ -1,15 +1,19 @@
 -- The report of an event list that was read to its end.
-use Rattle.std.proofs.Common.{◌≡◌, ℕ, ◌<◌, true, false, List, [], ◌∷◌, ◌++◌, map, length, Some, None, refl, sym, ap, ◌∙◌, arith, cond, nat_lt, eqb-true}
-use Rattle.std.specs.Prelude.{Bool, IsSome, is_some}
+use Rattle.std.proofs.Common.{◌≡◌, ℕ, ◌<◌, true, false, List, [], ◌∷◌, ◌++◌, map, length, Some, None, refl, sym, ap, subst, ◌≤◌, ◌∙◌, arith, cond, nat_lt, eqb-true}
+use Rattle.std.specs.Prelude.{Bool, Option, IfSome, IsSome, is_some, unwrap_or}
 use Rattle.std.specs.List.{range_with_len}
 use Rattle.std.proofs.lemmas.List.{same_lists}
 use Rattle.std.proofs.lemmas.List.FromFn.{length-map-range_with_len, get_or-map-range_with_len}
 use Rattle.std.proofs.lemmas.Option.{get_or_from_slice_get}
 use Rattle.rexpand.specs.Groups.{ReadGroups}
 use Rattle.rforms.specs.Fields.{Names}
-use Rattle.rforms.specs.Heads.{read_groups, cap_or}
+use Rattle.rset.specs.declared.TheConstants.{SEATS}
+use Rattle.rclaim.specs.declared.event.Event.{Event}
+use Rattle.rmodel.specs.State.{LockState, opening}
+use Rattle.rmodel.specs.Steps.{AreAccepted}
+use Rattle.rforms.specs.Heads.{read_groups, cap_or, opening_of}
 use Rattle.rforms.specs.Lines.{Ends}
-use Rattle.rforms.specs.Reports.{Spells, ledger_after, declared_lines, history_lines}
+use Rattle.rforms.specs.Reports.{Report, Spells, IsLawful, ledger_after, declared_lines, history_lines}
 use Rattle.rforms.specs.SoFar.{SoFar, nothing_yet, entries_in, head_in, names_in, told_in, with_row}
 use Rattle.rforms.specs.Faults.{code_of, is_ended, read_all}
 use Rattle.rforms.specs.Takers.{HasTaken, list_code, is_list_done, KnowsSaid}
@@ -18,12 +22,16 @@ use Rattle.rforms.specs.declared.fault.Code.TheVariants.{NoEnd}
 use Rattle.rforms.proofs.facts.Walks.{no_fault}
 use Rattle.rforms.proofs.texts.Lists.{list_faults}
 use Rattle.rforms.proofs.forth.Rows.{spells}
+use Rattle.rforms.proofs.written.Reaching.{accepted_from}
 use Rattle.rreport.specs.Report.{ReportFields}
 use Rattle.rreport.specs.Told.{told, leaves_from}
 use Rattle.rreport.proofs.Parts.{parts_are}
 use Rattle.rtrace.specs.Knows.{Knows}
 use Rattle.rtrace.specs.declared.reading.Reading.{Reading}
+use Rattle.rtrace.proofs.HeadSteps.{cap_fits}
 use Rattle.rreplay.specs.Names.{names_read}
+use Rattle.rreplay.specs.Stepping.{IsAtHead, AreStepsOf}
+use Rattle.rreplay.specs.declared.steps.Steps.{Steps}
 use Rattle.rreplay.specs.Replaying.{history_text}
 use Rattle.rreplay.proofs.Replays.{names_are}
 
@@ -75,3 +83,11 @@ made_are reading s names history head made ending groups k ended named there e f
     (ap (λ (o : ReadGroups). o.groups) (one_some (sym there ∙ groups_are false reading s k ended)))
     (λ i. cap_or (k.tasks i) (k.cap i)) refl (ledgers_are false reading s k) e
     (is ∙ f ∙ ap (λ n. told n (history_lines true (head_in s) [] (entries_in s))) (sym own)) g
+
+-- ---- the steps of a list
+
+pub steps_are : (report : Report) (steps : Steps) → IsLawful report.head report.entries → IsAtHead report steps → AreStepsOf report steps
+steps_are report steps lawful h = record {
+  at_head = h;
+  accepted = subst (λ (s : LockState). AreAccepted s steps.events.items) (sym h.state) (subst (λ (es : List Event). AreAccepted (opening_of report.head) es) (sym h.events) (accepted_from report.head [] report.entries lawful));
+}

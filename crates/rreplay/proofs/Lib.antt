@@ -1,3 +1,4 @@
 pub mod Following
 pub mod Replays
 pub mod Endings
+pub mod Telling

@@ -1,5 +1,6 @@
 -- What is known of a replay behind a record.
 use Rattle.std.proofs.Common.{◌≡◌, inl, inr, ◌⊎◌, ℕ, ◌≤◌, false, List, [], ◌∷◌, ◌++◌, Option, Some, None, sym, ap, ◌∙◌}
+use Rattle.std.proofs.lemmas.List.{map-append}
 use Rattle.std.specs.Prelude.{Result, Err, option_to_list, IfSome}
 use Rattle.rclaim.specs.declared.event.Event.{Event}
 use Rattle.rmodel.specs.Changes.{changes_between}
@@ -15,7 +16,8 @@ use Rattle.rreport.specs.Told.{told}
 use Rattle.rtrace.specs.Knows.{Knows, changes_in}
 use Rattle.rtrace.specs.declared.reading.Reading.{Reading}
 use Rattle.rreplay.specs.Names.{names_read}
-use Rattle.rreplay.specs.Replaying.{history_text}
+use Rattle.rreplay.specs.Events.{events_of}
+use Rattle.rreplay.specs.Replaying.{history_text, events_in}
 use Rattle.rreplay.proofs.Following.{event_head, event_text, other_text, far_head, far_place}
 
 pub if_some_weaker : {X : Type 0} {P Q : X → Type 0} (o : Option X) → ((x : X) → P x → Q x) → IfSome o P → IfSome o Q
@@ -65,3 +67,11 @@ module _ (s : SoFar) (row : Row) (right : code_of false s row ≡ None) (before 
 
   pub other_history : (old : List ℕ) → (with_row false s row).earlier ≡ s.earlier → (with_row false s row).latest ≡ s.latest → old ≡ history_text s → old ≡ history_text (with_row false s row)
   other_history old earlier latest f = f ∙ sym (other_text s row right (no_entries before s was) earlier latest)
+
+  -- the events, with the event behind them
+  pub event_list : (e : Event) (old new : List Event) → (with_row false s row).earlier ≡ entries_in s → (with_row false s row).latest ≡ Some (bare e) → old ≡ events_in s → new ≡ old ++ e ∷ [] → new ≡ events_in (with_row false s row)
+  event_list e old new earlier latest f g =
+      g ∙ ap (λ (es : List Event). es ++ e ∷ []) f ∙ sym (map-append (λ (entry : Entry). entry.event) (entries_in s) (bare e ∷ [])) ∙ sym (λ i. events_of (earlier i ++ option_to_list (latest i)))
+
+  pub other_list : (old : List Event) → (with_row false s row).earlier ≡ s.earlier → (with_row false s row).latest ≡ s.latest → old ≡ events_in s → old ≡ events_in (with_row false s row)
+  other_list old earlier latest f = f ∙ sym (λ i. events_of (earlier i ++ option_to_list (latest i)))

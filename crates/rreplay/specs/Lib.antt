@@ -1,2 +1,4 @@
 pub mod Names
+pub mod Events
 pub mod Replaying
+pub mod Stepping

@@ -1,6 +1,7 @@
 // Runs over memory, and whether they end as they should.
 use io_ends::{MemSink, MemSource};
 use rnlp_cli::{ToolStatus, plain_tool};
+use rwatch::Watchers;
 use std::alloc::Global;
 use std::test::Fail;
 
@@ -32,7 +33,8 @@ pub fn ends(
     words.push(String::from_str(alloc, given.word)?)?;
     let mut source = MemSource::new(given.input.to_vec(alloc)?, given.reads.to_vec(alloc)?);
     let mut sink = MemSink::new(alloc, ROOM, given.writes.to_vec(alloc)?)?;
-    let answer = plain_tool(alloc, &words, &mut source, &mut sink);
+    let mut nobody = Watchers::new(Vec::new(alloc));
+    let answer = plain_tool(alloc, &words, &mut source, &mut sink, &mut nobody);
     Ok(answer == status && sink.written() == output)
 }
 
@@ -47,6 +49,7 @@ pub fn replay_ends(
     words.push(String::from_str(alloc, "replay")?)?;
     let mut source = MemSource::new(input.to_vec(alloc)?, Vec::new(alloc));
     let mut sink = MemSink::new(alloc, ROOM, Vec::new(alloc))?;
-    let answer = plain_tool(alloc, &words, &mut source, &mut sink);
+    let mut nobody = Watchers::new(Vec::new(alloc));
+    let answer = plain_tool(alloc, &words, &mut source, &mut sink, &mut nobody);
     Ok(answer == status && sink.written().ends_with(last))
 }

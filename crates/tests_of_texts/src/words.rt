@@ -5,6 +5,7 @@ use crate::runs::{SMALLEST, SMALLEST_REPORT};
 use io_ends::{MemSink, MemSource};
 use rnlp_cli::{ToolStatus, answer, words_of};
 use rrun::NoPace;
+use rwatch::Watchers;
 use std::alloc::Global;
 use std::env::FillError;
 use std::rt::Env;
@@ -97,6 +98,7 @@ fn breaks_off<R: Threads + Wait + Sync>(rt: &R, alloc: Global, word: &str) -> Re
     let mut source = MemSource::new(SMALLEST.to_vec(alloc)?, Vec::new(alloc));
     let mut sink = MemSink::new(alloc, SMALLEST_REPORT.len(), [1].to_vec(alloc)?)?;
     let mut receipts = Vec::new(alloc);
+    let mut nobody = Watchers::new(Vec::new(alloc));
     let status = answer(
         rt,
         alloc,
@@ -105,6 +107,7 @@ fn breaks_off<R: Threads + Wait + Sync>(rt: &R, alloc: Global, word: &str) -> Re
         &mut sink,
         &NoPace,
         &mut receipts,
+        &mut nobody,
     );
     Ok(status == ToolStatus::WriteFault && sink.written().is_empty())
 }

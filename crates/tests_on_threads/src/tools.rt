@@ -2,6 +2,7 @@
 use io_ends::{MemSink, MemSource};
 use rnlp_cli::{ToolStatus, plain_tool, run_tool};
 use rrun::{NoPace, Pace};
+use rwatch::Watchers;
 use std::alloc::{AllocError, Global};
 use std::sync::Wait;
 use std::sync::atomic::{AtomicU64, Ordering};
@@ -116,7 +117,8 @@ fn audited(alloc: Global, report: &[u8]) -> Result<Vec<u8>, AllocError> {
     let words = words_of(alloc, "audit")?;
     let mut source = MemSource::new(report.to_vec(alloc)?, Vec::new(alloc));
     let mut sink = MemSink::new(alloc, 100, Vec::new(alloc))?;
-    plain_tool(alloc, &words, &mut source, &mut sink);
+    let mut nobody = Watchers::new(Vec::new(alloc));
+    plain_tool(alloc, &words, &mut source, &mut sink, &mut nobody);
     sink.written().to_vec(alloc)
 }
 

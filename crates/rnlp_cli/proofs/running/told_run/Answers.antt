@@ -1,4 +1,4 @@
-use Rattle.std.proofs.Common.{[], sym, subst}
+use Rattle.std.proofs.Common.{sym, subst}
 use Rattle.ranswer.proofs.ToolAnswers.{answered}
 use Rattle.ranswer.proofs.Runs.{receipts_left}
 use Rattle.ranswer.specs.Receipts.{Receipts}
@@ -6,7 +6,7 @@ use Rattle.ranswer.specs.declared.command.Command.TheVariants.{Run}
 use Rattle.rnlp_cli.proofs.running.told_run.Goals as goal
 
 pub returns-in-Ok-clause-answer : goal.returns-in-Ok-clause-answer
-returns-in-Ok-clause-answer g c = answered _ _ _ _ [] _ Run _ _ _ _ c.deref.result.now c.run_text.result c.if-not-ask_for_run.ensures (rw c.deref.ensures.value c.in-Ok.ensures.read) c.run_text.ensures.answer
+returns-in-Ok-clause-answer g c = λ watchers. answered _ _ _ _ watchers _ Run _ _ _ _ c.deref.result.now c.run_text.result c.if-not-ask_for_run.ensures (rw c.deref.ensures.value c.in-Ok.ensures.read) (c.run_text.ensures.answer watchers)
 
 pub returns-in-Ok-clause-receipts : goal.returns-in-Ok-clause-receipts
 returns-in-Ok-clause-receipts g c =

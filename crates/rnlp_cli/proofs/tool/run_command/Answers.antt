@@ -1,7 +1,24 @@
+use Rattle.std.proofs.Common.{Some, refl}
+use Rattle.ranswer.proofs.Outcomes.{written}
+use Rattle.ranswer.specs.Outputs.{drill_text}
+use Rattle.ranswer.specs.declared.command.Command.TheVariants.{Drill}
 use Rattle.rnlp_cli.proofs.tool.run_command.Goals as goal
 
-pub returns-in-Replay : goal.returns-in-Replay
-returns-in-Replay g c = rw c.in-Replay.is c.replay.ensures
+pub returns-in-Replay-clause-answer : goal.returns-in-Replay-clause-answer
+returns-in-Replay-clause-answer g c = rw c.in-Replay.is c.replay.ensures.answer
 
-pub returns-in-Audit : goal.returns-in-Audit
-returns-in-Audit g c = rw c.in-Audit.is c.audit.ensures
+pub returns-in-Replay-clause-watched : goal.returns-in-Replay-clause-watched
+returns-in-Replay-clause-watched g c = rw c.in-Replay.is c.replay.ensures.watched
+
+pub returns-in-Audit-clause-answer : goal.returns-in-Audit-clause-answer
+returns-in-Audit-clause-answer g c = rw c.in-Audit.is (c.audit.ensures (g.A.Audience.all c.args.audience.now))
+
+pub returns-in-Audit-clause-watched : goal.returns-in-Audit-clause-watched
+returns-in-Audit-clause-watched g c = rw c.in-Audit.is refl
+
+pub returns-in-Drill-clause-answer : goal.returns-in-Drill-clause-answer
+returns-in-Drill-clause-answer g c =
+    rw c.in-Drill.is (written (g.A.Audience.all c.args.audience.now) (Some (Drill c.in-Drill.count)) c.args.bytes.now (drill_text c.in-Drill.count (g.A.Audience.all c.args.audience.now)) _ _ _ _ _ c.drill_tool.result refl c.drill_tool.ensures.written)
+
+pub returns-in-Drill-clause-watched : goal.returns-in-Drill-clause-watched
+returns-in-Drill-clause-watched g c = rw c.in-Drill.is c.drill_tool.ensures.watched

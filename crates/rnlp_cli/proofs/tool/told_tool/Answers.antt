@@ -1,9 +1,22 @@
-use Rattle.std.proofs.Common.{[], sym, ◌∙◌}
+use Rattle.std.proofs.Common.{Some, sym, ◌∙◌, subst}
 use Rattle.ranswer.proofs.ToolAnswers.{answered, unread}
+use Rattle.ranswer.proofs.Watches.{unread_watched, watched_left}
+use Rattle.ranswer.specs.Watched.{Watched}
 use Rattle.rnlp_cli.proofs.tool.told_tool.Goals as goal
 
-pub returns-in-Ok : goal.returns-in-Ok
-returns-in-Ok g c = answered _ _ _ _ [] _ c.in-Some.command _ _ _ _ c.deref.result.now c.run_command.result (sym c.plain_of.ensures.asked ∙ c.in-Some.is) (rw c.deref.ensures.value c.in-Ok.ensures.read) c.run_command.ensures
+pub returns-in-Ok-clause-answer : goal.returns-in-Ok-clause-answer
+returns-in-Ok-clause-answer g c =
+    answered _ _ _ _ (g.A.Audience.all c.args.audience.now) _ c.in-Some.command _ _ _ _ c.deref.result.now c.run_command.result (sym c.plain_of.ensures.asked ∙ c.in-Some.is) (rw c.deref.ensures.value c.in-Ok.ensures.read) c.run_command.ensures.answer
 
-pub returns-in-Err : goal.returns-in-Err
-returns-in-Err g c = unread _ _ _ _ [] _ c.in-Some.command _ _ _ c.in-Err.status (sym c.plain_of.ensures.asked ∙ c.in-Some.is) c.in-Err.ensures.not_read
+pub returns-in-Ok-clause-watched : goal.returns-in-Ok-clause-watched
+returns-in-Ok-clause-watched g c =
+    let read = rw (← c.deref.ensures.value) at c.in-Ok.ensures.read in
+    subst (λ o. Watched o (g.S.Source.left c.args.source.now) (g.K.Sink.written c.args.sink.now) (g.K.Sink.written c.run_command.new.sink) (g.A.Audience.all c.args.audience.now) (g.A.Audience.all c.run_command.new.audience) c.run_command.result)
+    (sym (sym c.plain_of.ensures.asked ∙ c.in-Some.is))
+    (watched_left c.in-Some.command (g.S.Source.left c.args.source.now) c.deref.result.now _ _ _ _ c.run_command.result read.whole c.run_command.ensures.watched)
+
+pub returns-in-Err-clause-answer : goal.returns-in-Err-clause-answer
+returns-in-Err-clause-answer g c = unread _ _ _ _ (g.A.Audience.all c.args.audience.now) _ c.in-Some.command _ _ _ c.in-Err.status (sym c.plain_of.ensures.asked ∙ c.in-Some.is) c.in-Err.ensures.not_read
+
+pub returns-in-Err-clause-watched : goal.returns-in-Err-clause-watched
+returns-in-Err-clause-watched g c = unread_watched g.S.Source.left g.S.Source.faults (Some c.in-Some.command) _ _ _ _ _ _ _ c.in-Err.status c.in-Err.ensures.not_read
