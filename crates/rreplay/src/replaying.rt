@@ -16,10 +16,10 @@ ghost use Rattle.rtrace.specs.Knows.{Knows, changes_in};
 ghost use Rattle.rreplay.specs.Names.{names_read};
 ghost use Rattle.rreplay.specs.Stepping.{AreStepsOf};
 
+use crate::steps::Steps;
 use csv::ByteRecord;
 use rclaim::{Changes, Event};
 use rforms::{Code, Records, RowErr, TextErr, take_text};
-use crate::steps::Steps;
 use rmodel::Machine;
 use rplain::Plain;
 use rreport::{NameRows, Page, ending_of, head_of, push_step};

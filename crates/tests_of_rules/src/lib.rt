@@ -10,8 +10,6 @@ mod bounds;
 #[cfg(test)]
 mod claims;
 #[cfg(test)]
-mod covers;
-#[cfg(test)]
 mod drills;
 #[cfg(test)]
 mod ends;
