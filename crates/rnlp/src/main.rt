@@ -1,13 +1,16 @@
 //! The program `rnlp`: its handles alone. What it does stands in `rnlp_cli`.
 #![tactic(auto)]
 
-use io_ends::{StdinSource, StdoutSink};
+use io_ends::{Sink, Source, StdinSource, StdoutSink};
 use rnlp_cli::ToolStatus;
 use rrun::NoPace;
 use rwatch::{Counter, WatchKind, Watcher, Watchers};
 use std::alloc::AllocError;
 use std::io::IsTerminal;
 use std::process::ExitCode;
+use std::rt::Env;
+use std::sync::Wait;
+use std::thread::Threads;
 
 // What is counted of the steps of a list or of a drill.
 const KINDS: [WatchKind; 7] = [
@@ -21,14 +24,21 @@ const KINDS: [WatchKind; 7] = [
 ];
 
 fn main(rt: HostRuntime) -> ExitCode {
-    match run_watched(&rt) {
+    let mut source = StdinSource::new(rt.stdin());
+    let mut sink = StdoutSink::new(rt.stdout());
+    match run_watched(&rt, &mut source, &mut sink, rt.stderr().is_terminal()) {
         Ok(code) => code,
         Err(_) => ExitCode::from(ToolStatus::NoMemory.number()),
     }
 }
 
-// Runs the program over the standard streams, watched by a counter of each kind.
-fn run_watched(rt: &HostRuntime) -> Result<ExitCode, AllocError> {
+// Runs the program, watched by a counter of each kind.
+fn run_watched<R: Env + AllocGlobal + Eprint + Threads + Wait + Sync, S: Source, K: Sink>(
+    rt: &R,
+    source: &mut S,
+    sink: &mut K,
+    on_terminal: bool,
+) -> Result<ExitCode, AllocError> {
     let mut list = Vec::new(rt.alloc());
     for kind in KINDS {
         let counter: Box<dyn Watcher + Send> = Box::new(rt.alloc(), Counter::new(kind))?;
@@ -38,11 +48,11 @@ fn run_watched(rt: &HostRuntime) -> Result<ExitCode, AllocError> {
     let mut receipts = Vec::new(rt.alloc());
     Ok(rnlp_cli::run(
         rt,
-        &mut StdinSource::new(rt.stdin()),
-        &mut StdoutSink::new(rt.stdout()),
+        source,
+        sink,
         &NoPace,
         &mut receipts,
         &mut watchers,
-        rt.stderr().is_terminal(),
+        on_terminal,
     ))
 }
