@@ -97,14 +97,29 @@ impl Reading {
         ensures others { self.new ≡ record self.old { machine = self.new.machine } }
     {
         if self.machine.is_none() {
-            let Some(groups) = &self.groups else {
-                return Ok(());
-            };
-            let groups = groups.copy(alloc)?;
-            let tasks = self.tasks.len();
-            let cap = self.cap.unwrap_or(tasks);
-            self.machine = Some(Plain::new(alloc, groups, tasks, cap)?);
+            self.make_first(alloc)
+        } else {
+            Ok(())
         }
+    }
+
+    // Makes the machine that is not there. Room for one is left out of the path of each event.
+    #[cold]
+    #[inline(never)]
+    fn make_first(&mut self, alloc: Global) -> Result<(), AllocError>
+        requires ready { IsReady self.old }
+        requires placed { IsPlaced self.old }
+        requires none { self.old.machine ≡ None }
+        ensures made { OnOk result (IsSome self.new.machine × ((whole : Bool) (s : SoFar) → Knows whole self.old s → (state_in s self.new.machine ≡ lock_in s) × (changes_in self.new.machine ≡ changes_in self.old.machine))) }
+        ensures others { self.new ≡ record self.old { machine = self.new.machine } }
+    {
+        let Some(groups) = &self.groups else {
+            return Ok(());
+        };
+        let groups = groups.copy(alloc)?;
+        let tasks = self.tasks.len();
+        let cap = self.cap.unwrap_or(tasks);
+        self.machine = Some(Plain::new(alloc, groups, tasks, cap)?);
         Ok(())
     }
 

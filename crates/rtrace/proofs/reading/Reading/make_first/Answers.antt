@@ -2,7 +2,7 @@ use Rattle.std.proofs.Common.{ℕ, Option, length, sym, ap, subst, ◌≤◌, ar
 use Rattle.std.specs.Prelude.{IfSome}
 use Rattle.rset.specs.declared.TheConstants.{SEATS}
 use Rattle.rtrace.proofs.HeadSteps.{groups_there, cap_fits, behind_head}
-use Rattle.rtrace.proofs.reading.Reading.make_machine.Goals as goal
+use Rattle.rtrace.proofs.reading.Reading.make_first.Goals as goal
 
 pub returns-in_default-clause-made : goal.returns-in_default-clause-made
 returns-in_default-clause-made c = absurd (groups_there c.requires.ready.0 c.args.self.now c.requires.ready.1 c.requires.ready.2 (behind_head c.requires.ready.0 c.args.self.now c.requires.ready.1 c.requires.ready.2 (c.requires.placed c.requires.ready.0 c.requires.ready.1 c.requires.ready.2)) c.in_default.is)
