@@ -68,10 +68,12 @@ module _ (s : SoFar) (row : Row) (right : code_of false s row ≡ None) (before 
   pub other_history : (old : List ℕ) → (with_row false s row).earlier ≡ s.earlier → (with_row false s row).latest ≡ s.latest → old ≡ history_text s → old ≡ history_text (with_row false s row)
   other_history old earlier latest f = f ∙ sym (other_text s row right (no_entries before s was) earlier latest)
 
+module _ (s : SoFar) (row : Row) where
   -- the events, with the event behind them
   pub event_list : (e : Event) (old new : List Event) → (with_row false s row).earlier ≡ entries_in s → (with_row false s row).latest ≡ Some (bare e) → old ≡ events_in s → new ≡ old ++ e ∷ [] → new ≡ events_in (with_row false s row)
   event_list e old new earlier latest f g =
       g ∙ ap (λ (es : List Event). es ++ e ∷ []) f ∙ sym (map-append (λ (entry : Entry). entry.event) (entries_in s) (bare e ∷ [])) ∙ sym (λ i. events_of (earlier i ++ option_to_list (latest i)))
 
+  -- and with none behind them
   pub other_list : (old : List Event) → (with_row false s row).earlier ≡ s.earlier → (with_row false s row).latest ≡ s.latest → old ≡ events_in s → old ≡ events_in (with_row false s row)
   other_list old earlier latest f = f ∙ sym (λ i. events_of (earlier i ++ option_to_list (latest i)))

@@ -3,31 +3,29 @@ ghost use Rattle.std.specs.Prelude.{◌≡◌, ◌++◌, ◌∷◌, [], ◌<◌,
 ghost use Rattle.csv.specs.Records.{fields_of};
 ghost use Rattle.rexpand.specs.Groups.{ReadGroups};
 ghost use Rattle.rforms.specs.Faults.{is_ended};
-ghost use Rattle.rforms.specs.Heads.{cap_or, opening_of};
+ghost use Rattle.rforms.specs.Heads.{cap_or};
 ghost use Rattle.rforms.specs.Lines.{Happens, Ends};
 ghost use Rattle.rforms.specs.Reports.{Report, told_changes, declared_lines};
-ghost use Rattle.rforms.specs.SoFar.{SoFar, head_in};
+ghost use Rattle.rforms.specs.SoFar.{SoFar};
 ghost use Rattle.rforms.specs.Takers.{IsFirstFault};
 ghost use Rattle.rforms.specs.Texts.{IsTextOf, report_text};
 ghost use Rattle.rforms.specs.declared.fault.Code.{Code};
 ghost use Rattle.rforms.specs.declared.fault.Fault.{Fault};
 ghost use Rattle.rreport.specs.Told.{told, leaves_from};
 ghost use Rattle.rtrace.specs.Knows.{Knows, changes_in};
+ghost use Rattle.rtrace.specs.Takes.{Adds};
 ghost use Rattle.rreplay.specs.Names.{names_read};
-ghost use Rattle.rreplay.specs.Stepping.{AreStepsOf};
 
-use crate::steps::Steps;
 use csv::ByteRecord;
 use rclaim::{Changes, Event};
 use rforms::{Code, Records, RowErr, TextErr, take_text};
 use rmodel::Machine;
-use rplain::Plain;
 use rreport::{NameRows, Page, ending_of, head_of, push_step};
 use rtrace::{Reading, Taken};
 use std::alloc::{AllocError, Global};
 use std::mem;
 
-/// The text of a report, in the parts in which it was made, and the steps that it tells.
+/// The text of a report, in the parts in which it was made.
 #[derive(Drop)]
 pub struct Replayed {
     /// What stands before the history.
@@ -36,31 +34,27 @@ pub struct Replayed {
     pub history: Page,
     /// The ledgers, and the end.
     pub ending: Page,
-    /// The steps of the list, for those who watch.
-    pub steps: Steps,
 }
 
 /// Takes an event list, and makes the text of its history as it goes: each event is stepped once.
 #[derive(Drop)]
 pub struct Replaying {
-    alloc: Global,
-    reading: Reading,
+    pub(crate) alloc: Global,
+    pub(crate) reading: Reading,
     // Made at the first event, behind which no name is declared.
     names: Option<NameRows>,
     history: Page,
-    events: Vec<Event>,
     // What the latest record told.
-    taken: Taken,
+    pub(crate) taken: Taken,
 }
 
 impl Replaying {
     ghost use Rattle.rforms.specs.SoFar.{SoFar, nothing_yet, entries_in, told_in, with_row};
     ghost use Rattle.rforms.specs.Faults.{code_of, is_ended};
     ghost use Rattle.rreplay.specs.Replaying.{KnowsReplay};
-    ghost use Rattle.rreplay.specs.Stepping.{IsAtHead};
 
     /// Nothing was taken.
-    fn new(alloc: Global) -> Replaying
+    pub(crate) fn new(alloc: Global) -> Replaying
         ensures { KnowsReplay result nothing_yet }
     {
         Replaying {
@@ -68,15 +62,15 @@ impl Replaying {
             reading: Reading::new(alloc, false),
             names: None,
             history: Page::new(alloc),
-            events: Vec::new(alloc),
             taken: Taken::Other,
         }
     }
 
-    // Takes a record; the text of the history and the list of events grow with each event.
-    fn take_record(&mut self, fields: &ByteRecord) -> Result<(), RowErr>
+    // Takes a record; the text of the history grows with each event.
+    pub(crate) fn take_record(&mut self, fields: &ByteRecord) -> Result<(), RowErr>
         requires { (s : SoFar) × KnowsReplay self.old s × (length (entries_in s) < 2 ^ 62) }
         ensures taken { OnOk result ((s : SoFar) → KnowsReplay self.old s → (code_of false s (fields_of fields.now) ≡ None) × KnowsReplay self.new (with_row false s (fields_of fields.now))) }
+        ensures told { OnOk result ((s : SoFar) → KnowsReplay self.old s → Adds self.new.taken s (with_row false s (fields_of fields.now))) }
         ensures bad { (code : Code) → result ≡ Err (RowErr.Bad code) → (s : SoFar) → KnowsReplay self.old s → code_of false s (fields_of fields.now) ≡ Some code }
     {
         if let Err(e) = self.reading.take(self.alloc, fields, &mut self.taken) {
@@ -89,7 +83,6 @@ impl Replaying {
                     &self.reading,
                     &mut self.names,
                     &mut self.history,
-                    &mut self.events,
                     event,
                 );
                 match told {
@@ -102,42 +95,35 @@ impl Replaying {
         }
     }
 
-    // The report of the list that was taken to its end. The text of the history and the events are given away.
-    fn made(&mut self) -> Result<Replayed, AllocError>
+    // The report of the list that was taken to its end. The text of the history is given away.
+    pub(crate) fn made(&mut self) -> Result<Replayed, AllocError>
         requires { (s : SoFar) × KnowsReplay self.old s × (is_ended s ≡ true) }
-        ensures text { IfOk result (λ made. (s : SoFar) → KnowsReplay self.old s → is_ended s ≡ true → made.head ++ (made.history ++ made.ending) ≡ report_text (told_in s)) }
-        ensures steps { IfOk result (λ made. (s : SoFar) → KnowsReplay self.old s → is_ended s ≡ true → IsAtHead (told_in s) made.steps) }
+        ensures { IfOk result (λ made. (s : SoFar) → KnowsReplay self.old s → is_ended s ≡ true → made.head ++ (made.history ++ made.ending) ≡ report_text (told_in s)) }
     {
         let names = NameRows::new(self.alloc, &self.reading.resources, &self.reading.tasks)?;
         let head = head_with(self.alloc, &names, &self.reading)?;
         let ending = ending_with(self.alloc, &names, &self.reading)?;
-        let machine = machine_of(self.alloc, &self.reading)?;
         let history = mem::replace(&mut self.history, Page::new(self.alloc));
-        let events = mem::replace(&mut self.events, Vec::new(self.alloc));
         Ok(Replayed {
             head,
             history,
             ending,
-            steps: Steps { machine, events },
         })
     }
 }
 
-// Keeps an event, and appends it to the text with what it changed.
+// Appends an event to the text with what it changed.
 fn tell(
     alloc: Global,
     reading: &Reading,
     names: &mut Option<NameRows>,
     history: &mut Page,
-    events: &mut Vec<Event>,
     event: &Event,
 ) -> Result<(), AllocError>
     requires { IfSome names.old (λ rows. rows ≡ names_read reading.now) }
-    ensures events { OnOk result (events.new.items ≡ events.old.items ++ event.now ∷ []) }
     ensures names { OnOk result (IfSome names.new (λ rows. rows ≡ names_read reading.now)) }
     ensures text { OnOk result (history.new ≡ history.old ++ told (names_read reading.now) (Happens event.now ∷ told_changes (changes_in reading.now.machine))) }
 {
-    events.push(*event)?;
     match names {
         Some(rows) => push(alloc, history, rows, reading, event),
         None => tell_first(alloc, reading, names, history, event),
@@ -223,22 +209,6 @@ fn head_with(alloc: Global, names: &NameRows, reading: &Reading) -> Result<Page,
     }
 }
 
-// A machine as it stands before the first event of what was read to its end.
-fn machine_of(alloc: Global, reading: &Reading) -> Result<Plain, AllocError>
-    requires { (s : SoFar) × Knows false reading.now s × (is_ended s ≡ true) }
-    ensures { IfOk result (λ machine. (s : SoFar) → Knows false reading.now s → is_ended s ≡ true → machine.state ≡ opening_of (head_in s)) }
-{
-    match &reading.groups {
-        Some(groups) => {
-            let tasks = reading.tasks.len();
-            let cap = reading.cap.unwrap_or(tasks);
-            let groups = groups.copy(alloc)?;
-            Plain::new(alloc, groups, tasks, cap)
-        }
-        None => unreachable!(),
-    }
-}
-
 // The ledgers, and the end.
 fn ending_with(alloc: Global, names: &NameRows, reading: &Reading) -> Result<Page, AllocError>
     requires { length reading.now.ledgers.items ≡ length reading.now.resources }
@@ -249,13 +219,13 @@ fn ending_with(alloc: Global, names: &NameRows, reading: &Reading) -> Result<Pag
     ending_of(alloc, names, &reading.ledgers)
 }
 
-/// Reads an event list, and makes the text of its report, and its steps.
+/// Reads an event list, and makes the text of its report. Its events are not kept.
 ///
 /// # Errors
 ///
 /// The first fault of a text that is no event list, or want of memory.
 pub fn replay_of(alloc: Global, bytes: &[u8]) -> Result<Replayed, TextErr>
-    ensures made { IfOk result (λ made. (report : Report) × IsTextOf false bytes.now report × (made.head ++ (made.history ++ made.ending) ≡ report_text report) × AreStepsOf report made.steps) }
+    ensures made { IfOk result (λ made. (report : Report) × IsTextOf false bytes.now report × (made.head ++ (made.history ++ made.ending) ≡ report_text report)) }
     ensures bad { (fault : Fault Code) → result ≡ Err (TextErr.Bad fault) → IsFirstFault false bytes.now fault }
 {
     let mut taker = Replaying::new(alloc);

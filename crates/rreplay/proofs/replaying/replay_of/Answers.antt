@@ -3,7 +3,7 @@ use Rattle.rforms.specs.SoFar.{told_in}
 use Rattle.rforms.specs.Faults.{read_all}
 use Rattle.rforms.proofs.texts.Lists.{list_fault}
 use Rattle.rreplay.specs.Replaying.{KnowsReplay}
-use Rattle.rreplay.proofs.Endings.{taken_ended, taken_spells, steps_are}
+use Rattle.rreplay.proofs.Endings.{taken_ended, taken_spells}
 use Rattle.rreplay.proofs.Replays.{one_err}
 use Rattle.rreplay.proofs.replaying.replay_of.Goals as goal
 
@@ -19,8 +19,7 @@ returns-in-Ok-made-clause-made c =
     let ended = taken_ended false KnowsReplay c.args.bytes.now c.take_text.new.taker h in (
       told_in (read_all false h.rows),
       (h.rows, h.are, spelled),
-      c.in-Ok-made.ensures.text (read_all false h.rows) h.knows ended,
-      steps_are (told_in (read_all false h.rows)) _ spelled.lawful (c.in-Ok-made.ensures.steps (read_all false h.rows) h.knows ended),
+      c.in-Ok-made.ensures (read_all false h.rows) h.knows ended,
     )
 
 pub returns-clause-bad : goal.returns-clause-bad

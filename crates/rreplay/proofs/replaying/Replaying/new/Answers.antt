@@ -7,6 +7,5 @@ pub returns : goal.returns
 returns c = record {
   reading = c.new.ensures;
   history = c.new-2.ensures ∙ sym (no_text (head_in nothing_yet) (names_in nothing_yet));
-  events = c.new-3.ensures.items;
   names = tt;
 }

@@ -1,7 +1,7 @@
 use Rattle.std.proofs.Common.{false, Err, ap}
 use Rattle.csv.specs.Records.{fields_of}
 use Rattle.rreplay.proofs.Following.{never_act}
-use Rattle.rreplay.proofs.Replays.{one_err, names_stay, names_kept, names_made, event_history, other_history, event_list, other_list}
+use Rattle.rreplay.proofs.Replays.{one_err, names_stay, names_kept, names_made, event_history, other_history}
 use Rattle.rreplay.proofs.replaying.Replaying.take_record.Goals as goal
 
 pub tell-told-requires : goal.tell-told-requires
@@ -20,7 +20,6 @@ returns-in-Ok-clause-taken c = λ s k.
       record {
         reading = taken.1;
         history = event_history s row taken.0 c.args.self.now.reading c.take.new.self k.reading taken.1 event c.args.self.now.history c.tell-told.new.history taken.2.0 taken.2.1 k.history c.in-Ok.ensures.text;
-        events = event_list s row taken.0 c.args.self.now.reading c.take.new.self k.reading taken.1 event c.args.self.now.events.items c.tell-told.new.events.items taken.2.0 taken.2.1 k.events c.in-Ok.ensures.events;
         names = names_made s row taken.0 c.args.self.now.reading c.take.new.self k.reading taken.1 c.tell-told.new.names event taken.2.1 c.in-Ok.ensures.names;
       },
     )
@@ -38,10 +37,18 @@ returns-in-Other-clause-taken c = λ s k.
       record {
         reading = taken.1;
         history = other_history s row taken.0 c.args.self.now.reading c.take.new.self k.reading taken.1 c.args.self.now.history taken.2.0 taken.2.1 k.history;
-        events = other_list s row taken.0 c.args.self.now.reading c.take.new.self k.reading taken.1 c.args.self.now.events.items taken.2.0 taken.2.1 k.events;
         names = names_kept s row taken.0 c.args.self.now.reading c.take.new.self k.reading taken.1 c.args.self.now.names k.names;
       },
     )
 
 pub returns-in-Err-clause-bad : goal.returns-in-Err-clause-bad
 returns-in-Err-clause-bad c = λ code e s k. c.in-Err.ensures.bad code (ap Err (one_err e)) false s k.reading
+
+pub returns-in-Ok-clause-told : goal.returns-in-Ok-clause-told
+returns-in-Ok-clause-told c = λ s k. (c.in_default.ensures.taken false s k.reading).2
+
+pub returns-in-Act-clause-told : goal.returns-in-Act-clause-told
+returns-in-Act-clause-told c = λ s k. (c.in_default.ensures.taken false s k.reading).2
+
+pub returns-in-Other-clause-told : goal.returns-in-Other-clause-told
+returns-in-Other-clause-told c = λ s k. (c.in_default.ensures.taken false s k.reading).2
