@@ -3,6 +3,7 @@
 //! `lists NAME N list` and `lists NAME N report` write the list NAME of N events, and its report. Each seat that may act
 //! is as likely to act next as any other; where it holds something it finishes, or rises or asks if it can.
 //! `lists NAME N replay` reads such a list, and writes its report: the same work as `rnlp replay`, with nothing proved.
+//! `lists drill N drill` draws a drill of N events, and writes its summary, as `rnlp drill N` does.
 use std::collections::HashMap;
 use std::env;
 use std::io::{BufWriter, Read, Result, Write, stdin, stdout};
@@ -169,6 +170,12 @@ impl Lock {
         }
     }
 
+    fn step(&mut self, event: Event) {
+        self.change(event);
+        self.settle();
+        self.give();
+    }
+
     fn holds(&self, seat: usize) -> (u64, u64) {
         let own = self.claims.iter().filter(|c| c.seat == seat);
         own.map(Claim::held).fold((0, 0), |a, b| (a.0 | b.0, a.1 | b.1))
@@ -265,9 +272,10 @@ fn shape_of(name: &str) -> Shape {
         "readers-and-writers" => (32, false, &[Read, Write], 128),
         "few-resources" => (16, false, &[Read, Write], 128),
         "all-kinds" => (32, true, &[Read, Write, Mixed, Upgrade, Nested], 128),
+        "drill" => (8, true, &[Read, Write, Mixed, Upgrade, Nested], 128),
         _ => panic!("no list is named {}", name),
     };
-    Shape { resources, groups, tasks: 64, kinds, most }
+    Shape { resources, groups, tasks: if name == "drill" { 8 } else { 64 }, kinds, most }
 }
 
 /// The numbers of the names that a list declares, and its events as they stand.
@@ -313,9 +321,7 @@ fn write_tail(out: &mut impl Write, shape: &Shape, report: bool) -> Result<()> {
 
 fn take(lock: &mut Lock, out: &mut impl Write, event: Event, report: bool) -> Result<()> {
     let before = lock.claims.clone();
-    lock.change(event);
-    lock.settle();
-    lock.give();
+    lock.step(event);
     write_event(out, event)?;
     if report { write_changes(out, &before, &lock.claims) } else { Ok(()) }
 }
@@ -350,12 +356,84 @@ fn replay(mut lock: Lock, out: &mut impl Write) -> Result<()> {
     write_tail(out, &lock.shape, true)
 }
 
+/// The drawing numbers of a drill.
+struct Draws(usize);
+
+impl Draws {
+    fn below(&mut self, n: usize) -> usize {
+        self.0 = (75 * self.0 + 74) % 65537;
+        self.0 % n
+    }
+}
+
+/// The event that a drill draws next.
+fn drawn(lock: &Lock, draws: &mut Draws) -> Event {
+    let start = draws.below(8);
+    let idle = |seat: usize| !lock.claims.iter().any(|c| c.seat == seat);
+    let asks = |seat: usize| lock.claims.iter().any(|c| c.seat == seat && c.asked != 0);
+    let acts = |seat: &usize| idle(*seat) || lock.holds(*seat) != (0, 0) && !asks(*seat);
+    let seat = (0..8).map(|d| (start + d) % 8).find(acts).expect("somebody holds");
+    let Some(own) = lock.claims.iter().find(|c| c.seat == seat) else {
+        let kind = lock.shape.kinds[draws.below(5)];
+        let l = draws.below(7);
+        return match kind {
+            Kind::Read | Kind::Upgrade => Event::Issue(seat, kind, 3 << l, 0, 0),
+            Kind::Write => Event::Issue(seat, kind, 0, 1 << l, 0),
+            Kind::Mixed => Event::Issue(seat, kind, 2 << l, 1 << l, 0),
+            Kind::Nested => Event::Issue(seat, kind, 0, 3 << l, 1 << l),
+        };
+    };
+    let (reads, writes) = lock.holds(seat);
+    let rest = (own.reads | own.writes) & !(reads | writes);
+    match own.kind {
+        Kind::Upgrade if !own.write && draws.below(2) == 0 => Event::Rise(seat),
+        Kind::Nested if rest != 0 && draws.below(2) == 0 => Event::Ask(seat, rest),
+        _ => Event::Finish(seat),
+    }
+}
+
+/// Adds what an event weighs for each of the seven kinds, in the order of the summary.
+fn count_step(counts: &mut [u64; 7], event: Event, before: &[Claim], now: &[Claim]) {
+    let was = |c: &Claim| before.iter().find(|b| b.seat == c.seat && b.write == c.write);
+    counts[match event {
+        Event::Issue(..) => 0,
+        Event::Finish(_) => 1,
+        Event::Rise(_) => 2,
+        Event::Ask(..) => 3,
+    }] += 1;
+    for c in now {
+        if was(c).map_or(Status::Waiting, |b| b.status) != c.status {
+            counts[if c.status == Status::Satisfied { 5 } else { 4 }] += 1;
+        }
+        let (had, has) = (was(c).map_or((0, 0), Claim::held), c.held());
+        counts[6] += u64::from(has.0 & !had.0 != 0 || has.1 & !had.1 != 0);
+    }
+}
+
+fn drill(mut lock: Lock, out: &mut impl Write, count: usize) -> Result<()> {
+    let (mut draws, mut counts) = (Draws(1), [0; 7]);
+    for _ in 0..count {
+        let before = lock.claims.clone();
+        let event = drawn(&lock, &mut draws);
+        lock.step(event);
+        count_step(&mut counts, event, &before, &lock.claims);
+    }
+    writeln!(out, "drill,{count}")?;
+    let words = ["issues", "finishes", "rises", "asks", "entitled", "satisfied", "grants"];
+    words.iter().zip(counts).try_for_each(|(word, n)| writeln!(out, "{word},{n}"))?;
+    let incomplete = (0..8).filter(|&s| lock.claims.iter().any(|c| c.seat == s)).count();
+    let holding = (0..8).filter(|&s| lock.holds(s) != (0, 0)).count();
+    writeln!(out, "incomplete,{incomplete}\nholding,{holding}\nend")
+}
+
 fn main() -> Result<()> {
     let words: Vec<_> = env::args().collect();
     let lock = Lock { claims: Vec::new(), issued: 0, shape: shape_of(&words[1]) };
     let mut out = BufWriter::new(stdout().lock());
-    if words[3] == "replay" {
-        return replay(lock, &mut out);
+    let count = || words[2].parse().expect("a number");
+    match words[3].as_str() {
+        "replay" => replay(lock, &mut out),
+        "drill" => drill(lock, &mut out, count()),
+        word => generate(lock, &mut out, count(), word == "report"),
     }
-    generate(lock, &mut out, words[2].parse().expect("a number"), words[3] == "report")
 }
