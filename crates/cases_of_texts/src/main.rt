@@ -5,7 +5,8 @@
 #![tactic(auto)]
 
 use io_ends::{MemSink, MemSource};
-use rnlp_cli::{ToolStatus, answer};
+use redge::answer;
+use rnlp_cli::ToolStatus;
 use rrun::NoPace;
 use rwatch::{Counter, WatchKind, Watcher, Watchers};
 use std::alloc::{AllocError, Global};

@@ -21,7 +21,7 @@ use Rattle.rwatch.specs.Seen.{Seen}
 use Rattle.ranswer.specs.Outputs.{IsInput, IsOutput, IsFaultLine, refusal_of}
 use Rattle.ranswer.specs.Writing.{IsWritten, IsAnswer, IsTold, LineWritten}
 use Rattle.ranswer.specs.declared.command.Command.{Command}
-use Rattle.ranswer.specs.declared.command.Command.TheVariants.{Run, Replay, Audit, Drill}
+use Rattle.ranswer.specs.declared.command.Command.TheVariants.{Run, Replay, Audit, Bound, Drill}
 use Rattle.ranswer.specs.declared.status.ToolStatus.{ToolStatus}
 use Rattle.ranswer.specs.declared.status.ToolStatus.TheVariants as status
 
@@ -49,6 +49,7 @@ no_input None bytes line fault right = fault
 no_input (Some Run) bytes line fault right = spells_no_script bytes fault.0 fault.1 right.0 fault.2 right.1
 no_input (Some Replay) bytes line fault right = spells_none false bytes fault.0 right.0 fault.1 right.1
 no_input (Some Audit) bytes line fault right = spells_none true bytes fault.0 right.0 fault.1 right.1
+no_input (Some (Bound cap)) bytes line fault right = spells_no_script bytes fault.0 fault.1 right.0 fault.2 right.1
 no_input (Some (Drill count)) bytes line fault right = fault
 
 -- an output that was written
@@ -87,6 +88,8 @@ refused watchers (Some Replay) bytes line before after quiet failed same under i
     subst (λ s. IsAnswer watchers (Some Replay) bytes before after quiet failed same s) (one_some is) (refl, no_input (Some Replay) bytes line found, line, found, h)
 refused watchers (Some Audit) bytes line before after quiet failed same under is found h =
     subst (λ s. IsAnswer watchers (Some Audit) bytes before after quiet failed same s) (one_some is) (refl, no_input (Some Audit) bytes line found, line, found, h)
+refused watchers (Some (Bound cap)) bytes line before after quiet failed same under is found h =
+    subst (λ s. IsAnswer watchers (Some (Bound cap)) bytes before after quiet failed same s) (one_some is) (refl, no_input (Some (Bound cap)) bytes line found, line, found, h)
 refused watchers (Some (Drill count)) bytes line before after quiet failed same under is found h = absurd found
 
 -- a fault that was told, or for which memory ran out

@@ -8,13 +8,13 @@ use Rattle.rreport.specs.Report.{ReportFields, told_by}
 use Rattle.rscript.specs.Scripts.{ScriptFields, IsTextOf}
 use Rattle.rrun.specs.Reporting.{IsReportOf}
 use Rattle.rwatch.specs.Seen.{Seen}
-use Rattle.ranswer.specs.Words.{plain_in, events_told}
+use Rattle.ranswer.specs.Words.{plain_in, bounds_under, cap_in, events_told}
 use Rattle.ranswer.specs.Reading.{NotRead}
 use Rattle.ranswer.specs.Receipts.{OneMore, RunReceipts, Receipts}
 use Rattle.ranswer.specs.Running.{IsReported, IsRun}
 use Rattle.ranswer.specs.Writing.{IsAnswer, IsWritten, IsTold}
 use Rattle.ranswer.specs.declared.command.Command.{Command}
-use Rattle.ranswer.specs.declared.command.Command.TheVariants.{Run, Replay, Audit, Drill}
+use Rattle.ranswer.specs.declared.command.Command.TheVariants.{Run, Replay, Audit, Bound, Drill}
 use Rattle.ranswer.specs.declared.status.ToolStatus.{ToolStatus}
 use Rattle.ranswer.specs.declared.status.ToolStatus.TheVariants as status
 
@@ -97,13 +97,9 @@ reported script report before after quiet failed same receipts later status.Trac
 
 -- ---- words
 
-no_run : (b : Bool) (o : Option Command) → (o ≡ Some Run → ⊥) → (if b then Some Audit else o) ≡ Some Run → ⊥
-no_run true o none e = cc
-no_run false o none e = none e
-
-no_run_either : (b : Bool) (o : Option Command) → (o ≡ Some Run → ⊥) → (if b then Some Replay else o) ≡ Some Run → ⊥
-no_run_either true o none e = cc
-no_run_either false o none e = none e
+neither : (b : Bool) (x o : Option Command) → (x ≡ Some Run → ⊥) → (o ≡ Some Run → ⊥) → (if b then x else o) ≡ Some Run → ⊥
+neither true x o first other e = first e
+neither false x o first other e = other e
 
 nothing_is_no_run : ◌≡◌ {A = Option Command} None (Some Run) → ⊥
 nothing_is_no_run e = cc
@@ -112,15 +108,21 @@ no_drill : (n : Option ℕ) → option_map Drill n ≡ Some Run → ⊥
 no_drill None e = cc
 no_drill (Some n) e = cc
 
-no_run_behind : (b : Bool) (n : Option ℕ) → (if b then option_map Drill n else None) ≡ Some Run → ⊥
-no_run_behind true n e = no_drill n e
-no_run_behind false n e = nothing_is_no_run e
+no_bounds : (n : Option ℕ) → option_map bounds_under n ≡ Some Run → ⊥
+no_bounds None e = cc
+no_bounds (Some n) e = cc
+
+no_audit_on : (word : List ℕ) → (if bytes_eq word (codes "audit") then Some Audit else if bytes_eq word (codes "bound") then Some (Bound None) else None) ≡ Some Run → ⊥
+no_audit_on word e =
+    neither (bytes_eq word (codes "audit")) (Some Audit) _ (λ h. cc) (λ h. neither (bytes_eq word (codes "bound")) (Some (Bound None)) None (λ k. cc) nothing_is_no_run h) e
 
 -- the tools that wait for nobody are asked for no run
 never_run : (words : List (List ℕ)) → plain_in words ≡ Some Run → ⊥
 never_run [] e = nothing_is_no_run e
-never_run (word ∷ []) e = no_run_either (bytes_eq word (codes "replay")) _ (λ h. no_run (bytes_eq word (codes "audit")) None nothing_is_no_run h) e
-never_run (word ∷ number ∷ []) e = no_run_behind (bytes_eq word (codes "drill")) (events_told number) e
+never_run (word ∷ []) e = neither (bytes_eq word (codes "replay")) (Some Replay) _ (λ h. cc) (no_audit_on word) e
+never_run (word ∷ number ∷ []) e =
+    neither (bytes_eq word (codes "drill")) (option_map Drill (events_told number)) _ (no_drill (events_told number))
+    (λ h. neither (bytes_eq word (codes "bound")) (option_map bounds_under (cap_in number)) None (no_bounds (cap_in number)) nothing_is_no_run h) e
 never_run (word ∷ number ∷ next ∷ words) e = nothing_is_no_run e
 
 -- so they hand out no receipt
@@ -129,6 +131,7 @@ unmoved None left before after receipts later s other same = same
 unmoved (Some Run) left before after receipts later s other same = absurd (other refl)
 unmoved (Some Replay) left before after receipts later s other same = same
 unmoved (Some Audit) left before after receipts later s other same = same
+unmoved (Some (Bound cap)) left before after receipts later s other same = same
 unmoved (Some (Drill count)) left before after receipts later s other same = same
 
 pub plain_receipts : (words : List (List ℕ)) (left before after : Option (List ℕ)) (receipts : List (List Entry)) (s : ToolStatus) → Receipts (plain_in words) left before after receipts receipts s

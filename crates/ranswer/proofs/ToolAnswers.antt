@@ -9,7 +9,7 @@ use Rattle.ranswer.specs.Reading.{WasRead, NotRead}
 use Rattle.ranswer.specs.Writing.{LineWritten, IsAnswer, IsRefused}
 use Rattle.ranswer.specs.Answer.{ToolAnswer}
 use Rattle.ranswer.specs.declared.command.Command.{Command}
-use Rattle.ranswer.specs.declared.command.Command.TheVariants.{Run, Replay, Audit, Drill}
+use Rattle.ranswer.specs.declared.command.Command.TheVariants.{Run, Replay, Audit, Bound, Drill}
 use Rattle.ranswer.specs.declared.status.ToolStatus.{ToolStatus}
 use Rattle.ranswer.specs.declared.status.ToolStatus.TheVariants as status
 
@@ -45,6 +45,7 @@ input_left None limit told P is h = cc
 input_left (Some Run) limit told P is h = h
 input_left (Some Replay) limit told P is h = h
 input_left (Some Audit) limit told P is h = h
+input_left (Some (Bound cap)) limit told P is h = h
 input_left (Some (Drill count)) limit told P is h = cc
 
 no_limit : (o : Option ℕ) (limit : ℕ) → o ≡ Some limit → o ≡ None → ⊥

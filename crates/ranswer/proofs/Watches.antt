@@ -12,7 +12,7 @@ use Rattle.ranswer.specs.Reading.{NotRead}
 use Rattle.ranswer.specs.Watched.{list_steps, AreToldList, ReplayWatched, DrillWatched, Watched}
 use Rattle.ranswer.specs.Writing.{IsTold, IsWritten}
 use Rattle.ranswer.specs.declared.command.Command.{Command}
-use Rattle.ranswer.specs.declared.command.Command.TheVariants.{Run, Replay, Audit, Drill}
+use Rattle.ranswer.specs.declared.command.Command.TheVariants.{Run, Replay, Audit, Bound, Drill}
 use Rattle.ranswer.specs.declared.status.ToolStatus.{ToolStatus}
 use Rattle.ranswer.specs.declared.status.ToolStatus.TheVariants as status
 
@@ -49,6 +49,7 @@ pub untold : (asked : Option Command) (left before after : Option (List ℕ)) (w
 untold None left before after ws s done broken = refl
 untold (Some Run) left before after ws s done broken = refl
 untold (Some Audit) left before after ws s done broken = refl
+untold (Some (Bound cap)) left before after ws s done broken = refl
 untold (Some Replay) left before after ws status.Done done broken = absurd (done refl)
 untold (Some Replay) left before after ws status.WriteFault done broken = absurd (broken refl)
 untold (Some Replay) left before after ws status.NoMemory done broken = refl
@@ -105,6 +106,7 @@ pub watched_left : (command : Command) (left : Option (List ℕ)) (bytes : List 
     → IfSome (input_of (Some command) left) (λ all. bytes ≡ all) → Watched (Some command) (Some bytes) written written_after before after s → Watched (Some command) left written written_after before after s
 watched_left Run left bytes written written_after before after s whole h = h
 watched_left Audit left bytes written written_after before after s whole h = h
+watched_left (Bound cap) left bytes written written_after before after s whole h = h
 watched_left (Drill count) left bytes written written_after before after s whole h = h
 watched_left Replay left bytes written written_after before after s whole h = replay_left left bytes written written_after before after s whole h
 

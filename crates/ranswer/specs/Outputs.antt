@@ -6,6 +6,7 @@ use Rattle.rforms.specs.Texts.{IsTextOf, line_text, report_text, text_of}
 use Rattle.rforms.specs.declared.fault.Code.{Code}
 use Rattle.rforms.specs.declared.fault.Fault.{Fault}
 use Rattle.rmodel.specs.Steps.{after}
+use Rattle.rbound_text.specs.BoundText.{bounds_text}
 use Rattle.rreport.specs.ErrorLine.{error_line}
 use Rattle.rreport.specs.Report.{ReportFields, told_by}
 use Rattle.rscript.specs.Codes.{code_number}
@@ -19,7 +20,7 @@ use Rattle.rdrill.specs.Draws.{drill_opening}
 use Rattle.rdrill.specs.Drill.{drill_events, steps_of}
 use Rattle.rdrill.specs.Summary.{summary_text}
 use Rattle.ranswer.specs.declared.command.Command.{Command}
-use Rattle.ranswer.specs.declared.command.Command.TheVariants.{Run, Replay, Audit, Drill}
+use Rattle.ranswer.specs.declared.command.Command.TheVariants.{Run, Replay, Audit, Bound, Drill}
 use Rattle.ranswer.specs.declared.status.ToolStatus.{ToolStatus}
 use Rattle.ranswer.specs.declared.status.ToolStatus.TheVariants as status
 
@@ -39,6 +40,7 @@ limit_of None = None
 limit_of (Some Run) = Some script_limit
 limit_of (Some Replay) = Some list_limit
 limit_of (Some Audit) = Some list_limit
+limit_of (Some (Bound cap)) = Some script_limit
 limit_of (Some (Drill count)) = None
 
 abbrev pub input_within : Option ℕ → Option (List ℕ) → Option (List ℕ)
@@ -49,12 +51,13 @@ input_within (Some limit) left = left
 abbrev pub input_of : Option Command → Option (List ℕ) → Option (List ℕ)
 input_of asked left = input_within (limit_of asked) left
 
--- the bytes are an input of the command: `run` takes scripts, `replay` event lists and `audit` reports
+-- the bytes are an input of the command: `run` and `bound` take scripts, `replay` event lists and `audit` reports
 abbrev pub IsInput : Option Command → List ℕ → Type 0
 IsInput None bytes = ⊥
 IsInput (Some Run) bytes = (script : ScriptFields) × scripts.IsTextOf bytes script
 IsInput (Some Replay) bytes = (report : Report) × IsTextOf false bytes report
 IsInput (Some Audit) bytes = (report : Report) × IsTextOf true bytes report
+IsInput (Some (Bound cap)) bytes = (script : ScriptFields) × scripts.IsTextOf bytes script
 IsInput (Some (Drill count)) bytes = ⊤
 
 -- ---- outputs
@@ -72,14 +75,15 @@ abbrev pub drill_text : ℕ → List Seen → List ℕ
 drill_text count watchers = summary_text count (told_drill count watchers) (after drill_opening (drill_events count))
 
 -- an output of a command for this input, where these watchers are handed in: `run` writes the report of a run of the script that
--- the bytes spell, `replay` that of the list that they spell, `audit` how many events the report has that they spell, and `drill`
--- the summary of its events
+-- the bytes spell, `replay` that of the list that they spell, `audit` how many events the report has that they spell, `bound` the
+-- bounds of the script that they spell, and `drill` the summary of its events
 abbrev pub IsOutput : List Seen → Option Command → List ℕ → List ℕ → Type 0
 IsOutput watchers None bytes text = ⊥
 IsOutput watchers (Some Run) bytes text =
     (script : ScriptFields) × (report : ReportFields) × scripts.IsTextOf bytes script × IsReportOf script report × (text ≡ report_text (told_by report))
 IsOutput watchers (Some Replay) bytes text = (report : Report) × IsTextOf false bytes report × (text ≡ report_text report)
 IsOutput watchers (Some Audit) bytes text = (report : Report) × IsTextOf true bytes report × (text ≡ audit_text (length report.entries))
+IsOutput watchers (Some (Bound cap)) bytes text = (script : ScriptFields) × scripts.IsTextOf bytes script × (text ≡ bounds_text script cap)
 IsOutput watchers (Some (Drill count)) bytes text = text ≡ drill_text count watchers
 
 -- ---- refusals
@@ -94,6 +98,7 @@ IsFaultLine None bytes text = ⊥
 IsFaultLine (Some Run) bytes text = (line : ℕ) × (code : script_code.Code) × scripts_read.IsFirstFault bytes line code × (text ≡ script_line line code)
 IsFaultLine (Some Replay) bytes text = (fault : Fault Code) × IsFirstFault false bytes fault × (text ≡ error_line fault)
 IsFaultLine (Some Audit) bytes text = (fault : Fault Code) × IsFirstFault true bytes fault × (text ≡ error_line fault)
+IsFaultLine (Some (Bound cap)) bytes text = (line : ℕ) × (code : script_code.Code) × scripts_read.IsFirstFault bytes line code × (text ≡ script_line line code)
 IsFaultLine (Some (Drill count)) bytes text = ⊥
 
 -- the status under which a command tells the first fault of an input
@@ -102,4 +107,5 @@ refusal_of None = None
 refusal_of (Some Run) = Some status.Script
 refusal_of (Some Replay) = Some status.Trace
 refusal_of (Some Audit) = Some status.Trace
+refusal_of (Some (Bound cap)) = Some status.Script
 refusal_of (Some (Drill count)) = None

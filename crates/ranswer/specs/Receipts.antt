@@ -7,7 +7,7 @@ use Rattle.rreport.specs.Report.{ReportFields, told_by}
 use Rattle.rscript.specs.Scripts.{ScriptFields, IsTextOf}
 use Rattle.rrun.specs.Reporting.{IsReportOf}
 use Rattle.ranswer.specs.declared.command.Command.{Command}
-use Rattle.ranswer.specs.declared.command.Command.TheVariants.{Run, Replay, Audit, Drill}
+use Rattle.ranswer.specs.declared.command.Command.TheVariants.{Run, Replay, Audit, Bound, Drill}
 use Rattle.ranswer.specs.declared.status.ToolStatus.{ToolStatus}
 use Rattle.ranswer.specs.declared.status.ToolStatus.TheVariants as status
 
@@ -41,4 +41,5 @@ Receipts (Some Run) left written written_after before after answer = RunReceipts
 Receipts None left written written_after before after answer = after ≡ before
 Receipts (Some Replay) left written written_after before after answer = after ≡ before
 Receipts (Some Audit) left written written_after before after answer = after ≡ before
+Receipts (Some (Bound cap)) left written written_after before after answer = after ≡ before
 Receipts (Some (Drill count)) left written written_after before after answer = after ≡ before

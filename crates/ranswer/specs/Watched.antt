@@ -10,7 +10,7 @@ use Rattle.rwatch.specs.Seen.{Seen, told_all}
 use Rattle.rdrill.specs.Drill.{steps_of}
 use Rattle.ranswer.specs.Outputs.{told_drill}
 use Rattle.ranswer.specs.declared.command.Command.{Command}
-use Rattle.ranswer.specs.declared.command.Command.TheVariants.{Run, Replay, Audit, Drill}
+use Rattle.ranswer.specs.declared.command.Command.TheVariants.{Run, Replay, Audit, Bound, Drill}
 use Rattle.ranswer.specs.declared.status.ToolStatus.{ToolStatus}
 use Rattle.ranswer.specs.declared.status.ToolStatus.TheVariants as status
 
@@ -54,3 +54,4 @@ Watched (Some (Drill count)) left written written_after before after answer = Dr
 Watched None left written written_after before after answer = after ≡ before
 Watched (Some Run) left written written_after before after answer = after ≡ before
 Watched (Some Audit) left written written_after before after answer = after ≡ before
+Watched (Some (Bound cap)) left written written_after before after answer = after ≡ before

@@ -1,9 +1,9 @@
 -- The forms of the words behind the program's name, and what they ask for.
-use Rattle.std.specs.Prelude.{ℕ, ◌≤◌, ⊤, ◌&&◌, nat_le, List, [], ◌∷◌, length, Option, Some, None, option_map, option_and_then, codes, if◌then◌else◌}
+use Rattle.std.specs.Prelude.{ℕ, ◌≤◌, ⊤, ◌&&◌, nat_le, List, [], ◌∷◌, length, Option, Some, None, IfSome, option_map, option_and_then, codes, if◌then◌else◌}
 use Rattle.std.specs.Str.{bytes_eq}
-use Rattle.rforms.specs.Numbers.{number_told}
+use Rattle.rforms.specs.Numbers.{cap_told, number_told}
 use Rattle.ranswer.specs.declared.command.Command.{Command}
-use Rattle.ranswer.specs.declared.command.Command.TheVariants.{Run, Replay, Audit, Drill}
+use Rattle.ranswer.specs.declared.command.Command.TheVariants.{Run, Replay, Audit, Bound, Drill}
 
 -- what these words ask of the tool that waits for its workers
 abbrev pub run_in : List (List ℕ) → Option Command
@@ -23,21 +23,34 @@ events_within n = if nat_le 1 n && nat_le n most_events then Some n else None
 unfoldable pub events_told : List ℕ → Option ℕ
 events_told word = if nat_le (length word) 7 then option_and_then events_within (number_told word) else None
 
+-- the cap that a word of 1 to 7 digits tells, if it tells one
+unfoldable pub cap_in : List ℕ → Option ℕ
+cap_in word = if nat_le (length word) 7 then cap_told word else None
+
+-- the bounds of a script under a cap
+abbrev pub bounds_under : ℕ → Command
+bounds_under cap = Bound (Some cap)
+
 -- what they ask of the tools that wait for nobody
 abbrev pub plain_in : List (List ℕ) → Option Command
 plain_in [] = None
 plain_in (word ∷ []) =
     if bytes_eq word (codes "replay") then Some Replay
     else if bytes_eq word (codes "audit") then Some Audit
+    else if bytes_eq word (codes "bound") then Some (Bound None)
     else None
-plain_in (word ∷ number ∷ []) = if bytes_eq word (codes "drill") then option_map Drill (events_told number) else None
+plain_in (word ∷ number ∷ []) =
+    if bytes_eq word (codes "drill") then option_map Drill (events_told number)
+    else if bytes_eq word (codes "bound") then option_map bounds_under (cap_in number)
+    else None
 plain_in (word ∷ number ∷ next ∷ words) = None
 
--- a command of the tools that wait for nobody; a drill has no more events than there may be
+-- a command of the tools that wait for nobody; bounds are those under a cap of at least 1, and a drill has no more events than there may be
 abbrev pub IsPlain : Command → Type 0
 IsPlain Run = ⊥
 IsPlain Replay = ⊤
 IsPlain Audit = ⊤
+IsPlain (Bound cap) = IfSome cap (λ m. 1 ≤ m)
 IsPlain (Drill count) = count ≤ most_events
 
 -- what they ask of the program: the first word says of which tool

@@ -1,10 +1,10 @@
 // The words after the program's name, and what they ask for.
 ghost use Rattle.std.specs.Prelude.{◌≡◌, ◌≤◌, option_map, Some, None, IfSome, map, string_bytes, if◌then◌else◌};
-ghost use Rattle.ranswer.specs.Words.{command_in, run_in, plain_in, events_within, events_told, most_events, IsPlain};
+ghost use Rattle.ranswer.specs.Words.{command_in, run_in, plain_in, bounds_under, cap_in, events_within, events_told, most_events, IsPlain};
 ghost use Rattle.ranswer.specs.Outputs.{limit_of};
 
 use rdrill::MOST_EVENTS;
-use rrecords::number_of;
+use rrecords::{cap_of, number_of};
 
 /// What words ask for.
 #[derive(Clone, Copy, Debug, PartialEq, Eq)]
@@ -15,12 +15,17 @@ pub enum Command {
     Replay,
     /// `audit`: check a report, and write how many events it has.
     Audit,
+    /// `bound` and `bound M`: write the bounds of a script's waits, under this cap, or where none is told under the number of tasks.
+    Bound(Option<u8>),
     /// `drill N`: draw so many events, and write their summary. It reads no input.
     Drill(u32),
 }
 
 /// The most bytes that an event list or a report may have.
 pub const LIST_LIMIT: usize = 67_108_864;
+
+// The most digits of a number among the words.
+const MOST_DIGITS: usize = 7;
 
 /// The most bytes that a script may have.
 pub const SCRIPT_LIMIT: usize = 1_048_576;
@@ -31,7 +36,7 @@ impl Command {
         ensures { result ≡ limit_of (Some self) }
     {
         match self {
-            Command::Run => Some(SCRIPT_LIMIT),
+            Command::Run | Command::Bound(_) => Some(SCRIPT_LIMIT),
             Command::Replay | Command::Audit => Some(LIST_LIMIT),
             Command::Drill(_) => None,
         }
@@ -66,9 +71,33 @@ pub fn plain_of(words: &[String]) -> Option<Command>
     match words {
         [word] if word.as_str() == "replay" => Some(Command::Replay),
         [word] if word.as_str() == "audit" => Some(Command::Audit),
+        [word] if word.as_str() == "bound" => Some(Command::Bound(None)),
         [word, number] if word.as_str() == "drill" => drill_of(number.as_str()),
+        [word, cap] if word.as_str() == "bound" => bound_of(cap.as_str()),
         _ => None,
     }
+}
+
+// The bounds under a cap; None where the word tells none.
+fn bound_of(cap: &str) -> Option<Command>
+    ensures asked { result ≡ option_map bounds_under (cap_in cap.now) }
+    ensures plain { IfSome result IsPlain }
+{
+    match cap_told(cap.as_bytes()) {
+        Some(cap) => Some(Command::Bound(Some(cap))),
+        None => None,
+    }
+}
+
+// The cap that a word of 1 to 7 digits tells.
+fn cap_told(word: &[u8]) -> Option<u8>
+    ensures told { result ≡ cap_in word.now }
+    ensures least { IfSome result (λ cap. 1 ≤ cap) }
+{
+    if word.len() > MOST_DIGITS {
+        return None;
+    }
+    cap_of(word)
 }
 
 // The drill of so many events; None where the word tells no such number.
@@ -87,7 +116,7 @@ fn events_of(word: &[u8]) -> Option<u32>
     ensures told { result ≡ events_told word.now }
     ensures most { IfSome result (λ count. count ≤ most_events) }
 {
-    if word.len() > 7 {
+    if word.len() > MOST_DIGITS {
         return None;
     }
     events_within(number_of(word)?)

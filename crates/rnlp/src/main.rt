@@ -1,5 +1,11 @@
-//! The program `rnlp`: its handles alone. What it does stands in `rnlp_cli`.
+//! The program `rnlp`: its handles alone. What it does stands in `redge`.
 #![tactic(auto)]
+ghost use Rattle.std.specs.Prelude.{◌≡◌, [], List, IfOk, OnErr};
+ghost use Rattle.std.specs.Process.{exit_status};
+ghost use Rattle.rforms.specs.Reports.{Entry};
+ghost use Rattle.rwatch.specs.Seen.{Seen};
+ghost use Rattle.ranswer.specs.Status.{status_number};
+ghost use Rattle.redge.specs.Program.{RunAnswer};
 
 use io_ends::{Sink, Source, StdinSource, StdoutSink};
 use rnlp_cli::ToolStatus;
@@ -32,13 +38,17 @@ fn main(rt: HostRuntime) -> ExitCode {
     }
 }
 
-// Runs the program, watched by a counter of each kind.
+// Runs the program, watched by a counter of each kind. Where memory is wanting for them nothing is touched.
 fn run_watched<R: Env + AllocGlobal + Eprint + Threads + Wait + Sync, S: Source, K: Sink>(
     rt: &R,
     source: &mut S,
     sink: &mut K,
     on_terminal: bool,
-) -> Result<ExitCode, AllocError> {
+) -> Result<ExitCode, AllocError>
+    ensures ran { IfOk result (λ code. (status : ToolStatus) × (receipts : List (List Entry)) × (watchers watched : List Seen) × (exit_status code ≡ status_number status)
+        × RunAnswer S.left S.faults K.written K.faults on_terminal source.old source.new sink.old sink.new [] receipts watchers watched status) }
+    ensures not_run { OnErr result ((source.new ≡ source.old) × (sink.new ≡ sink.old)) }
+{
     let mut list = Vec::new(rt.alloc());
     for kind in KINDS {
         let counter: Box<dyn Watcher + Send> = Box::new(rt.alloc(), Counter::new(kind))?;
@@ -46,7 +56,7 @@ fn run_watched<R: Env + AllocGlobal + Eprint + Threads + Wait + Sync, S: Source,
     }
     let mut watchers = Watchers::new(list);
     let mut receipts = Vec::new(rt.alloc());
-    Ok(rnlp_cli::run(
+    Ok(redge::run(
         rt,
         source,
         sink,

@@ -1,12 +1,51 @@
-// What is told of a report that was audited.
-ghost use Rattle.std.specs.Prelude.{◌≡◌, IfOk};
+// Audits, and what is told of a report that was audited.
+ghost use Rattle.std.specs.Prelude.{◌≡◌, Some, List, IfOk};
+ghost use Rattle.io_ends.specs.Faults.{Rose};
+ghost use Rattle.rwatch.specs.Seen.{Seen};
 ghost use Rattle.ranswer.specs.Outputs.{audit_text};
+ghost use Rattle.ranswer.specs.Writing.{IsAnswer, IsWritten};
+ghost use Rattle.ranswer.specs.declared.command.Command.TheVariants.{Audit};
 
+use crate::expected::expected;
+use crate::refusing::refuse;
+use crate::told::Told;
+use io_ends::Sink;
 use itoa::Buffer;
+use ranswer::{ToolStatus, write_output};
+use rforms::TextErr;
+use rtrace::{Counting, count_events};
 use std::alloc::{AllocError, Global};
 
-/// What is told of a report with so many events.
-pub fn audit_text(alloc: Global, events: u64) -> Result<Vec<u8>, AllocError>
+/// Checks a report, and writes how many events it has.
+pub fn audit<K: Sink>(alloc: Global, bytes: &[u8], sink: &mut K, told: &mut Option<Told>) -> ToolStatus
+    ensures { (watchers : List Seen) → IsAnswer watchers (Some Audit) bytes.now (K.written sink.old) (K.written sink.new) (K.faults sink.new ≡ K.faults sink.old) (Rose (K.faults sink.old) (K.faults sink.new)) (sink.new ≡ sink.old) result }
+{
+    let mut counting = Counting::new(alloc);
+    match count_events(alloc, bytes, &mut counting) {
+        Ok(events) => tell(alloc, events, sink),
+        Err(TextErr::Bad(fault)) => {
+            *told = Some(Told::List {
+                fault,
+                expected: expected(alloc, &counting.reading, fault.code),
+            });
+            refuse(alloc, fault, sink)
+        }
+        Err(TextErr::Memory) => ToolStatus::NoMemory,
+    }
+}
+
+// Writes what is told of a report with so many events.
+fn tell<K: Sink>(alloc: Global, events: u64, sink: &mut K) -> ToolStatus
+    ensures { IsWritten (audit_text events) (K.written sink.old) (K.written sink.new) (K.faults sink.new ≡ K.faults sink.old) (Rose (K.faults sink.old) (K.faults sink.new)) (sink.new ≡ sink.old) result }
+{
+    let Ok(text) = audit_text(alloc, events) else {
+        return ToolStatus::NoMemory;
+    };
+    write_output(sink, &text)
+}
+
+// What is told of a report with so many events.
+fn audit_text(alloc: Global, events: u64) -> Result<Vec<u8>, AllocError>
     ensures { IfOk result (λ text. text.items ≡ audit_text events) }
 {
     let mut digits = Buffer::new();

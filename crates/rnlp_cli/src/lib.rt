@@ -1,19 +1,19 @@
-//! The tools of the program `rnlp` over any source and sink, and the program's edge.
+//! The tools of the program `rnlp` over any source and sink.
 //!
-//! What a tool answers is one record, `ToolAnswer` of `ranswer`: each status has its cause, and each cause its status. The
-//! whole program but its handles is `run`, whose exit status is that of the words that it was given.
+//! What a tool answers is one record, `ToolAnswer` of `ranswer`: each status has its cause, and each cause its status.
 #![tactic(auto)]
 
 mod auditing;
+mod bounding;
 mod drilling;
-mod edge;
 mod expected;
-mod explain;
-mod own;
+mod refusing;
+mod replaying;
 mod running;
+mod told;
 mod tool;
 
-pub use edge::{answer, run, words_of};
 pub use ranswer::{LIST_LIMIT, ToolStatus};
-pub use running::run_tool;
-pub use tool::plain_tool;
+pub use running::{run_tool, told_run};
+pub use told::Told;
+pub use tool::{plain_tool, told_tool};

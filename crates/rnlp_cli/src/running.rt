@@ -7,18 +7,18 @@ ghost use Rattle.rreport.specs.Report.{told_by, IsOverResources, HasItsLedgers};
 ghost use Rattle.rwatch.specs.Seen.{Seen};
 ghost use Rattle.ranswer.specs.Words.{run_in};
 ghost use Rattle.ranswer.specs.Answer.{ToolAnswer};
-ghost use Rattle.ranswer.specs.Outputs.{script_line};
 ghost use Rattle.ranswer.specs.Receipts.{RunReceipts, Receipts};
 ghost use Rattle.ranswer.specs.Running.{IsRun};
-ghost use Rattle.ranswer.specs.Writing.{IsAnswer, IsTold, IsWritten};
+ghost use Rattle.ranswer.specs.Writing.{IsAnswer, IsWritten};
 
-use crate::explain::Told;
+use crate::refusing::refuse_script;
+use crate::told::Told;
 use io_ends::{Sink, Source};
-use ranswer::{Command, ToolStatus, ask_for_run, read_input, script_line, write_line};
+use ranswer::{Command, ToolStatus, ask_for_run, read_input};
 use rguard::Receipt;
 use rreport::{Report, WriteErr, write_report};
 use rrun::{Pace, run_script};
-use rscript::{Code, Script, ScriptErr, read_script};
+use rscript::{Script, ScriptErr, read_script};
 use rvalue::Edit;
 use std::alloc::Global;
 use std::sync::Wait;
@@ -129,15 +129,4 @@ fn report_run<K: Sink>(alloc: Global, report: &Report, sink: &mut K) -> ToolStat
         Err(WriteErr::WriteFault) => ToolStatus::WriteFault,
         Err(WriteErr::Memory) => ToolStatus::NoMemory,
     }
-}
-
-// Writes the line of the fault of a script.
-fn refuse_script<K: Sink>(alloc: Global, line: u64, code: Code, sink: &mut K) -> ToolStatus
-    ensures { IsTold (script_line line code) (K.written sink.old) (K.written sink.new) (K.faults sink.new ≡ K.faults sink.old) (Rose (K.faults sink.old) (K.faults sink.new)) (sink.new ≡ sink.old) ToolStatus.Script result }
-{
-    let Ok(text) = script_line(alloc, line, code) else {
-        return ToolStatus::NoMemory;
-    };
-    write_line(sink, &text);
-    ToolStatus::Script
 }

@@ -3,7 +3,8 @@ ghost use Rattle.std.specs.Io.{WritesAtMost};
 
 use crate::runs::{SMALLEST, SMALLEST_REPORT};
 use io_ends::{MemSink, MemSource};
-use rnlp_cli::{ToolStatus, answer, words_of};
+use redge::{answer, words_of};
+use rnlp_cli::ToolStatus;
 use rrun::NoPace;
 use rwatch::Watchers;
 use std::alloc::Global;

@@ -13,8 +13,8 @@ short : (word : List ℕ) → length word ≤ 7 → option_and_then events_withi
 unfolding events_told
 short word few = sym (ap (λ b. cond b (option_and_then events_within (number_told word)) None) (le-leb (length word) 7 few))
 
-pub returns-then-word-gt7-clause-told : goal.returns-then-word-gt7-clause-told
-returns-then-word-gt7-clause-told c = long c.args.word.now (omega arith)
+pub returns-then-word-gt-MOST_DIGITS-clause-told : goal.returns-then-word-gt-MOST_DIGITS-clause-told
+returns-then-word-gt-MOST_DIGITS-clause-told c = long c.args.word.now (omega arith)
 
 pub returns-in_err-number_of-clause-told : goal.returns-in_err-number_of-clause-told
 returns-in_err-number_of-clause-told c =

@@ -16,6 +16,12 @@ returns-in-Audit-clause-answer g c = rw c.in-Audit.is (c.audit.ensures (g.A.Audi
 pub returns-in-Audit-clause-watched : goal.returns-in-Audit-clause-watched
 returns-in-Audit-clause-watched g c = rw c.in-Audit.is refl
 
+pub returns-in-Bound-clause-answer : goal.returns-in-Bound-clause-answer
+returns-in-Bound-clause-answer g c = rw c.in-Bound.is (c.bound.ensures (g.A.Audience.all c.args.audience.now))
+
+pub returns-in-Bound-clause-watched : goal.returns-in-Bound-clause-watched
+returns-in-Bound-clause-watched g c = rw c.in-Bound.is refl
+
 pub returns-in-Drill-clause-answer : goal.returns-in-Drill-clause-answer
 returns-in-Drill-clause-answer g c =
     rw c.in-Drill.is (written (g.A.Audience.all c.args.audience.now) (Some (Drill c.in-Drill.count)) c.args.bytes.now (drill_text c.in-Drill.count (g.A.Audience.all c.args.audience.now)) _ _ _ _ _ c.drill_tool.result refl c.drill_tool.ensures.written)

@@ -1,0 +1,180 @@
+// The edge of the program: all of `main` but its handles.
+ghost use Rattle.std.specs.Prelude.{◌≡◌, ◌≢◌, ◌⊎◌, true, Some, map, string_bytes, drop, IfErr};
+ghost use Rattle.std.specs.Process.{exit_status};
+ghost use Rattle.ranswer.specs.Status.{status_number};
+ghost use Rattle.ranswer.specs.Words.{command_in};
+ghost use Rattle.ranswer.specs.declared.command.Command.TheVariants.{Replay};
+ghost use Rattle.redge.specs.Program.{ProgramAnswer, RunAnswer, ShownAnswer};
+
+use crate::explain::explain;
+use crate::nobody::Nobody;
+use crate::own::own_text;
+use io_ends::{Sink, Source};
+use ranswer::{ToolStatus, are_for_run, write_output};
+use rguard::Receipt;
+use rnlp_cli::{Told, told_run, told_tool};
+use rrun::Pace;
+use rvalue::Edit;
+use rwatch::Audience;
+use std::alloc::Global;
+use std::env;
+use std::io::ErrorKind;
+use std::process::ExitCode;
+use std::rt::Env;
+use std::sync::Wait;
+use std::thread::Threads;
+
+/// Runs the program: answers the words that it was started with, tells a person on standard error what went wrong, and
+/// gives the exit status. Where standard error is a terminal, the person is told behind a replay what those who watch have
+/// counted; where it is none, nobody watches a replay.
+///
+/// Which words an environment holds no contract can say: `words_of` takes those behind the program's name.
+pub fn run<
+    R: Env + AllocGlobal + Eprint + Threads + Wait + Sync,
+    S: Source,
+    K: Sink,
+    G: Pace,
+    A: Audience,
+>(
+    rt: &R,
+    source: &mut S,
+    sink: &mut K,
+    pace: &G,
+    receipts: &mut Vec<Receipt<Edit>>,
+    audience: &mut A,
+    on_terminal: bool,
+) -> ExitCode
+    ensures { (status : ToolStatus) × (exit_status result ≡ status_number status)
+        × RunAnswer S.left S.faults K.written K.faults on_terminal source.old source.new sink.old sink.new receipts.old.items receipts.new.items (A.all audience.old) (A.all audience.new) status }
+{
+    let mut told = None;
+    let status = match words_of(rt) {
+        Ok(words) => shown_answer(
+            rt,
+            &words,
+            source,
+            sink,
+            pace,
+            receipts,
+            audience,
+            on_terminal,
+            &mut told,
+        ),
+        Err(status) => status,
+    };
+    explain(rt, status, told, audience, on_terminal);
+    ExitCode::from(status.number())
+}
+
+// Answers the words; where no terminal shows what is counted of a replay, to nobody who watches.
+fn shown_answer<R: AllocGlobal + Threads + Wait + Sync, S: Source, K: Sink, G: Pace, A: Audience>(
+    rt: &R,
+    words: &[String],
+    source: &mut S,
+    sink: &mut K,
+    pace: &G,
+    receipts: &mut Vec<Receipt<Edit>>,
+    audience: &mut A,
+    on_terminal: bool,
+    told: &mut Option<Told>,
+) -> ToolStatus
+    ensures { ShownAnswer S.left S.faults K.written K.faults on_terminal (map string_bytes words.now) source.old source.new sink.old sink.new receipts.old.items receipts.new.items (A.all audience.old) (A.all audience.new) result }
+{
+    let alloc = rt.alloc();
+    if on_terminal || !ask_for_replay(words) {
+        told_answer(
+            rt, alloc, words, source, sink, pace, receipts, audience, told,
+        )
+    } else {
+        let nobody = &mut Nobody;
+        told_answer(rt, alloc, words, source, sink, pace, receipts, nobody, told)
+    }
+}
+
+// Whether the words ask for a replay.
+fn ask_for_replay(words: &[String]) -> bool
+    ensures { result ≡ true → command_in (map string_bytes words.now) ≡ Some Replay }
+{
+    match words {
+        [word] => word.as_str() == "replay",
+        _ => false,
+    }
+}
+
+/// Answers the words that ask about the program itself, and else runs the tool that they are for.
+pub fn answer<R: Threads + Wait + Sync, S: Source, K: Sink, G: Pace, A: Audience>(
+    rt: &R,
+    alloc: Global,
+    words: &[String],
+    source: &mut S,
+    sink: &mut K,
+    pace: &G,
+    receipts: &mut Vec<Receipt<Edit>>,
+    audience: &mut A,
+) -> ToolStatus
+    ensures { ProgramAnswer S.left S.faults K.written K.faults (map string_bytes words.now) source.old source.new sink.old sink.new receipts.old.items receipts.new.items (A.all audience.old) (A.all audience.new) result }
+{
+    told_answer(
+        rt, alloc, words, source, sink, pace, receipts, audience, &mut None,
+    )
+}
+
+// The same; and what a person may be told of the run beyond its status is put into `told` too.
+fn told_answer<R: Threads + Wait + Sync, S: Source, K: Sink, G: Pace, A: Audience>(
+    rt: &R,
+    alloc: Global,
+    words: &[String],
+    source: &mut S,
+    sink: &mut K,
+    pace: &G,
+    receipts: &mut Vec<Receipt<Edit>>,
+    audience: &mut A,
+    told: &mut Option<Told>,
+) -> ToolStatus
+    ensures { ProgramAnswer S.left S.faults K.written K.faults (map string_bytes words.now) source.old source.new sink.old sink.new receipts.old.items receipts.new.items (A.all audience.old) (A.all audience.new) result }
+{
+    if let Some(text) = own_text(words) {
+        return write_output(sink, text);
+    }
+    if are_for_run(words) {
+        told_run(rt, alloc, words, source, sink, pace, receipts, told)
+    } else {
+        told_tool(alloc, words, source, sink, audience, told)
+    }
+}
+
+/// The words after the program's name, or the status where there are none to be had: wrong words where one is not
+/// UTF-8, and else want of memory.
+pub fn words_of<R: Env + AllocGlobal>(rt: &R) -> Result<Vec<String>, ToolStatus>
+    ensures { IfErr result (λ status. (status ≡ ToolStatus.Words) ⊎ (status ≡ ToolStatus.NoMemory)) }
+{
+    match env::args(rt) {
+        Ok(args) => match args.collect(rt.alloc()) {
+            Ok(all) => Ok(behind_name(all)),
+            Err(_) => Err(ToolStatus::NoMemory),
+        },
+        Err(e) => Err(status_without_words(e.kind())),
+    }
+}
+
+// All words but the first, which is the program's name.
+fn behind_name(all: Vec<String>) -> Vec<String>
+    ensures { result.items ≡ drop 1 all.items }
+{
+    let mut words = all;
+    if !words.is_empty() {
+        words.remove(0);
+    }
+    words
+}
+
+// The status where the words cannot be had: those that are no UTF-8 are wrong.
+fn status_without_words(kind: ErrorKind) -> ToolStatus
+    ensures no_text { kind ≡ ErrorKind.InvalidData → result ≡ ToolStatus.Words }
+    ensures other { kind ≢ ErrorKind.InvalidData → result ≡ ToolStatus.NoMemory }
+{
+    match kind {
+        ErrorKind::InvalidData => ToolStatus::Words,
+        _ => ToolStatus::NoMemory,
+    }
+}

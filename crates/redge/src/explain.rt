@@ -1,0 +1,151 @@
+// What a person is told on standard error.
+use ranswer::ToolStatus;
+use rclaim::RequestErr;
+use rforms::{Code, Fault, Refusal};
+use rmodel::Refused;
+use rnlp_cli::Told;
+use rscript::Code as ScriptCode;
+use rwatch::{Audience, WatchKind};
+use std::io;
+
+/// Tells a person what a status means, and of a refused input what is wrong with which record, and which line is due there;
+/// on a terminal also what was counted of the steps that were told.
+pub fn explain<A: Audience>(
+    rt: &impl Eprint,
+    status: ToolStatus,
+    told: Option<Told>,
+    audience: &A,
+    on_terminal: bool,
+) {
+    match told {
+        Some(Told::Steps) => {
+            let _ = explain_status(rt, status);
+            if on_terminal {
+                let _ = explain_counts(rt, audience);
+            }
+        }
+        Some(Told::List { fault, expected }) => {
+            let _ = explain_fault(rt, fault);
+            if let Some(line) = expected {
+                let _ = rt.eprintln(format_args!("rnlp: expected: {line}"));
+            }
+        }
+        Some(Told::Script { line, code }) => {
+            let _ = explain_script(rt, line, code);
+        }
+        None => {
+            let _ = explain_status(rt, status);
+        }
+    }
+}
+
+fn explain_status(rt: &impl Eprint, status: ToolStatus) -> io::Result<()> {
+    let meaning = match status {
+        ToolStatus::Done => return Ok(()),
+        ToolStatus::Words => {
+            "no such form. The forms are rnlp run < SCRIPT, rnlp replay < LIST, rnlp audit < REPORT, rnlp bound [M] < SCRIPT, and rnlp drill N. rnlp --help tells all"
+        }
+        ToolStatus::ReadFault => "standard input failed",
+        ToolStatus::WriteFault => "standard output failed",
+        ToolStatus::Script => "the input is no script",
+        ToolStatus::TooLong => "the input is too long",
+        ToolStatus::NoMemory => "out of memory",
+        ToolStatus::Trace => "the input is no event list, or no right report",
+    };
+    rt.eprintln(format_args!("rnlp: {meaning}"))
+}
+
+fn explain_counts<A: Audience>(rt: &impl Eprint, audience: &A) -> io::Result<()> {
+    for i in 0..audience.count() {
+        let kind = word_of(audience.kind_of(i));
+        let count = audience.count_of(i);
+        rt.eprintln(format_args!("rnlp: {kind} {count}"))?;
+    }
+    Ok(())
+}
+
+fn word_of(kind: WatchKind) -> &'static str {
+    match kind {
+        WatchKind::Issues => "issues",
+        WatchKind::Finishes => "finishes",
+        WatchKind::Rises => "rises",
+        WatchKind::Asks => "asks",
+        WatchKind::Entitled => "entitled",
+        WatchKind::Satisfied => "satisfied",
+        WatchKind::Grants => "grants",
+    }
+}
+
+fn explain_script(rt: &impl Eprint, line: u64, code: ScriptCode) -> io::Result<()> {
+    let meaning = meaning_in_script(code);
+    let number = code.number();
+    rt.eprintln(format_args!("rnlp: record {line}: {meaning} (code {number})"))
+}
+
+fn explain_fault(rt: &impl Eprint, fault: Fault) -> io::Result<()> {
+    let line = fault.line;
+    match fault.code {
+        Code::Refused(refusal) => {
+            let cause = meaning_of_refusal(refusal);
+            rt.eprintln(format_args!("rnlp: record {line}: the event is refused: {cause}"))
+        }
+        code => rt.eprintln(format_args!("rnlp: record {line}: {}", meaning_of(code))),
+    }
+}
+
+fn meaning_in_script(code: ScriptCode) -> &'static str {
+    match code {
+        ScriptCode::BadField =>
+            "it is no record of a script, has another number of fields, or the version is not 1",
+        ScriptCode::BadOrder => "it may not stand at this place",
+        ScriptCode::NoResources => "no resource stands before it",
+        ScriptCode::NoTask => "no task stands before it",
+        ScriptCode::BadName => "the name that it declares is none",
+        ScriptCode::Repeated => "the name that it declares is declared already",
+        ScriptCode::TooMany => "there are as many resources, tasks or groups as there may be",
+        ScriptCode::UnknownName => "it names a resource that is not declared",
+        ScriptCode::BadNumber => "a number of it is none, or above its limit",
+        ScriptCode::EmptyGroup => "its group is empty",
+        ScriptCode::EmptyRequest => "its request is about nothing",
+        ScriptCode::Undeclared => "the resources to read are not declared together",
+        ScriptCode::FirstOutside => "the first part is empty, or not within the request",
+        ScriptCode::NotHeld =>
+            "it shows or edits what the section does not hold, or asks for nothing or for more than the request",
+        ScriptCode::NotWritable => "it edits what the section holds for reading only",
+        ScriptCode::NoEnd => "the script has no end record",
+    }
+}
+
+fn meaning_of(code: Code) -> &'static str {
+    match code {
+        Code::BadField =>
+            "it is no record of this input, or a name, a number or a word of it is bad",
+        Code::UnknownName => "it names a task or a resource that is not declared",
+        Code::BadOrder => "it may not stand at this place",
+        Code::Refused(_) => "the event is refused",
+        Code::WrongChange => "another line of a change is due here, or none",
+        Code::WrongShow =>
+            "the answer of this act is wrong, or the section does not hold the resource",
+        Code::WrongLedger => "another ledger is due here",
+        Code::NoEnd => "the input has no end record",
+    }
+}
+
+fn meaning_of_refusal(refusal: Refusal) -> &'static str {
+    match refusal {
+        Refusal::Step(Refused::SeatBusy) => "the task has a request already",
+        Refusal::Step(Refused::Full) => "as many requests are incomplete as the cap allows",
+        Refusal::Step(Refused::NotHolding) => "the task holds nothing, or an ask of it is pending",
+        Refusal::Step(Refused::NotUpgradeable) => "the request is no upgrade, or has risen",
+        Refusal::Step(Refused::NotNested) => "the request is not nested",
+        Refusal::Step(Refused::AskOutside) =>
+            "what is asked for is empty, or not within the request",
+        Refusal::Request(RequestErr::EmptyRequest) => "the request is about nothing",
+        Refusal::Request(RequestErr::Undeclared) => {
+            "the resources to read are not declared together"
+        }
+        Refusal::Request(RequestErr::FirstOutside) => {
+            "the first part is empty, or not within the request"
+        }
+    }
+}
