@@ -3,7 +3,7 @@ ghost use Rattle.std.specs.Prelude.{◌≡◌, ℕ, ◌<◌, length, All, IsTrue
 ghost use Rattle.rguard.specs.Seats.{SeatOf};
 ghost use Rattle.accounts_example.specs.declared.account.Account.{Account};
 ghost use Rattle.accounts_example.specs.declared.account.Transfer.{Transfer};
-ghost use Rattle.accounts_example.specs.Resting.{Rests};
+ghost use Rattle.rguard.specs.Resting.{Rests, all_with};
 
 use crate::account::Account;
 use crate::transfers::{OPENING, move_in, opened, read_in};
@@ -41,8 +41,8 @@ fn run_job<R: Wait, M: Machine>(
     sections: u32,
     job: &mut Task<M>,
 )
-    requires { IsSomeAnd job.old.seat (Rests group lock.now) }
-    ensures { IsSomeAnd job.new.seat (Rests group lock.now) }
+    requires { IsSomeAnd job.old.seat (Rests (all_with group) lock.now) }
+    ensures { IsSomeAnd job.new.seat (Rests (all_with group) lock.now) }
 {
     let mut seat = job.seat.take().unwrap();
     let mut done = true;
@@ -65,8 +65,8 @@ fn run_all<R: Threads + Wait + Sync, M: Machine>(
     sections: u32,
     mut jobs: Vec<Task<M>>,
 ) -> Vec<Task<M>>
-    requires { All (λ j. IsSomeAnd j.seat (Rests group lock.now)) jobs.items }
-    ensures { All (λ j. IsSomeAnd j.seat (Rests group lock.now)) result.items }
+    requires { All (λ j. IsSomeAnd j.seat (Rests (all_with group) lock.now)) jobs.items }
+    ensures { All (λ j. IsSomeAnd j.seat (Rests (all_with group) lock.now)) result.items }
 {
     if jobs.is_empty() {
         return jobs;
@@ -77,8 +77,8 @@ fn run_all<R: Threads + Wait + Sync, M: Machine>(
         jobs.as_mut_slice(),
         threads,
         &|_task: usize, job: &mut Task<M>|
-            requires { IsSomeAnd job.now.seat (Rests group lock.now) }
-            ensures { IsSomeAnd job.exit.now.seat (Rests group lock.entry.now) }
+            requires { IsSomeAnd job.now.seat (Rests (all_with group) lock.now) }
+            ensures { IsSomeAnd job.exit.now.seat (Rests (all_with group) lock.entry.now) }
         { run_job(rt, alloc, lock, group, sections, job) },
     );
     jobs
@@ -91,8 +91,8 @@ fn jobs_for(
     group: ResourceSet,
     seats: Vec<Seat<Account, Plain>>,
 ) -> Result<Vec<Task<Plain>>, AllocError>
-    requires { All (Rests group lock.now) seats.items }
-    ensures { IfOk result (λ v. All (λ j. IsSomeAnd j.seat (Rests group lock.now)) v.items) }
+    requires { All (Rests (all_with group) lock.now) seats.items }
+    ensures { IfOk result (λ v. All (λ j. IsSomeAnd j.seat (Rests (all_with group) lock.now)) v.items) }
 {
     let _ = lock;
     let _ = group.len();
@@ -126,8 +126,8 @@ fn seats_of(
     group: ResourceSet,
     jobs: Vec<Task<Plain>>,
 ) -> Result<Vec<Seat<Account, Plain>>, AllocError>
-    requires { All (λ j. IsSomeAnd j.seat (Rests group lock.now)) jobs.items }
-    ensures { IfOk result (λ v. All (Rests group lock.now) v.items) }
+    requires { All (λ j. IsSomeAnd j.seat (Rests (all_with group) lock.now)) jobs.items }
+    ensures { IfOk result (λ v. All (Rests (all_with group) lock.now) v.items) }
 {
     let _ = lock;
     let _ = group.len();
@@ -159,7 +159,7 @@ fn sum_left<M: Machine>(
     seats: Vec<Seat<Account, M>>,
     count: u8,
 ) -> Option<u64>
-    requires rest { All (Rests group lock) seats.items }
+    requires rest { All (Rests (all_with group) lock) seats.items }
     requires count { lock.passes ≡ count }
 {
     let _ = group.len();

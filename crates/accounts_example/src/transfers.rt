@@ -2,7 +2,7 @@
 ghost use Rattle.std.specs.Prelude.{◌≡◌, ℕ, ◌<◌, ◌≤◌, All, IsTrue, IfOk, OnOk, IfErr, length, [], ◌∷◌};
 ghost use Rattle.std.specs.FinSet.{empty, contains};
 ghost use Rattle.rset.specs.declared.TheConstants.{SEATS, RESOURCES};
-ghost use Rattle.accounts_example.specs.Resting.{IsAt, Rests, HoldsAll, MayWriteAll};
+ghost use Rattle.rguard.specs.Resting.{IsAt, Rests, HoldsAll, MayWriteAll, all_with};
 
 use crate::account::{Account, Transfer};
 use rclaim::{Kind, Request};
@@ -14,8 +14,10 @@ use rset::{RESOURCES, ResourceSet};
 use std::alloc::{AllocError, Global};
 use std::sync::Wait;
 
+/// A runtime over accounts.
 pub type Runtime<M> = Rnlp<Account, M>;
 
+/// A seat at it.
 pub type Place<M> = Seat<Account, M>;
 
 /// What is in each account at first.
@@ -30,7 +32,7 @@ pub fn opened(
     requires some { 0 < seats }
     requires few { seats ≤ SEATS }
     ensures count { IfOk result (λ r. r.0.passes ≡ seats) }
-    ensures seats { IfOk result (λ r. All (Rests group r.0) r.1.items) }
+    ensures seats { IfOk result (λ r. All (Rests (all_with group) r.0) r.1.items) }
 {
     let groups = declared(alloc, group)?;
     let machine = Plain::new(alloc, groups, seats, seats)?;
@@ -71,10 +73,10 @@ pub fn to_write<'a, R: Wait, M: Machine>(
     group: ResourceSet,
     set: ResourceSet,
 ) -> Result<WriteGuard<'a, Account, M>, Place<M>>
-    requires { Rests group lock.now seat }
-    ensures at { IfOk result (λ guard. IsAt group lock.entry.now guard.seat × (guard.seat.number ≡ seat.number)) }
+    requires { Rests (all_with group) lock.now seat }
+    ensures at { IfOk result (λ guard. IsAt (all_with group) lock.entry.now guard.seat × (guard.seat.number ≡ seat.number)) }
     ensures writes { IfOk result (λ guard. MayWriteAll set guard.seat) }
-    ensures err { IfErr result (λ s. Rests group lock.entry.now s × (s.number ≡ seat.number)) }
+    ensures err { IfErr result (λ s. Rests (all_with group) lock.entry.now s × (s.number ≡ seat.number)) }
 {
     let _ = set.len();
     let Ok(request) = Request::new(Kind::Write, set, set, set, 1, 0) else {
@@ -98,10 +100,10 @@ pub fn to_read<'a, R: Wait, M: Machine>(
     seat: Place<M>,
     group: ResourceSet,
 ) -> Result<ReadGuard<'a, Account, M>, Place<M>>
-    requires { Rests group lock.now seat }
-    ensures at { IfOk result (λ guard. IsAt group lock.entry.now guard.seat × (guard.seat.number ≡ seat.number)) }
+    requires { Rests (all_with group) lock.now seat }
+    ensures at { IfOk result (λ guard. IsAt (all_with group) lock.entry.now guard.seat × (guard.seat.number ≡ seat.number)) }
     ensures reads { IfOk result (λ guard. HoldsAll group guard.seat) }
-    ensures err { IfErr result (λ s. Rests group lock.entry.now s × (s.number ≡ seat.number)) }
+    ensures err { IfErr result (λ s. Rests (all_with group) lock.entry.now s × (s.number ≡ seat.number)) }
 {
     let _ = group.len();
     let Ok(request) = Request::new(Kind::Read, group, group, group, 1, 0) else {
@@ -156,8 +158,8 @@ pub fn ended<R: Wait, M: Machine>(
     guard: WriteGuard<'_, Account, M>,
     done: bool,
 ) -> (Place<M>, bool)
-    requires { IsAt group lock.now guard.seat }
-    ensures { Rests group lock.now result.0 × (result.0.number ≡ guard.entry.seat.number) }
+    requires { IsAt (all_with group) lock.now guard.seat }
+    ensures { Rests (all_with group) lock.now result.0 × (result.0.number ≡ guard.entry.seat.number) }
 {
     let _ = lock;
     let _ = group.len();
@@ -175,8 +177,8 @@ pub fn read_in<R: Wait, M: Machine>(
     seat: Place<M>,
     group: ResourceSet,
 ) -> (Place<M>, Option<u64>)
-    requires { Rests group lock.now seat }
-    ensures { Rests group lock.now result.0 × (result.0.number ≡ seat.number) }
+    requires { Rests (all_with group) lock.now seat }
+    ensures { Rests (all_with group) lock.now result.0 × (result.0.number ≡ seat.number) }
 {
     match to_read(rt, alloc, lock, seat, group) {
         Ok(guard) => {
@@ -197,8 +199,8 @@ pub fn move_in<R: Wait, M: Machine>(
     from: ResourceSet,
     to: ResourceSet,
 ) -> (Place<M>, bool)
-    requires { Rests group lock.now seat }
-    ensures { Rests group lock.now result.0 × (result.0.number ≡ seat.number) }
+    requires { Rests (all_with group) lock.now seat }
+    ensures { Rests (all_with group) lock.now result.0 × (result.0.number ≡ seat.number) }
 {
     match to_write(rt, alloc, lock, seat, group, from.union(to)) {
         Ok(mut guard) => {

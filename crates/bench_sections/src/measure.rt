@@ -5,7 +5,7 @@ ghost use Rattle.rexpand.specs.Groups.{no_groups};
 ghost use Rattle.rguard.specs.Seats.{SeatOf};
 ghost use Rattle.rvalue.specs.declared.ledger.Ledger.{Ledger};
 ghost use Rattle.rvalue.specs.declared.ledger.Edit.{Edit};
-ghost use Rattle.bench_sections.specs.Resting.{Rests};
+ghost use Rattle.rguard.specs.Resting.{Rests};
 
 use crate::section::add_in;
 use crate::words::Asked;
@@ -40,7 +40,7 @@ fn opened(
     requires some { 0 < seats }
     requires few { seats ≤ SEATS }
     ensures count { IfOk result (λ r. r.0.passes ≡ seats) }
-    ensures seats { IfOk result (λ r. All (Rests r.0) r.1.items) }
+    ensures seats { IfOk result (λ r. All (Rests (no_groups RESOURCES) r.0) r.1.items) }
 {
     let groups = Groups::new(alloc, RESOURCES as u8)?;
     let machine = Plain::new(alloc, groups, seats, seats)?;
@@ -69,8 +69,8 @@ fn run_job<R: Wait, M: Machine>(
     sections: u32,
     job: &mut Task<M>,
 )
-    requires { IsSomeAnd job.old.seat (Rests lock.now) }
-    ensures { IsSomeAnd job.new.seat (Rests lock.now) }
+    requires { IsSomeAnd job.old.seat (Rests (no_groups RESOURCES) lock.now) }
+    ensures { IsSomeAnd job.new.seat (Rests (no_groups RESOURCES) lock.now) }
 {
     let mut seat = job.seat.take().unwrap();
     let mut done = true;
@@ -91,8 +91,8 @@ fn run_all<R: Threads + Wait + Sync, M: Machine>(
     sections: u32,
     mut jobs: Vec<Task<M>>,
 ) -> Vec<Task<M>>
-    requires { All (λ j. IsSomeAnd j.seat (Rests lock.now)) jobs.items }
-    ensures { All (λ j. IsSomeAnd j.seat (Rests lock.now)) result.items }
+    requires { All (λ j. IsSomeAnd j.seat (Rests (no_groups RESOURCES) lock.now)) jobs.items }
+    ensures { All (λ j. IsSomeAnd j.seat (Rests (no_groups RESOURCES) lock.now)) result.items }
 {
     if jobs.is_empty() {
         return jobs;
@@ -103,8 +103,8 @@ fn run_all<R: Threads + Wait + Sync, M: Machine>(
         jobs.as_mut_slice(),
         threads,
         &|_task: usize, job: &mut Task<M>|
-            requires { IsSomeAnd job.now.seat (Rests lock.now) }
-            ensures { IsSomeAnd job.exit.now.seat (Rests lock.entry.now) }
+            requires { IsSomeAnd job.now.seat (Rests (no_groups RESOURCES) lock.now) }
+            ensures { IsSomeAnd job.exit.now.seat (Rests (no_groups RESOURCES) lock.entry.now) }
         { run_job(rt, alloc, lock, sections, job) },
     );
     jobs
@@ -117,8 +117,8 @@ fn jobs_for<M: Machine>(
     seats: Vec<Seat<Ledger, M>>,
     asked: &Asked,
 ) -> Result<Vec<Task<M>>, AllocError>
-    requires { All (Rests lock.now) seats.items }
-    ensures { IfOk result (λ v. All (λ j. IsSomeAnd j.seat (Rests lock.now)) v.items) }
+    requires { All (Rests (no_groups RESOURCES) lock.now) seats.items }
+    ensures { IfOk result (λ v. All (λ j. IsSomeAnd j.seat (Rests (no_groups RESOURCES) lock.now)) v.items) }
 {
     let _ = lock;
     let mut jobs = Vec::new(alloc);
@@ -153,8 +153,8 @@ fn seats_of(
     lock: &Rnlp<Ledger, Plain>,
     jobs: Vec<Task<Plain>>,
 ) -> Result<Vec<Seat<Ledger, Plain>>, AllocError>
-    requires { All (λ j. IsSomeAnd j.seat (Rests lock.now)) jobs.items }
-    ensures { IfOk result (λ v. All (Rests lock.now) v.items) }
+    requires { All (λ j. IsSomeAnd j.seat (Rests (no_groups RESOURCES) lock.now)) jobs.items }
+    ensures { IfOk result (λ v. All (Rests (no_groups RESOURCES) lock.now) v.items) }
 {
     let _ = lock;
     let mut seats = Vec::new(alloc);
@@ -184,7 +184,7 @@ fn sum_left<M: Machine>(
     seats: Vec<Seat<Ledger, M>>,
     count: u8,
 ) -> Option<u64>
-    requires rest { All (Rests lock) seats.items }
+    requires rest { All (Rests (no_groups RESOURCES) lock) seats.items }
     requires count { lock.passes ≡ count }
 {
     if seats.len() != usize::from(count) {

@@ -1,6 +1,8 @@
 //! One section under a guard.
 ghost use Rattle.std.specs.Prelude.{◌≡◌, IfOk, IfErr};
-ghost use Rattle.bench_sections.specs.Resting.{IsAt, Rests, MayWriteAll};
+ghost use Rattle.rset.specs.declared.TheConstants.{RESOURCES};
+ghost use Rattle.rexpand.specs.Groups.{no_groups};
+ghost use Rattle.rguard.specs.Resting.{IsAt, Rests, MayWriteAll};
 
 use rclaim::{Kind, Request};
 use rguard::{Guard, Rnlp, Seat, WriteGuard};
@@ -18,10 +20,10 @@ fn to_write<'a, R: Wait, M: Machine>(
     seat: Seat<Ledger, M>,
     set: ResourceSet,
 ) -> Result<WriteGuard<'a, Ledger, M>, Seat<Ledger, M>>
-    requires { Rests lock.now seat }
-    ensures at { IfOk result (λ guard. IsAt lock.entry.now guard.seat) }
+    requires { Rests (no_groups RESOURCES) lock.now seat }
+    ensures at { IfOk result (λ guard. IsAt (no_groups RESOURCES) lock.entry.now guard.seat) }
     ensures writes { IfOk result (λ guard. MayWriteAll set guard.seat) }
-    ensures err { IfErr result (Rests lock.entry.now) }
+    ensures err { IfErr result (Rests (no_groups RESOURCES) lock.entry.now) }
 {
     let _ = set.len();
     let Ok(request) = Request::new(Kind::Write, set, set, set, 1, 0) else {
@@ -63,8 +65,8 @@ pub fn add_in<R: Wait, M: Machine>(
     seat: Seat<Ledger, M>,
     set: ResourceSet,
 ) -> (Seat<Ledger, M>, bool)
-    requires { Rests lock.now seat }
-    ensures { Rests lock.now result.0 }
+    requires { Rests (no_groups RESOURCES) lock.now seat }
+    ensures { Rests (no_groups RESOURCES) lock.now result.0 }
 {
     let mut guard = match to_write(rt, alloc, lock, seat, set) {
         Ok(guard) => guard,

@@ -1,5 +1,5 @@
-use Rattle.accounts_example.specs.Resting.{Rests}
+use Rattle.rguard.specs.Resting.{Rests, all_with}
 use Rattle.accounts_example.proofs.bank.run_job.Given as goal
 
 abbrev pub invariant-loop : goal.invariant-loop
-invariant-loop g l = Rests l.group l.lock l.seat
+invariant-loop g l = Rests (all_with l.group) l.lock l.seat

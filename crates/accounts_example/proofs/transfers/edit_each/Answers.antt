@@ -5,7 +5,7 @@ use Rattle.rguard.specs.Guards.{GuardFields, HoldingToWrite}
 use Rattle.rguard.specs.Seats.{SeatOf}
 use Rattle.accounts_example.specs.declared.account.Account.{Account}
 use Rattle.accounts_example.specs.declared.account.Transfer.{Transfer}
-use Rattle.accounts_example.proofs.Resting.{each_rising}
+use Rattle.rguard.proofs.Resting.{each_rising}
 use Rattle.accounts_example.proofs.transfers.edit_each.Goals as goal
 
 pub loop-l-init : goal.loop-l-init

@@ -3,8 +3,8 @@ use Rattle.rguard.specs.Seats.{SeatOf}
 use Rattle.accounts_example.specs.declared.account.Account.{Account}
 use Rattle.accounts_example.specs.declared.account.Transfer.{Transfer}
 use Rattle.rset.specs.Sets.{Set}
-use Rattle.accounts_example.specs.Resting.{MayWriteAll}
-use Rattle.accounts_example.proofs.Resting.{write_left, write_right}
+use Rattle.rguard.specs.Resting.{MayWriteAll}
+use Rattle.rguard.proofs.Resting.{write_left, write_right}
 use Rattle.accounts_example.proofs.transfers.move_in.Goals as goal
 
 pub edit_each-taken-requires-after_bounds : goal.edit_each-taken-requires-after_bounds

@@ -1,9 +1,11 @@
 use Rattle.std.proofs.Common.{ap, ◌∙◌}
 use Rattle.rmodel.specs.State.{LockState}
-use Rattle.bench_sections.proofs.Resting.{rest_new}
+use Rattle.rset.specs.declared.TheConstants.{RESOURCES}
+use Rattle.rexpand.specs.Groups.{no_groups}
+use Rattle.rguard.proofs.Resting.{rest_new}
 use Rattle.bench_sections.proofs.measure.opened.Goals as goal
 
 pub returns-clause-seats : goal.returns-clause-seats
 returns-clause-seats c =
-    rest_new c.in_ok-lock.lock c.in_ok-lock.seats.items c.args.seats _ _ c.in_ok-lock.ensures.count.1 c.in_ok-lock.ensures.seats c.in_ok-lock.ensures.each
+    rest_new (no_groups RESOURCES) c.in_ok-lock.lock c.in_ok-lock.seats.items c.args.seats _ _ c.in_ok-lock.ensures.count.1 c.in_ok-lock.ensures.seats c.in_ok-lock.ensures.each
     (ap (λ (s : LockState). s.groups) c.in_ok-machine.ensures.opening ∙ c.in_ok-groups.ensures)
