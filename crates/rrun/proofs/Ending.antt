@@ -10,11 +10,12 @@ use Rattle.rstate.proofs.homes.Lists.{get_map, get_there}
 use Rattle.rscript.specs.Scripts.{ScriptFields}
 use Rattle.rscript.specs.declared.statement.Statement.{Statement}
 use Rattle.rguard.specs.Seats.{SeatOf}
+use Rattle.rsection.specs.Seats.{IsSeatFor}
 use Rattle.rrun.specs.declared.jobs.Job.{Job}
 use Rattle.rrun.specs.declared.tasks.Ended.{Ended}
 use Rattle.rrun.specs.Endings.{waiting, resting, AreEnded}
 use Rattle.rrun.specs.Jobs.{IsDone, AreReady, AreDone}
-use Rattle.rrun.specs.Tasks.{IsSeatFor, AreSeatsFor}
+use Rattle.rrun.specs.Tasks.{AreSeatsFor}
 
 module _ {M : Type 0} where
   -- one job more

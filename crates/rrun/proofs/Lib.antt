@@ -1,9 +1,3 @@
-pub mod Standing
-pub mod Doing
-pub mod Stepping
-pub mod Running
-pub mod Whole
 pub mod Ending
 pub mod Reported
-pub mod Parts
 pub mod Telling

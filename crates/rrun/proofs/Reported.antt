@@ -26,11 +26,12 @@ use Rattle.rscript.specs.Scripts.{ScriptFields, IsScript}
 use Rattle.rscript.specs.declared.statement.Statement.{Statement}
 use Rattle.rguard.specs.Closing.{IsClosedBy, IsLeft}
 use Rattle.rguard.specs.Seats.{SeatOf, IsOf, IsIdle}
+use Rattle.rsection.specs.Runs.{IsRunOf, HasRun}
+use Rattle.rsection.specs.Seats.{IsSeatFor}
 use Rattle.rrun.specs.declared.tasks.Ended.{Ended}
 use Rattle.rrun.specs.Endings.{AreEnded}
 use Rattle.rrun.specs.Reporting.{beginning_of, HasOpened, TellsHeadOf, IsReportOf}
-use Rattle.rrun.specs.Runs.{IsRunOf, HasRun}
-use Rattle.rrun.specs.Tasks.{IsSeatFor, HasEnded}
+use Rattle.rrun.specs.Tasks.{HasEnded}
 use Rattle.rrun.proofs.Ending.{less_from_slice_get}
 
 -- ---- the beginning

@@ -33,7 +33,7 @@ use Rattle.rscript.specs.declared.statement.Statement.{Statement}
 use Rattle.rscript.specs.declared.statement.Statement.TheVariants as statement
 use Rattle.rscript.proofs.Tasks.{task_at}
 use Rattle.rrun.specs.Reporting.{IsReportOf}
-use Rattle.rrun.specs.Runs.{Told, told_by, deed_of, deeds_next, entry_now, run_of}
+use Rattle.rsection.specs.Runs.{Told, told_by, deed_of, deeds_next, entry_now, run_of}
 
 -- ---- statements
 

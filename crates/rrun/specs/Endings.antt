@@ -6,9 +6,10 @@ use Rattle.rvalue.specs.declared.ledger.Ledger.{Ledger}
 use Rattle.rscript.specs.Scripts.{ScriptFields}
 use Rattle.rscript.specs.declared.statement.Statement.{Statement}
 use Rattle.rguard.specs.Seats.{SeatOf}
+use Rattle.rsection.specs.Seats.{IsSeatFor}
 use Rattle.rrun.specs.declared.jobs.Job.{Job}
 use Rattle.rrun.specs.declared.tasks.Ended.{Ended}
-use Rattle.rrun.specs.Tasks.{IsSeatFor, HasEnded}
+use Rattle.rrun.specs.Tasks.{HasEnded}
 
 -- a job that was not done
 abbrev pub waiting : SeatOf Ledger Edit → Job (SeatOf Ledger Edit)

@@ -6,8 +6,9 @@ use Rattle.rvalue.specs.declared.ledger.Ledger.{Ledger}
 use Rattle.rscript.specs.Scripts.{ScriptFields}
 use Rattle.rscript.specs.declared.statement.Statement.{Statement}
 use Rattle.rguard.specs.Seats.{SeatOf}
+use Rattle.rsection.specs.Seats.{IsSeatFor}
 use Rattle.rrun.specs.declared.jobs.Job.{Job}
-use Rattle.rrun.specs.Tasks.{IsSeatFor, HasEnded}
+use Rattle.rrun.specs.Tasks.{HasEnded}
 
 -- the job has the seat of the task
 abbrev pub IsReady : Site → ScriptFields → ℕ → Job (SeatOf Ledger Edit) → Type 0

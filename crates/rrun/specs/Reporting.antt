@@ -12,7 +12,7 @@ use Rattle.rreport.specs.Report.{ReportFields, told_by, IsOverResources, HasItsL
 use Rattle.rscript.specs.Scripts.{ScriptFields}
 use Rattle.rscript.specs.declared.statement.Statement.{Statement}
 use Rattle.rguard.specs.Seats.{SeatOf}
-use Rattle.rrun.specs.Runs.{IsRunOf}
+use Rattle.rsection.specs.Runs.{IsRunOf}
 use Rattle.rrun.specs.Tasks.{AreSeatsFor}
 
 -- how the runtime of a script begins: with what the script declares, a seat for each task, each of which may have a request, and ledgers as they open

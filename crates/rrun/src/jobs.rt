@@ -3,12 +3,10 @@ ghost use Rattle.std.specs.Prelude.{◌≡◌, ◌<◌, ℕ, Some, List, length,
 ghost use Rattle.rscript.specs.declared.statement.Statement.{Statement};
 ghost use Rattle.rrun.specs.Jobs.{IsReady, IsDone, AreReady, AreDone};
 
-use crate::Pace;
-use crate::desk::At;
-use crate::steps::run_steps;
 use rguard::{Rnlp, Seat};
 use rmodel::Machine;
 use rscript::Script;
+use rsection::{Pace, run_task};
 use rvalue::Ledger;
 use std::alloc::Global;
 use std::sync::Wait;
@@ -25,7 +23,7 @@ pub(crate) struct Job<P> {
 /// The job of a seat of a runtime.
 pub(crate) type Task<M> = Job<Seat<Ledger, M>>;
 
-/// Does a job: the statements of its task, one after another.
+/// Does a job: the sections of its task, one after another.
 fn work<R: Wait, M: Machine, G: Pace>(
     rt: &R,
     alloc: Global,
@@ -41,9 +39,7 @@ fn work<R: Wait, M: Machine, G: Pace>(
 {
     let seat = job.seat.take().unwrap();
     let task = seat.number();
-    let steps = script.steps(task);
-    let first = At { task, section: 0 };
-    match run_steps(rt, alloc, rnlp, seat, steps, first, pace) {
+    match run_task(rt, alloc, rnlp, seat, script, task, pace) {
         Ok(seat) => {
             job.seat = Some(seat);
             job.stopped = false;

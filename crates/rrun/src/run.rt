@@ -6,7 +6,6 @@ ghost use Rattle.rforms.specs.Written.{MayBeWritten};
 ghost use Rattle.rreport.specs.Report.{told_by};
 ghost use Rattle.rrun.specs.Reporting.{HasOpened, TellsHeadOf, IsReportOf};
 
-use crate::Pace;
 use crate::tasks::{Ended, run_tasks};
 use rexpand::Groups;
 use rguard::{Closed, Receipt, Rnlp, Seat};
@@ -14,6 +13,7 @@ use rmodel::Machine;
 use rplain::Plain;
 use rreport::Report;
 use rscript::Script;
+use rsection::Pace;
 use rset::NameTable;
 use rvalue::{Edit, Ledger};
 use std::alloc::{AllocError, Global};

@@ -3,11 +3,11 @@ ghost use Rattle.std.specs.Prelude.{◌≡◌, ◌≤◌, ◌+◌, [], map, leng
 ghost use Rattle.rrun.specs.Tasks.{AreSeatsFor};
 ghost use Rattle.rrun.specs.Endings.{waiting, resting, AreEnded};
 
-use crate::Pace;
 use crate::jobs::{Job, Task, work_all};
 use rguard::{Rnlp, Seat};
 use rmodel::Machine;
 use rscript::Script;
+use rsection::Pace;
 use rvalue::Ledger;
 use std::alloc::{AllocError, Global};
 use std::sync::Wait;

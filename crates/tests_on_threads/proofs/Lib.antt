@@ -1,1 +1,2 @@
-mod Resting
+mod Waiting
+mod Begun

@@ -3,7 +3,7 @@ ghost use Rattle.std.specs.Prelude.{◌≡◌, ℕ, ◌<◌, length, All, IsTrue
 ghost use Rattle.rguard.specs.Seats.{SeatOf};
 ghost use Rattle.rvalue.specs.declared.ledger.Ledger.{Ledger};
 ghost use Rattle.rvalue.specs.declared.ledger.Edit.{Edit};
-ghost use Rattle.tests_on_threads.specs.Resting.{Rests};
+ghost use Rattle.rguard.specs.Resting.{Rests, all_with};
 
 use crate::sections::{OPENING, Place, Runtime};
 use rmodel::Machine;
@@ -40,7 +40,7 @@ pub fn closed<M: Machine>(
     seats: Vec<Place<M>>,
     count: u8,
 ) -> Left
-    requires rest { All (Rests group lock) seats.items }
+    requires rest { All (Rests (all_with group) lock) seats.items }
     requires count { lock.passes ≡ count }
 {
     let _ = group.len();

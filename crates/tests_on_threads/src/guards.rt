@@ -1,6 +1,6 @@
 //! Guards on one thread.
-ghost use Rattle.std.specs.Prelude.{◌≡◌};
-ghost use Rattle.tests_on_threads.specs.Resting.{IsAt, Rests};
+ghost use Rattle.std.specs.Prelude.{◌≡◌, All, OnOk};
+ghost use Rattle.rguard.specs.Resting.{IsAt, Rests, all_with};
 
 use crate::closing::{closed, ledger_of};
 use crate::looks::{begin_to_read, look_to_read, wait_to_read};
@@ -11,7 +11,8 @@ use rguard::WriteGuard;
 use rmodel::Machine;
 use rset::ResourceSet;
 use rvalue::{Edit, Ledger};
-use std::alloc::Global;
+use std::alloc::{AllocError, Global};
+use std::process::Abort;
 use std::sync::Wait;
 use std::test::Fail;
 
@@ -26,10 +27,10 @@ fn read_behind<R: Wait, M: Machine>(
     group: ResourceSet,
     keep: bool,
 ) -> (Place<M>, Place<M>, Option<(u64, u32)>)
-    requires writer { Rests group lock.now writer }
-    requires reader { Rests group lock.now reader }
-    ensures writer { Rests group lock.now result.0 }
-    ensures reader { Rests group lock.now result.1 }
+    requires writer { Rests (all_with group) lock.now writer }
+    requires reader { Rests (all_with group) lock.now reader }
+    ensures writer { Rests (all_with group) lock.now result.0 }
+    ensures reader { Rests (all_with group) lock.now result.1 }
 {
     let mut guard = match to_write(rt, alloc, lock, writer, group, group) {
         Ok(guard) => guard,
@@ -60,8 +61,8 @@ fn spent<R: Wait, M: Machine>(
     guard: WriteGuard<'_, Ledger, M>,
     keep: bool,
 ) -> (Place<M>, bool)
-    requires { IsAt group lock.now guard.seat }
-    ensures { Rests group lock.now result.0 }
+    requires { IsAt (all_with group) lock.now guard.seat }
+    ensures { Rests (all_with group) lock.now result.0 }
 {
     if keep {
         ended(rt, alloc, lock, group, guard, true)
@@ -70,17 +71,32 @@ fn spent<R: Wait, M: Machine>(
     }
 }
 
+// Two readings behind a writer, which the first time ends its section with its acts, and the second time without them.
+fn read_twice<R: Wait + Abort, M: Machine>(
+    rt: &R,
+    alloc: Global,
+    lock: &Runtime<M>,
+    group: ResourceSet,
+    seats: &mut Vec<Place<M>>,
+) -> Result<(Option<(u64, u32)>, Option<(u64, u32)>), AllocError>
+    requires { All (Rests (all_with group) lock.now) seats.old.items }
+    ensures { OnOk result (All (Rests (all_with group) lock.now) seats.new.items) }
+{
+    let one = pop_seat(rt, lock, group, seats);
+    let zero = pop_seat(rt, lock, group, seats);
+    let (zero, one, kept) = read_behind(rt, alloc, lock, zero, one, group, true);
+    let (zero, one, dropped) = read_behind(rt, alloc, lock, zero, one, group, false);
+    push_seat(lock, group, seats, zero)?;
+    push_seat(lock, group, seats, one)?;
+    Ok((kept, dropped))
+}
+
 #[test]
 fn readers_wait_for_a_writer(rt: HostRuntime) -> Result<(), Fail> {
     let alloc = rt.alloc();
     let a = ResourceSet::one(0);
     let (lock, mut seats) = opened(alloc, a, 2)?;
-    let one = pop_seat(&rt, &lock, a, &mut seats);
-    let zero = pop_seat(&rt, &lock, a, &mut seats);
-    let (zero, one, kept) = read_behind(&rt, alloc, &lock, zero, one, a, true);
-    let (zero, one, dropped) = read_behind(&rt, alloc, &lock, zero, one, a, false);
-    push_seat(&lock, a, &mut seats, zero)?;
-    push_seat(&lock, a, &mut seats, one)?;
+    let (kept, dropped) = read_twice(&rt, alloc, &lock, a, &mut seats)?;
     let left = closed(&rt, lock, a, seats, 2);
     let ledger = ledger_of(&rt, &left, 0);
     let read = Some((OPENING + 5, 0));

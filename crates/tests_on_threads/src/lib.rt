@@ -8,14 +8,18 @@ mod guards;
 #[cfg(test)]
 mod looks;
 #[cfg(test)]
-mod roll;
+mod nesting;
 #[cfg(test)]
-mod runs;
+mod refusals;
+#[cfg(test)]
+mod rising;
+#[cfg(test)]
+mod roll;
 #[cfg(test)]
 mod sections;
 #[cfg(test)]
 mod signing;
 #[cfg(test)]
-mod tasks;
+mod states;
 #[cfg(test)]
-mod tools;
+mod tasks;

@@ -1,7 +1,8 @@
 //! Waits to read, look by look.
 ghost use Rattle.std.specs.Prelude.{◌≡◌, IfOk, IfErr};
 ghost use Rattle.rguard.specs.declared.kind.GuardKind.TheVariants as kinds;
-ghost use Rattle.tests_on_threads.specs.Resting.{IsAt, Rests, HoldsAll, WaitsToRead};
+ghost use Rattle.rguard.specs.Resting.{IsAt, Rests, HoldsAll, all_with};
+ghost use Rattle.tests_on_threads.specs.Waiting.{WaitsToRead};
 
 use crate::sections::{Place, Runtime};
 use rclaim::{Kind, Request};
@@ -20,10 +21,10 @@ pub fn begin_to_read<'a, R: Wait, M: Machine>(
     seat: Place<M>,
     group: ResourceSet,
 ) -> Result<Pending<'a, Ledger, M>, Place<M>>
-    requires { Rests group lock.now seat }
-    ensures at { IfOk result (λ wait. IsAt group lock.entry.now wait.seat × (wait.kind ≡ kinds.Read)) }
+    requires { Rests (all_with group) lock.now seat }
+    ensures at { IfOk result (λ wait. IsAt (all_with group) lock.entry.now wait.seat × (wait.kind ≡ kinds.Read)) }
     ensures waits { IfOk result (λ wait. WaitsToRead group wait.seat) }
-    ensures err { IfErr result (λ s. Rests group lock.entry.now s) }
+    ensures err { IfErr result (λ s. Rests (all_with group) lock.entry.now s) }
 {
     let _ = group.len();
     let Ok(request) = Request::new(Kind::Read, group, group, group, 1, 0) else {
@@ -42,11 +43,11 @@ pub fn look_to_read<'a, R: Wait, M: Machine>(
     wait: Pending<'a, Ledger, M>,
     group: ResourceSet,
 ) -> Result<ReadGuard<'a, Ledger, M>, Pending<'a, Ledger, M>>
-    requires at { IsAt group lock.now wait.seat × (wait.kind ≡ kinds.Read) }
+    requires at { IsAt (all_with group) lock.now wait.seat × (wait.kind ≡ kinds.Read) }
     requires waits { WaitsToRead group wait.seat }
-    ensures at { IfOk result (λ guard. IsAt group lock.now guard.seat) }
+    ensures at { IfOk result (λ guard. IsAt (all_with group) lock.now guard.seat) }
     ensures reads { IfOk result (λ guard. HoldsAll group guard.seat) }
-    ensures still { IfErr result (λ next. IsAt group lock.now next.seat × (next.kind ≡ kinds.Read)) }
+    ensures still { IfErr result (λ next. IsAt (all_with group) lock.now next.seat × (next.kind ≡ kinds.Read)) }
     ensures waits { IfErr result (λ next. WaitsToRead group next.seat) }
 {
     let _ = lock;
@@ -68,9 +69,9 @@ pub fn wait_to_read<'a, R: Wait, M: Machine>(
     wait: Pending<'a, Ledger, M>,
     group: ResourceSet,
 ) -> (ReadGuard<'a, Ledger, M>, u32)
-    requires at { IsAt group lock.now wait.seat × (wait.kind ≡ kinds.Read) }
+    requires at { IsAt (all_with group) lock.now wait.seat × (wait.kind ≡ kinds.Read) }
     requires waits { WaitsToRead group wait.seat }
-    ensures at { IsAt group lock.now result.0.seat }
+    ensures at { IsAt (all_with group) lock.now result.0.seat }
     ensures reads { HoldsAll group result.0.seat }
 {
     let mut waiting = wait;

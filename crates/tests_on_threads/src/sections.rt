@@ -2,7 +2,7 @@
 ghost use Rattle.std.specs.Prelude.{◌≡◌, ℕ, ◌<◌, ◌≤◌, ◌≢◌, All, IsTrue, IfOk, OnOk, IfErr, length, [], ◌∷◌};
 ghost use Rattle.std.specs.FinSet.{empty, contains};
 ghost use Rattle.rset.specs.declared.TheConstants.{SEATS, RESOURCES};
-ghost use Rattle.tests_on_threads.specs.Resting.{IsAt, Rests, HoldsAll, MayWriteAll};
+ghost use Rattle.rguard.specs.Resting.{IsAt, Rests, HoldsAll, MayWriteAll, all_with};
 
 use rclaim::{Kind, Request};
 use rexpand::Groups;
@@ -15,8 +15,10 @@ use std::alloc::{AllocError, Global};
 use std::process::Abort;
 use std::sync::Wait;
 
+/// A runtime over ledgers.
 pub type Runtime<M> = Rnlp<Ledger, M>;
 
+/// A seat at it.
 pub type Place<M> = Seat<Ledger, M>;
 
 /// What is in each ledger at first.
@@ -31,7 +33,7 @@ pub fn opened(
     requires some { 0 < seats }
     requires few { seats ≤ SEATS }
     ensures count { IfOk result (λ r. r.0.passes ≡ seats) }
-    ensures seats { IfOk result (λ r. All (Rests group r.0) r.1.items) }
+    ensures seats { IfOk result (λ r. All (Rests (all_with group) r.0) r.1.items) }
 {
     let groups = declared(alloc, group)?;
     let machine = Plain::new(alloc, groups, seats, seats)?;
@@ -47,9 +49,9 @@ pub fn pop_seat<M: Machine>(
     group: ResourceSet,
     seats: &mut Vec<Place<M>>,
 ) -> Place<M>
-    requires { All (Rests group lock.now) seats.old.items }
-    ensures seat { Rests group lock.now result }
-    ensures rest { All (Rests group lock.now) seats.new.items }
+    requires { All (Rests (all_with group) lock.now) seats.old.items }
+    ensures seat { Rests (all_with group) lock.now result }
+    ensures rest { All (Rests (all_with group) lock.now) seats.new.items }
 {
     let _ = lock;
     let _ = group.len();
@@ -63,9 +65,9 @@ pub fn push_seat<M: Machine>(
     seats: &mut Vec<Place<M>>,
     seat: Place<M>,
 ) -> Result<(), AllocError>
-    requires seat { Rests group lock.now seat }
-    requires rest { All (Rests group lock.now) seats.old.items }
-    ensures { OnOk result (All (Rests group lock.now) seats.new.items) }
+    requires seat { Rests (all_with group) lock.now seat }
+    requires rest { All (Rests (all_with group) lock.now) seats.old.items }
+    ensures { OnOk result (All (Rests (all_with group) lock.now) seats.new.items) }
 {
     let _ = lock;
     let _ = group.len();
@@ -105,10 +107,10 @@ pub fn to_write<'a, R: Wait, M: Machine>(
     group: ResourceSet,
     set: ResourceSet,
 ) -> Result<WriteGuard<'a, Ledger, M>, Place<M>>
-    requires { Rests group lock.now seat }
-    ensures at { IfOk result (λ guard. IsAt group lock.entry.now guard.seat × (guard.seat.number ≡ seat.number)) }
+    requires { Rests (all_with group) lock.now seat }
+    ensures at { IfOk result (λ guard. IsAt (all_with group) lock.entry.now guard.seat × (guard.seat.number ≡ seat.number)) }
     ensures writes { IfOk result (λ guard. MayWriteAll set guard.seat) }
-    ensures err { IfErr result (λ s. Rests group lock.entry.now s × (s.number ≡ seat.number)) }
+    ensures err { IfErr result (λ s. Rests (all_with group) lock.entry.now s × (s.number ≡ seat.number)) }
 {
     let _ = set.len();
     let Ok(request) = Request::new(Kind::Write, set, set, set, 1, 0) else {
@@ -132,10 +134,10 @@ pub fn to_read<'a, R: Wait, M: Machine>(
     seat: Place<M>,
     group: ResourceSet,
 ) -> Result<ReadGuard<'a, Ledger, M>, Place<M>>
-    requires { Rests group lock.now seat }
-    ensures at { IfOk result (λ guard. IsAt group lock.entry.now guard.seat × (guard.seat.number ≡ seat.number)) }
+    requires { Rests (all_with group) lock.now seat }
+    ensures at { IfOk result (λ guard. IsAt (all_with group) lock.entry.now guard.seat × (guard.seat.number ≡ seat.number)) }
     ensures reads { IfOk result (λ guard. HoldsAll group guard.seat) }
-    ensures err { IfErr result (λ s. Rests group lock.entry.now s × (s.number ≡ seat.number)) }
+    ensures err { IfErr result (λ s. Rests (all_with group) lock.entry.now s × (s.number ≡ seat.number)) }
 {
     let _ = group.len();
     let Ok(request) = Request::new(Kind::Read, group, group, group, 1, 0) else {
@@ -190,8 +192,8 @@ pub fn ended<R: Wait, M: Machine>(
     guard: WriteGuard<'_, Ledger, M>,
     done: bool,
 ) -> (Place<M>, bool)
-    requires { IsAt group lock.now guard.seat }
-    ensures { Rests group lock.now result.0 × (result.0.number ≡ guard.entry.seat.number) }
+    requires { IsAt (all_with group) lock.now guard.seat }
+    ensures { Rests (all_with group) lock.now result.0 × (result.0.number ≡ guard.entry.seat.number) }
 {
     let _ = lock;
     let _ = group.len();
@@ -211,8 +213,8 @@ pub fn write_in<R: Wait, M: Machine>(
     set: ResourceSet,
     edit: Edit,
 ) -> (Place<M>, bool)
-    requires { Rests group lock.now seat }
-    ensures { Rests group lock.now result.0 × (result.0.number ≡ seat.number) }
+    requires { Rests (all_with group) lock.now seat }
+    ensures { Rests (all_with group) lock.now result.0 × (result.0.number ≡ seat.number) }
 {
     match to_write(rt, alloc, lock, seat, group, set) {
         Ok(mut guard) => {
@@ -231,8 +233,8 @@ pub fn read_in<R: Wait, M: Machine>(
     seat: Place<M>,
     group: ResourceSet,
 ) -> (Place<M>, Option<u64>)
-    requires { Rests group lock.now seat }
-    ensures { Rests group lock.now result.0 × (result.0.number ≡ seat.number) }
+    requires { Rests (all_with group) lock.now seat }
+    ensures { Rests (all_with group) lock.now result.0 × (result.0.number ≡ seat.number) }
 {
     match to_read(rt, alloc, lock, seat, group) {
         Ok(guard) => {
@@ -253,8 +255,8 @@ pub fn move_in<R: Wait, M: Machine>(
     from: ResourceSet,
     to: ResourceSet,
 ) -> (Place<M>, bool)
-    requires { Rests group lock.now seat }
-    ensures { Rests group lock.now result.0 × (result.0.number ≡ seat.number) }
+    requires { Rests (all_with group) lock.now seat }
+    ensures { Rests (all_with group) lock.now result.0 × (result.0.number ≡ seat.number) }
 {
     match to_write(rt, alloc, lock, seat, group, from.union(to)) {
         Ok(mut guard) => {

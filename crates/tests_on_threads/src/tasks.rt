@@ -1,7 +1,7 @@
 //! Tasks on running threads, each with a seat of its own.
 ghost use Rattle.std.specs.Prelude.{◌≡◌, ◌<◌, ◌≤◌, length, IsSomeAnd, All, IfOk};
 ghost use Rattle.rset.specs.declared.TheConstants.{SEATS, RESOURCES};
-ghost use Rattle.tests_on_threads.specs.Resting.{Rests};
+ghost use Rattle.rguard.specs.Resting.{Rests, all_with};
 
 use crate::closing::{Left, closed, ledger_of};
 use crate::sections::{OPENING, Place, Runtime, move_in, opened, read_in, write_in};
@@ -48,8 +48,8 @@ fn section<R: Wait, M: Machine>(
     group: ResourceSet,
     work: Work,
 ) -> (Place<M>, bool)
-    requires { Rests group lock.now seat }
-    ensures { Rests group lock.now result.0 }
+    requires { Rests (all_with group) lock.now seat }
+    ensures { Rests (all_with group) lock.now result.0 }
 {
     match work {
         Work::Add(set) => write_in(rt, alloc, lock, seat, group, set, Edit::Add(1)),
@@ -70,8 +70,8 @@ fn run_job<R: Wait, M: Machine>(
     sections: u32,
     job: &mut Task<M>,
 )
-    requires { IsSomeAnd job.old.seat (Rests group lock.now) }
-    ensures { IsSomeAnd job.new.seat (Rests group lock.now) }
+    requires { IsSomeAnd job.old.seat (Rests (all_with group) lock.now) }
+    ensures { IsSomeAnd job.new.seat (Rests (all_with group) lock.now) }
 {
     let mut seat = job.seat.take().unwrap();
     let mut right = true;
@@ -93,8 +93,8 @@ fn run_all<R: Threads + Wait + Sync, M: Machine>(
     sections: u32,
     mut jobs: Vec<Task<M>>,
 ) -> Vec<Task<M>>
-    requires { All (λ j. IsSomeAnd j.seat (Rests group lock.now)) jobs.items }
-    ensures { All (λ j. IsSomeAnd j.seat (Rests group lock.now)) result.items }
+    requires { All (λ j. IsSomeAnd j.seat (Rests (all_with group) lock.now)) jobs.items }
+    ensures { All (λ j. IsSomeAnd j.seat (Rests (all_with group) lock.now)) result.items }
 {
     if jobs.is_empty() {
         return jobs;
@@ -105,8 +105,8 @@ fn run_all<R: Threads + Wait + Sync, M: Machine>(
         jobs.as_mut_slice(),
         threads,
         &|_task: usize, job: &mut Task<M>|
-            requires { IsSomeAnd job.now.seat (Rests group lock.now) }
-            ensures { IsSomeAnd job.exit.now.seat (Rests group lock.entry.now) }
+            requires { IsSomeAnd job.now.seat (Rests (all_with group) lock.now) }
+            ensures { IsSomeAnd job.exit.now.seat (Rests (all_with group) lock.entry.now) }
         { run_job(rt, alloc, lock, group, sections, job) },
     );
     jobs
@@ -121,8 +121,8 @@ fn jobs_for(
     seats: Vec<Place<Plain>>,
     works: &[Work],
 ) -> Result<Vec<Task<Plain>>, AllocError>
-    requires { All (Rests group lock.now) seats.items }
-    ensures { IfOk result (λ v. All (λ j. IsSomeAnd j.seat (Rests group lock.now)) v.items) }
+    requires { All (Rests (all_with group) lock.now) seats.items }
+    ensures { IfOk result (λ v. All (λ j. IsSomeAnd j.seat (Rests (all_with group) lock.now)) v.items) }
 {
     let _ = lock;
     let _ = group.len();
@@ -147,8 +147,8 @@ fn seats_of(
     group: ResourceSet,
     jobs: Vec<Task<Plain>>,
 ) -> Result<Vec<Place<Plain>>, AllocError>
-    requires { All (λ j. IsSomeAnd j.seat (Rests group lock.now)) jobs.items }
-    ensures { IfOk result (λ v. All (Rests group lock.now) v.items) }
+    requires { All (λ j. IsSomeAnd j.seat (Rests (all_with group) lock.now)) jobs.items }
+    ensures { IfOk result (λ v. All (Rests (all_with group) lock.now) v.items) }
 {
     let _ = lock;
     let _ = group.len();

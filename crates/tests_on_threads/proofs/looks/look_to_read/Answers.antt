@@ -1,6 +1,6 @@
 use Rattle.rvalue.specs.declared.ledger.Ledger.{Ledger}
 use Rattle.rvalue.specs.Ledgers.{value_after, is_taken}
-use Rattle.tests_on_threads.proofs.Resting.{reads_looked}
+use Rattle.tests_on_threads.proofs.Waiting.{reads_looked}
 use Rattle.tests_on_threads.proofs.looks.look_to_read.Goals as goal
 
 pub returns-in-Ready-Read-clause-reads : goal.returns-in-Ready-Read-clause-reads

@@ -5,7 +5,7 @@ use Rattle.rguard.specs.Guards.{GuardFields, HoldingToWrite}
 use Rattle.rguard.specs.Seats.{SeatOf}
 use Rattle.rvalue.specs.declared.ledger.Ledger.{Ledger}
 use Rattle.rvalue.specs.declared.ledger.Edit.{Edit}
-use Rattle.tests_on_threads.proofs.Resting.{each_rising}
+use Rattle.rguard.proofs.Resting.{each_rising}
 use Rattle.tests_on_threads.proofs.sections.edit_each.Goals as goal
 
 pub loop-l-init : goal.loop-l-init

@@ -3,8 +3,8 @@ use Rattle.rguard.specs.Seats.{SeatOf}
 use Rattle.rvalue.specs.declared.ledger.Ledger.{Ledger}
 use Rattle.rvalue.specs.declared.ledger.Edit.{Edit}
 use Rattle.rset.specs.Sets.{Set}
-use Rattle.tests_on_threads.specs.Resting.{MayWriteAll}
-use Rattle.tests_on_threads.proofs.Resting.{write_left, write_right}
+use Rattle.rguard.specs.Resting.{MayWriteAll}
+use Rattle.rguard.proofs.Resting.{write_left, write_right}
 use Rattle.tests_on_threads.proofs.sections.move_in.Goals as goal
 
 pub edit_each-taken-requires-after_bounds : goal.edit_each-taken-requires-after_bounds

@@ -2,7 +2,7 @@ use Rattle.std.proofs.Common.{sym, subst, ◌∙◌}
 use Rattle.std.specs.List.{AllByRecursion}
 use Rattle.rset.specs.Sets.{Set, rising}
 use Rattle.rguard.specs.Guards.{Holding}
-use Rattle.tests_on_threads.proofs.Resting.{each_rising}
+use Rattle.rguard.proofs.Resting.{each_rising}
 use Rattle.tests_on_threads.proofs.sections.sum_of.Goals as goal
 
 pub loop-l-init : goal.loop-l-init

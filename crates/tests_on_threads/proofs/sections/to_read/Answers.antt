@@ -6,12 +6,13 @@ use Rattle.rguard.proofs.Having.{is_plain}
 use Rattle.rguard.proofs.Held.{reads_acquired}
 use Rattle.rvalue.specs.declared.ledger.Ledger.{Ledger}
 use Rattle.rvalue.specs.Ledgers.{value_after, is_taken}
-use Rattle.tests_on_threads.proofs.Resting.{suits_to_read}
+use Rattle.rguard.specs.Resting.{all_with}
+use Rattle.rguard.proofs.Resting.{suits_to_read, is_inside_itself}
 use Rattle.tests_on_threads.proofs.sections.to_read.Goals as goal
 
 pub acquire-requires-clause-suits : goal.acquire-requires-clause-suits
 acquire-requires-clause-suits g c κs within =
-    subst (λ (r : RequestFields). SuitsSeat c.args.seat r) (sym c.in-Ok.ensures.made) (suits_to_read c.args.group c.args.lock.now c.args.seat c.requires.at c.len.ensures.within (λ none. absurd (cc (c.in-Ok.ensures.empty.1 none))))
+    subst (λ (r : RequestFields). SuitsSeat c.args.seat r) (sym c.in-Ok.ensures.made) (suits_to_read (all_with c.args.group) c.args.lock.now c.args.seat c.args.group c.requires.at c.len.ensures.within (λ none. absurd (cc (c.in-Ok.ensures.empty.1 none))) (is_inside_itself c.args.group))
 
 pub returns-in-Ok-Read-clause-reads : goal.returns-in-Ok-Read-clause-reads
 returns-in-Ok-Read-clause-reads g c = λ l there.

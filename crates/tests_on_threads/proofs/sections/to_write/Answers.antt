@@ -6,12 +6,13 @@ use Rattle.rguard.proofs.Having.{is_plain}
 use Rattle.rguard.proofs.Held.{writes_acquired}
 use Rattle.rvalue.specs.declared.ledger.Ledger.{Ledger}
 use Rattle.rvalue.specs.Ledgers.{value_after, is_taken}
-use Rattle.tests_on_threads.proofs.Resting.{suits_to_write}
+use Rattle.rguard.specs.Resting.{all_with}
+use Rattle.rguard.proofs.Resting.{suits_to_write}
 use Rattle.tests_on_threads.proofs.sections.to_write.Goals as goal
 
 pub acquire-requires-clause-suits : goal.acquire-requires-clause-suits
 acquire-requires-clause-suits g c κs within =
-    subst (λ (r : RequestFields). SuitsSeat c.args.seat r) (sym c.in-Ok.ensures.made) (suits_to_write c.args.group c.args.lock.now c.args.seat c.args.set c.requires.at c.len.ensures.within)
+    subst (λ (r : RequestFields). SuitsSeat c.args.seat r) (sym c.in-Ok.ensures.made) (suits_to_write (all_with c.args.group) c.args.lock.now c.args.seat c.args.set c.requires.at c.len.ensures.within)
 
 pub returns-in-Ok-Write-clause-writes : goal.returns-in-Ok-Write-clause-writes
 returns-in-Ok-Write-clause-writes g c = λ l there.

@@ -1,7 +1,0 @@
-use Rattle.rrun.proofs.Stepping.{has_begun}
-use Rattle.rrun.proofs.acts.begin.Goals as goal
-
-pub returns-clause-ok : goal.returns-clause-ok
-returns-clause-ok g c =
-    has_begun c.held-guard.result c.held-guard.ensures.lawful c.held-guard.ensures.own c.args.rnlp.now c.args.seat c.args.request c.in_ok-pending.pending c.requires.of.began c.requires.of.opening
-    c.in_ok-pending.ensures.ok c.held-guard.ensures.awaited (c.requires.fits c.requires.of.began c.requires.of.opening).within.0

@@ -1,0 +1,6 @@
+pub mod Standing
+pub mod Doing
+pub mod Stepping
+pub mod Running
+pub mod Whole
+pub mod Parts

@@ -1,0 +1,15 @@
+//! The sections of a script's task, carried out one after another with the seat of the task.
+#![tactic(auto)]
+
+mod acts;
+mod desk;
+mod guards;
+mod pace;
+mod section;
+mod steps;
+mod task;
+mod waiting;
+
+pub use pace::{NoPace, Pace};
+pub use section::run_section;
+pub use task::run_task;

@@ -1,0 +1,9 @@
+//! Tests of runs of scripts on threads, through public functions alone. The crate has nothing else.
+#![tactic(auto)]
+
+#[cfg(test)]
+mod runs;
+#[cfg(test)]
+mod stopping;
+#[cfg(test)]
+mod tools;

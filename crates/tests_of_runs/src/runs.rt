@@ -1,0 +1,174 @@
+//! Runs of scripts, in which every kind of request meets others.
+ghost use Rattle.std.specs.Prelude.{IfSome};
+ghost use Rattle.rforms.specs.Written.{MayBeWritten};
+ghost use Rattle.rreport.specs.Report.{told_by, IsOverResources, HasItsLedgers};
+
+use io_ends::MemSink;
+use rreport::{Report, write_report};
+use rrun::{NoPace, run_script};
+use rscript::read_script;
+use rtrace::{Counting, count_events};
+use rvalue::Ledger;
+use std::alloc::{AllocError, Global};
+use std::sync::Wait;
+use std::test::Fail;
+use std::thread::Threads;
+
+// A task with the same section so many times.
+fn push_task(text: &mut Vec<u8>, name: &str, section: &str, times: u32) -> Result<(), AllocError> {
+    text.extend_from_slice(b"task,")?;
+    text.extend_from_slice(name.as_bytes())?;
+    text.extend_from_slice(b"\n")?;
+    for _ in 0..times {
+        text.extend_from_slice(section.as_bytes())?;
+    }
+    Ok(())
+}
+
+/// The report of a script's run, each task of which has a thread; None where the text is no script, or there was no memory.
+pub fn report_of<R: Threads + Wait + Sync>(rt: &R, alloc: Global, text: &[u8]) -> Option<Report>
+    ensures may { IfSome result (λ r. MayBeWritten (told_by r)) }
+    ensures over { IfSome result IsOverResources }
+    ensures ledgers { IfSome result HasItsLedgers }
+{
+    let Ok(script) = read_script(alloc, text) else {
+        return None;
+    };
+    match run_script(rt, alloc, &script, &NoPace) {
+        Ok((report, _)) => Some(report),
+        Err(_) => None,
+    }
+}
+
+/// Whether the report has so many entries, and each resource so many edits, each of which added 1; and whether its history makes
+/// just these ledgers.
+pub fn has_added(report: &Report, entries: usize, edits: &[u64]) -> bool {
+    if report.history.len() != entries || report.ledgers.len() != edits.len() {
+        return false;
+    }
+    for (l, ledger) in (0..report.resources.len()).zip(report.ledgers.iter()) {
+        let made = report.history.value_of(Ledger::new(), l);
+        let due = edits.get(usize::from(l));
+        if *ledger != made || due != Some(&ledger.edits) || ledger.balance != ledger.edits {
+            return false;
+        }
+    }
+    true
+}
+
+#[test]
+fn upgrades_rise_among_readers(rt: HostRuntime) -> Result<(), Fail> {
+    let alloc = rt.alloc();
+    let mut text = Vec::new(alloc);
+    text.extend_from_slice(b"rnlp,1\nresource,a\n")?;
+    let rising = "upgrade,a,1,1\nshow,a\nrise\nadd,a,1\nshow,a\nfinish\n";
+    push_task(&mut text, "u1", rising, 50)?;
+    push_task(&mut text, "u2", rising, 50)?;
+    let reading = "read,a,1\nshow,a\nfinish\n";
+    push_task(&mut text, "r1", reading, 50)?;
+    push_task(&mut text, "r2", reading, 50)?;
+    text.extend_from_slice(b"end\n")?;
+    let report = report_of(&rt, alloc, text.as_slice());
+    assert!(rt; report.is_some_and(|report| has_added(&report, 500, &[100])));
+    Ok(())
+}
+
+#[test]
+fn nested_requests_ask_while_others_hold(rt: HostRuntime) -> Result<(), Fail> {
+    let alloc = rt.alloc();
+    let mut text = Vec::new(alloc);
+    text.extend_from_slice(b"rnlp,1\nresource,a\nresource,b\n")?;
+    let from_a = "nested,-,a+b,a,1\nadd,a,1\nask,b\nadd,b,1\nshow,a\nfinish\n";
+    push_task(&mut text, "n1", from_a, 50)?;
+    let from_b = "nested,-,a+b,b,1\nadd,b,1\nask,a\nadd,a,1\nshow,b\nfinish\n";
+    push_task(&mut text, "n2", from_b, 50)?;
+    push_task(&mut text, "w", "write,b,1\nadd,b,1\nfinish\n", 50)?;
+    push_task(&mut text, "m", "mixed,b,a,1\nshow,b\nadd,a,1\nfinish\n", 50)?;
+    text.extend_from_slice(b"end\n")?;
+    let report = report_of(&rt, alloc, text.as_slice());
+    assert!(rt; report.is_some_and(|report| has_added(&report, 500, &[150, 150])));
+    Ok(())
+}
+
+// The number of its events that an audit finds in the report, once it is written; None where it accepts it not, or there was no memory.
+fn audited(alloc: Global, report: &Report) -> Option<u64>
+    requires may { MayBeWritten (told_by report.now) }
+    requires over { IsOverResources report.now }
+    requires ledgers { HasItsLedgers report.now }
+{
+    let Ok(mut sink) = MemSink::new(alloc, 1 << 20, Vec::new(alloc)) else {
+        return None;
+    };
+    if write_report(alloc, report, &mut sink).is_err() {
+        return None;
+    }
+    count_events(alloc, sink.written(), &mut Counting::new(alloc)).ok()
+}
+
+// A letter and a number of two digits.
+fn push_name(text: &mut Vec<u8>, letter: u8, number: u8) -> Result<(), AllocError> {
+    text.extend_from_slice(&[letter, b'0' + number / 10 % 10, b'0' + number % 10])
+}
+
+// A line of these pieces, each but the last with the name of a resource behind it.
+fn push_line(text: &mut Vec<u8>, pieces: &[(&str, u8)], end: &str) -> Result<(), AllocError> {
+    for (piece, number) in pieces {
+        text.extend_from_slice(piece.as_bytes())?;
+        push_name(text, b'r', *number)?;
+    }
+    text.extend_from_slice(end.as_bytes())
+}
+
+// Sections of every kind over three resources, with one edit of the first, three of the second and one of the third.
+fn push_sections(text: &mut Vec<u8>, a: u8, b: u8, c: u8) -> Result<(), AllocError> {
+    push_line(text, &[("read,", a)], ",1\n")?;
+    push_line(text, &[("show,", a)], "\nfinish\n")?;
+    push_line(text, &[("upgrade,", a)], ",1,1\n")?;
+    push_line(text, &[("show,", a), ("\nrise\nadd,", a)], ",1\nfinish\n")?;
+    push_line(text, &[("write,", b), ("+", c)], ",1\n")?;
+    push_line(text, &[("add,", b)], ",1\nfinish\n")?;
+    push_line(text, &[("mixed,", a), (",", b)], ",1\n")?;
+    push_line(text, &[("show,", a), ("\nadd,", b)], ",1\nfinish\n")?;
+    push_line(
+        text,
+        &[("nested,", a), (",", b), ("+", c), (",", b)],
+        ",1\n",
+    )?;
+    push_line(
+        text,
+        &[("add,", b), (",1\nask,", c), ("\nadd,", c)],
+        ",1\nfinish\n",
+    )
+}
+
+// A script of 64 tasks over as many resources in a ring, each with 50 sections.
+fn ring(alloc: Global) -> Result<Vec<u8>, AllocError> {
+    let mut text = Vec::new(alloc);
+    text.extend_from_slice(b"rnlp,1\n")?;
+    for l in 0..64 {
+        push_line(&mut text, &[("resource,", l)], "\n")?;
+    }
+    for k in 0..64 {
+        push_line(&mut text, &[("task,", k)], "\n")?;
+        for _ in 0..10 {
+            push_sections(&mut text, k, (k + 1) % 64, (k + 2) % 64)?;
+        }
+    }
+    text.extend_from_slice(b"end\n")?;
+    Ok(text)
+}
+
+#[test]
+fn an_audit_accepts_the_run_of_a_ring(rt: HostRuntime) -> Result<(), Fail> {
+    let alloc = rt.alloc();
+    let text = ring(alloc)?;
+    let report = report_of(&rt, alloc, text.as_slice());
+    let right = match &report {
+        Some(report) => {
+            audited(alloc, report) == Some(7680) && has_added(report, 7680, &[50; 64])
+        }
+        None => false,
+    };
+    assert!(rt; right);
+    Ok(())
+}
