@@ -1,10 +1,12 @@
 -- The longest of claims: over a choice of tests, and over lists of numbers.
-use Rattle.std.proofs.Common.{◌≡◌, ℕ, Bool, true, false, ◌||◌, cond, max, List, [], ◌∷◌, fold, Option, Some, None, is_some, unwrap_or, refl, sym, ap, ◌∙◌, inl, inr, arith}
+use Rattle.std.proofs.Common.{◌≡◌, ◌+◌, ℕ, Bool, true, false, ◌||◌, cond, max, List, [], ◌∷◌, fold, Option, Some, None, is_some, unwrap_or, refl, sym, ap, ◌∙◌, inl, inr, arith}
 use Rattle.std.specs.List.{list_any}
 use Rattle.rmodel.specs.WellFormed.{Among}
 use Rattle.rbound.specs.Needs.{Needed}
-use Rattle.rbound.specs.Bounds.{greatest}
-use Rattle.rbound.specs.Longest.{longer, longest, longest_of}
+use Rattle.rclaim.specs.declared.claim.Claim.{Claim}
+use Rattle.rset.specs.Sets.{Set}
+use Rattle.rbound.specs.Bounds.{greatest, one_if, may_keep, may_delay, may_bar, read_bound, ask_bound}
+use Rattle.rbound.specs.Longest.{longer, longest, longest_of, one_of_each}
 
 pub longer_none : (a : Option ℕ) → longer a None ≡ a
 longer_none None = refl
@@ -88,3 +90,29 @@ longest_greatest p (n ∷ ns) = at (p n) (longest p ns) (longest_greatest p ns)
     at true None h = let same : n.len ≡ max n.len 0 = omega arith in same ∙ ap (max n.len) h
     at true (Some a) h = ap (max n.len) h
     at false o h = h
+
+-- ---- as they are found
+
+longest_from : (p : Needed → Bool) (ns : List Needed) (most : Option ℕ) → fold (λ most n. cond (p n) (longer most (Some n.len)) most) most ns ≡ longer most (longest p ns)
+longest_from p [] most = sym (longer_none most)
+longest_from p (n ∷ ns) most = at (p n) (longest_from p ns)
+  where
+    at : (b : Bool) → ((m : Option ℕ) → fold (λ most n. cond (p n) (longer most (Some n.len)) most) m ns ≡ longer m (longest p ns))
+        → fold (λ most n. cond (p n) (longer most (Some n.len)) most) (cond b (longer most (Some n.len)) most) ns ≡ longer most (cond b (longer (Some n.len) (longest p ns)) (longest p ns))
+    at true rest = rest (longer most (Some n.len)) ∙ longer_assoc most (Some n.len) (longest p ns)
+    at false rest = rest most
+
+-- taken one after another, from the first claim on
+pub found_longest : (p : Needed → Bool) (ns : List Needed) → fold (λ most n. cond (p n) (longer most (Some n.len)) most) None ns ≡ longest p ns
+found_longest p ns = longest_from p ns None
+
+-- *The bound of a read wait*, by the longest write and the longest claim that delays it
+pub read_is : (ns : List Needed) (r : Claim) → one_of_each (longest (may_keep r) ns) (longest (may_delay ns r) ns) ≡ read_bound ns r
+read_is ns r =
+    (λ i. record { reads = one_if (longest_is (may_delay ns r) ns i); writes = one_if (longest_is (may_keep r) ns i); units = longest_greatest (may_keep r) ns i + longest_greatest (may_delay ns r) ns i })
+
+-- *The bound of an ask*, by the longest claim that bars it
+pub ask_is : (ns : List Needed) (c : Claim) (part : Set) → one_of_each None (longest (may_bar c part) ns) ≡ ask_bound ns c part
+ask_is ns c part =
+    let alone : 0 + unwrap_or (longest (may_bar c part) ns) 0 ≡ unwrap_or (longest (may_bar c part) ns) 0 = omega arith in
+    (λ i. record { reads = one_if (longest_is (may_bar c part) ns i); writes = 0; units = (alone ∙ longest_greatest (may_bar c part) ns) i })

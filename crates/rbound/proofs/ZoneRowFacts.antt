@@ -1,37 +1,25 @@
 -- The rows of a zone tell the numbers that bound a write wait there.
-use Rattle.std.proofs.Common.{◌≡◌, ◌≢◌, ◌<◌, ◌+◌, ◌*◌, ◌-◌, ◌&&◌, ◌||◌, ◌==◌, ◌⊎◌, not, min, ℕ, Bool, true, false, cond, List, [], ◌∷◌, ◌++◌, map, fold, None, is_some, unwrap_or, refl, sym, ap, ◌∙◌, inl, inr, arith}
-use Rattle.std.specs.List.{list_any, list_all, count_by, range_with_len}
-use Rattle.std.specs.FinSet.{empty}
+use Rattle.std.proofs.Common.{◌≡◌, ◌≢◌, ◌<◌, ◌+◌, ◌*◌, ◌-◌, ◌&&◌, ◌||◌, ◌==◌, ◌⊎◌, not, min, ℕ, Bool, true, false, cond, List, [], ◌∷◌, map, fold, Option, None, is_some, unwrap_or, refl, sym, ap, ◌∙◌, inl, inr, arith}
+use Rattle.std.specs.List.{list_any, list_all, count_by, range_with_len, AllByRecursion}
 use Rattle.std.proofs.lemmas.Bool.{eq-eqb, eqb-true, and_parts, and_from, or_left, or_right}
 use Rattle.std.proofs.lemmas.Bool.Decides.{eqb_tells}
-use Rattle.std.proofs.lemmas.List.{map-append}
-use Rattle.std.proofs.lemmas.List.FromFn.{map-range_with_len_more, get_or-map-range_with_len}
-use Rattle.rset.specs.Sets.{Set, meets, all_below}
-use Rattle.rset.specs.declared.TheConstants.{RESOURCES}
-use Rattle.rset.proofs.SetLemmas.{same_test, meets_from, meets_empty_left, within_at}
+use Rattle.std.proofs.lemmas.List.FromFn.{get_or-map-range_with_len}
+use Rattle.rset.specs.Sets.{Set}
+use Rattle.rset.proofs.SetLemmas.{same_test}
 use Rattle.rmodel.specs.Claims.{is_upgrade}
 use Rattle.rmodel.specs.WellFormed.{Among}
 use Rattle.rmodel.proofs.ListFacts.{any_among, passing, all_among, all_at, contrary}
 use Rattle.rmodel.proofs.settling.OneSettlement.{both_cases}
 use Rattle.rbound.specs.Needs.{Needed}
-use Rattle.rbound.specs.Zones.{is_there, IsClosed}
-use Rattle.rbound.specs.Bounds.{Numbers, numbers_in, largest, tasks_of, reads_there, writes_there, upgrades_there, is_writer, writers, writes_of, all_may_write, none_beside, reads_of, write_length, units_of}
+use Rattle.rbound.specs.Zones.{is_there}
+use Rattle.rbound.specs.Bounds.{largest, tasks_of, reads_there, writes_there, upgrades_there, is_writer, writers, writes_of, all_may_write, none_beside, reads_of, write_length, units_of}
 use Rattle.rbound.specs.Longest.{longest}
-use Rattle.rbound.specs.Tables.{key_of, longest_in}
-use Rattle.rbound.specs.AllTables.{AreTables}
-use Rattle.rbound.specs.declared.bound.Bound.{Bound}
-use Rattle.rbound.specs.declared.table.Key.TheVariants.{ReadPlaces, WritePlaces, UpgradePlaces}
-use Rattle.rbound.specs.declared.tables.Tables.{Tables}
+use Rattle.rbound.specs.ZoneRows.{is_sort, is_there_of, beside, row_at, other_at, writers_in, writes_in, all_may_write_in, none_beside_in, reads_in, write_length_in, numbers_of, AreRows}
 use Rattle.rbound.specs.declared.rows.ZoneRows.{ZoneRows}
-use Rattle.rbound.specs.Columns.{beside, row_at}
-use Rattle.rbound.specs.ZoneRows.{other_at, writers_in, writes_in, all_may_write_in, none_beside_in, reads_in, write_length_in, numbers_of, AreRows}
+use Rattle.rbound.specs.declared.rows.Sort.{Sort}
+use Rattle.rbound.specs.declared.rows.Sort.TheVariants.{Writes, Reads, Upgrades}
 use Rattle.rbound.proofs.LongestClaims.{longest_same, longest_never, longest_is, longest_greatest}
-use Rattle.rbound.proofs.ColumnFacts.{beside_same, in_range, map_same}
-use Rattle.rbound.proofs.QueryFacts.{in_table, others, range_has}
-use Rattle.rbound.proofs.HoldFacts.{AreSound, any_same}
-
-pub bounds_more : (f : ℕ → Numbers) (old new : List Bound) (n : ℕ) (b : Bound) → map numbers_in old ≡ map f (range_with_len 0 n) → new ≡ old ++ b ∷ [] → numbers_in b ≡ f n → map numbers_in new ≡ map f (range_with_len 0 (n + 1))
-bounds_more f old new n b were is of = ap (map numbers_in) is ∙ map-append numbers_in old (b ∷ []) ∙ (λ i. were i ++ of i ∷ []) ∙ sym (map-range_with_len_more f 0 n n (omega arith))
+use Rattle.rbound.proofs.BesideFacts.{in_range, map_same, range_has, beside_all}
 
 count_from : (p q : ℕ → Bool) (xs : List ℕ) (a : ℕ) → ((x : ℕ) → Among x xs → p x ≡ q x) → fold (λ a x. a + cond (p x) 1 0) a xs ≡ fold (λ a x. a + cond (q x) 1 0) a xs
 count_from p q [] a same = refl
@@ -48,34 +36,18 @@ and_apart : (x y z : Bool) → (x && (y && z)) ≡ ((x && y) && z)
 and_apart true y z = refl
 and_apart false y z = refl
 
-module _ (ns : List Needed) (tasks : ℕ) (are : AreSound ns tasks) (tables : Tables) (ts : AreTables ns tasks tables) (zone : Set) (closed : IsClosed ns zone) (below : all_below RESOURCES zone ≡ true) (rows : ZoneRows) (rs : AreRows tables tasks zone rows) where
-  there_is : (n : Needed) → Among n ns → meets n.claim.places zone ≡ is_there zone n
-  there_is n there = same_test _ _ (closed n there) (λ h. let p = are.place n there in meets_from n.claim.places zone p.0 p.1 (within_at n.claim.places zone h p.0 p.1))
-
-  key_there : (b : Bool) (n : Needed) → Among n ns → meets (cond b n.claim.places empty) zone ≡ (b && is_there zone n)
-  key_there true n there = there_is n there
-  key_there false n there = meets_empty_left zone
-
-  key_not_there : (b : Bool) (n : Needed) → Among n ns → meets (cond b empty n.claim.places) zone ≡ (not b && is_there zone n)
-  key_not_there true n there = meets_empty_left zone
-  key_not_there false n there = there_is n there
-
-  writes_at : (t : ℕ) → t < tasks → row_at rows.writes.items t ≡ longest (λ n. (n.claim.seat == t) && meets (key_of WritePlaces n) zone) ns
-  writes_at t some =
-      ap (λ row. row_at row t) rs.writes
-      ∙ get_or-map-range_with_len (λ t. longest_in tables.write_places.items t zone) 0 tasks t t None some (omega arith)
-      ∙ in_table ns tasks (key_of WritePlaces) tables.write_places.items t zone ts.write_places some below
+module _ (ns : List Needed) (tasks : ℕ) (seats : AllByRecursion (λ (n : Needed). n.claim.seat < tasks) ns) (zone : Set) (rows : ZoneRows) (rs : AreRows ns tasks zone rows) where
+  at_row : (row : List (Option ℕ)) (sort : Sort) → row ≡ map (λ t. longest (is_there_of sort zone t) ns) (range_with_len 0 tasks) → (t : ℕ) → t < tasks → row_at row t ≡ longest (is_there_of sort zone t) ns
+  at_row row sort is t some = ap (λ r. row_at r t) is ∙ get_or-map-range_with_len (λ t. longest (is_there_of sort zone t) ns) 0 tasks t t None some (omega arith)
 
   -- ---- writers
 
   pub other_is : (task other : ℕ) → other < tasks → other_at rows.writes.items task other ≡ longest (λ n. writes_there task zone n && (n.claim.seat == other)) ns
   other_is task other some =
-      ap (cond (other == task) None) (writes_at other some)
-      ∙ unless (other == task) (λ n. (n.claim.seat == other) && meets (key_of WritePlaces n) zone)
-      ∙ longest_same (λ n. not (other == task) && ((n.claim.seat == other) && meets (key_of WritePlaces n) zone)) (λ n. writes_there task zone n && (n.claim.seat == other)) ns
-      (λ n there.
-      ap (λ b. not (other == task) && ((n.claim.seat == other) && b)) (key_there n.claim.write_half n there)
-      ∙ seated n.claim.seat n.claim.write_half (is_there zone n) (eqb_tells n.claim.seat other))
+      ap (cond (other == task) None) (at_row rows.writes.items Writes rs.writes other some)
+      ∙ unless (other == task) (is_there_of Writes zone other)
+      ∙ longest_same (λ n. not (other == task) && is_there_of Writes zone other n) (λ n. writes_there task zone n && (n.claim.seat == other)) ns
+      (λ n there. seated n.claim.seat n.claim.write_half (is_there zone n) (eqb_tells n.claim.seat other))
     where
       unless : (b : Bool) (p : Needed → Bool) → cond b None (longest p ns) ≡ longest (λ n. not b && p n) ns
       unless true p = sym (longest_never ns)
@@ -117,31 +89,26 @@ module _ (ns : List Needed) (tasks : ℕ) (are : AreSound ns tasks) (tables : Ta
 
   -- ---- readers
 
-  reads_at : (t : ℕ) → t < tasks → row_at rows.reads.items t ≡ longest_in tables.read_places.items t zone
-  reads_at t some = ap (λ row. row_at row t) rs.reads ∙ get_or-map-range_with_len (λ t. longest_in tables.read_places.items t zone) 0 tasks t t None some (omega arith)
+  beside_row : (row : List (Option ℕ)) (sort : Sort) → row ≡ map (λ t. longest (is_there_of sort zone t) ns) (range_with_len 0 tasks) → (task : ℕ)
+      → beside tasks task (row_at row) ≡ longest (λ n. not (n.claim.seat == task) && (is_sort sort n && is_there zone n)) ns
+  beside_row row sort is task = beside_all ns tasks seats task (row_at row) (λ n. is_sort sort n && is_there zone n) (at_row row sort is)
 
   reader_is : (task : ℕ) → beside tasks task (row_at rows.reads.items) ≡ longest (reads_there task zone) ns
   reader_is task =
-      beside_same tasks task (row_at rows.reads.items) (λ t. longest_in tables.read_places.items t zone) reads_at
-      ∙ others ns tasks are.seats task (key_of ReadPlaces) tables.read_places.items zone ts.read_places below
-      ∙ longest_same (λ n. not (n.claim.seat == task) && meets (key_of ReadPlaces n) zone) (reads_there task zone) ns
-      (λ n there. ap (λ b. not (n.claim.seat == task) && b) (key_not_there n.claim.write_half n there) ∙ and_apart (not (n.claim.seat == task)) (not n.claim.write_half) (is_there zone n))
+      beside_row rows.reads.items Reads rs.reads task
+      ∙ longest_same (λ n. not (n.claim.seat == task) && (not n.claim.write_half && is_there zone n)) (reads_there task zone) ns
+      (λ n there. and_apart (not (n.claim.seat == task)) (not n.claim.write_half) (is_there zone n))
 
   upgrade_is : (task : ℕ) → beside tasks task (row_at rows.upgrades.items) ≡ longest (upgrades_there task zone) ns
   upgrade_is task =
-      beside_same tasks task (row_at rows.upgrades.items) (λ t. longest_in tables.upgrade_places.items t zone)
-      (λ t some. ap (λ row. row_at row t) rs.upgrades ∙ get_or-map-range_with_len (λ t. longest_in tables.upgrade_places.items t zone) 0 tasks t t None some (omega arith))
-      ∙ others ns tasks are.seats task (key_of UpgradePlaces) tables.upgrade_places.items zone ts.upgrade_places below
-      ∙ longest_same (λ n. not (n.claim.seat == task) && meets (key_of UpgradePlaces n) zone) (upgrades_there task zone) ns
-      (λ n there. ap (λ b. not (n.claim.seat == task) && b) (key_there (is_upgrade n.claim.kind) n there) ∙ and_apart (not (n.claim.seat == task)) (is_upgrade n.claim.kind) (is_there zone n))
+      beside_row rows.upgrades.items Upgrades rs.upgrades task
+      ∙ longest_same (λ n. not (n.claim.seat == task) && (is_upgrade n.claim.kind && is_there zone n)) (upgrades_there task zone) ns
+      (λ n there. and_apart (not (n.claim.seat == task)) (is_upgrade n.claim.kind) (is_there zone n))
 
   -- a task has a read claim there
   reads_some : (t : ℕ) → t < tasks → is_some (row_at rows.reads.items t) ≡ list_any (λ n. (n.claim.seat == t) && (not n.claim.write_half && is_there zone n)) ns
   reads_some t some =
-      ap is_some (reads_at t some ∙ in_table ns tasks (key_of ReadPlaces) tables.read_places.items t zone ts.read_places some below)
-      ∙ longest_is (λ n. (n.claim.seat == t) && meets (key_of ReadPlaces n) zone) ns
-      ∙ any_same (λ n. (n.claim.seat == t) && meets (key_of ReadPlaces n) zone) (λ n. (n.claim.seat == t) && (not n.claim.write_half && is_there zone n)) ns
-      (λ n there. ap (λ b. (n.claim.seat == t) && b) (key_not_there n.claim.write_half n there))
+      ap is_some (at_row rows.reads.items Reads rs.reads t some) ∙ longest_is (is_there_of Reads zone t) ns
 
   -- another task writes there
   writes_some : (task t : ℕ) → (t == task) ≡ false → is_some (row_at rows.writes.items t) ≡ is_some (other_at rows.writes.items task t)
@@ -151,7 +118,7 @@ module _ (ns : List Needed) (tasks : ℕ) (are : AreSound ns tasks) (tables : Ta
   may_write task = same_test _ _
       (λ h. all_passing (λ n. not (reads_there task zone n) || is_writer ns task zone n.claim.seat) ns
       (λ n there.
-      let some = all_at (λ (m : Needed). m.claim.seat < tasks) ns n are.seats there in
+      let some = all_at (λ (m : Needed). m.claim.seat < tasks) ns n seats there in
       let t = n.claim.seat in
       let test = all_among (λ t. ((t == task) || not (is_some (row_at rows.reads.items t))) || is_some (row_at rows.writes.items t)) (tasks_of tasks) t h (range_has 0 tasks t (omega arith) (omega (arith, some))) in
       both_cases (reads_there task zone n)

@@ -1,12 +1,13 @@
 -- How needs are kept: for each task a vector of its requests, each with a vector of its asks. No contract of another crate speaks of it.
-use Rattle.std.specs.Prelude.{◌≡◌, ◌≤◌, ℕ, List, map, length, IsTrue}
+use Rattle.std.specs.Prelude.{◌≡◌, ◌≤◌, ℕ, List, map, length, slice_get, Option, Some, IsTrue, if◌then◌else◌}
 use Rattle.std.specs.List.{AllByRecursion}
 use Rattle.std.specs.declared.vec.Vec.{Vec}
 use Rattle.std.specs.declared.alloc.Global.{Global}
-use Rattle.rset.specs.Sets.{all_below}
+use Rattle.rset.specs.Sets.{Set, all_below}
 use Rattle.rclaim.specs.Requests.{RequestFields, IsNormal}
 use Rattle.rexpand.specs.Groups.{ReadGroups}
-use Rattle.rbound.specs.Needs.{Needed, Needs, RequestNeeds, all_needed}
+use Rattle.rbound.specs.Needs.{Needed, Needs, RequestNeeds, needed_of, all_needed}
+use Rattle.rbound.specs.TaskNeeds.{requests_of}
 use Rattle.rbound.specs.declared.requests.RequestAsks.{RequestAsks}
 
 -- a request with its asks
@@ -32,3 +33,11 @@ pub record AreKept (groups : ReadGroups) (tasks : List (Vec RequestAsks Global))
   pub few : length tasks ≤ 255
   pub fine : AreFine groups.q (tasks_in tasks)
   pub claims : needed ≡ all_needed groups.groups (tasks_in tasks)
+
+-- these are the claims of a request of a task
+abbrev pub AreClaimsOf : List Set → Needs → ℕ → ℕ → List Needed → Type 0
+AreClaimsOf groups needs task number claims = (x : RequestNeeds) → slice_get (requests_of needs task) number ≡ Some x → claims ≡ needed_of groups task number x.request
+
+-- the write claim among those of a request: the first of them, or the second
+abbrev pub write_among : Needed → Option Needed → Option Needed
+write_among first second = if first.claim.write_half then Some first else second

@@ -3,14 +3,8 @@ pub mod Zones
 pub mod Sweeps
 pub mod Bounds
 pub mod Longest
-pub mod Tables
-pub mod AllTables
-pub mod Columns
 pub mod Rows
+pub mod ZoneRows
 pub mod TaskNeeds
 pub mod Kept
-pub mod Asked
-pub mod PlaceZones
-pub mod ZoneRows
-pub mod Answers
-pub mod BoundedNeeds
+pub mod Sound

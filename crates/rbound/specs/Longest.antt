@@ -1,8 +1,7 @@
 -- The longest of some claims, where there are any.
-use Rattle.std.specs.Prelude.{ℕ, Bool, max, List, [], ◌∷◌, Option, Some, None, if◌then◌else◌}
-use Rattle.std.specs.FinSet.{empty, union}
-use Rattle.rset.specs.Sets.{Set}
+use Rattle.std.specs.Prelude.{ℕ, ◌+◌, Bool, max, List, [], ◌∷◌, Option, Some, None, is_some, unwrap_or, if◌then◌else◌}
 use Rattle.rbound.specs.Needs.{Needed}
+use Rattle.rbound.specs.Bounds.{Numbers, one_if}
 
 -- the greater of two lengths, of which either may be missing
 abbrev pub longer : Option ℕ → Option ℕ → Option ℕ
@@ -20,7 +19,6 @@ abbrev pub longest_of : (ℕ → Option ℕ) → List ℕ → Option ℕ
 longest_of f [] = None
 longest_of f (x ∷ xs) = longer (f x) (longest_of f xs)
 
--- the resources of the claims that pass a test, each with those that it is asked for
-abbrev pub together : (Needed → Set) → (Needed → Bool) → List Needed → Set
-together key p [] = empty
-together key p (n ∷ ns) = if p n then union (key n) (together key p ns) else together key p ns
+-- what waits for one write and for one read at most, the longest of which have these lengths
+abbrev pub one_of_each : Option ℕ → Option ℕ → Numbers
+one_of_each write read = record { reads = one_if (is_some read); writes = one_if (is_some write); units = unwrap_or write 0 + unwrap_or read 0 }

@@ -1,12 +1,43 @@
 -- The numbers that bound the wait of a write claim, by what the claims of each task come to in a zone.
-use Rattle.std.specs.Prelude.{◌≡◌, ℕ, ◌+◌, ◌-◌, ◌*◌, ◌==◌, Bool, not, ◌&&◌, ◌||◌, min, List, map, Option, None, is_some, unwrap_or, if◌then◌else◌}
+use Rattle.std.specs.Prelude.{◌≡◌, ℕ, ◌+◌, ◌-◌, ◌*◌, ◌==◌, Bool, not, ◌&&◌, ◌||◌, min, List, map, fold, slice_index_or, Option, None, is_some, unwrap_or, if◌then◌else◌}
 use Rattle.std.specs.List.{list_all, count_by, range_with_len}
 use Rattle.rset.specs.Sets.{Set}
+use Rattle.rmodel.specs.Claims.{is_upgrade}
+use Rattle.rbound.specs.Needs.{Needed}
+use Rattle.rbound.specs.Zones.{is_there}
 use Rattle.rbound.specs.Bounds.{Numbers, largest, tasks_of}
-use Rattle.rbound.specs.Tables.{longest_in}
-use Rattle.rbound.specs.Columns.{beside, row_at}
-use Rattle.rbound.specs.declared.tables.Tables.{Tables}
+use Rattle.rbound.specs.Longest.{longer, longest}
 use Rattle.rbound.specs.declared.rows.ZoneRows.{ZoneRows}
+use Rattle.rbound.specs.declared.rows.Sort.{Sort}
+use Rattle.rbound.specs.declared.rows.Sort.TheVariants.{Writes, Reads, Upgrades}
+
+-- ---- the rows
+
+-- a claim is of this sort
+abbrev pub is_sort : Sort → Needed → Bool
+is_sort Writes n = n.claim.write_half
+is_sort Reads n = not n.claim.write_half
+is_sort Upgrades n = is_upgrade n.claim.kind
+
+-- it is a claim of the task of this sort, in the zone
+abbrev pub is_there_of : Sort → Set → ℕ → Needed → Bool
+is_there_of sort zone task n = (n.claim.seat == task) && (is_sort sort n && is_there zone n)
+
+-- the rows of a zone: of each task, the longest of its claims there
+pub record AreRows (ns : List Needed) (tasks : ℕ) (zone : Set) (rows : ZoneRows) : Type 0 where
+  pub writes : rows.writes.items ≡ map (λ t. longest (is_there_of Writes zone t) ns) (range_with_len 0 tasks)
+  pub reads : rows.reads.items ≡ map (λ t. longest (is_there_of Reads zone t) ns) (range_with_len 0 tasks)
+  pub upgrades : rows.upgrades.items ≡ map (λ t. longest (is_there_of Upgrades zone t) ns) (range_with_len 0 tasks)
+
+-- the length that a row has of a task
+abbrev pub row_at : List (Option ℕ) → ℕ → Option ℕ
+row_at row t = slice_index_or row t None
+
+-- the longest of all tasks but one
+abbrev pub beside : ℕ → ℕ → (ℕ → Option ℕ) → Option ℕ
+beside tasks me f = fold (λ most t. if t == me then most else longer most (f t)) None (range_with_len 0 tasks)
+
+-- ---- the numbers
 
 -- the longest of a row's tasks but one
 abbrev pub other_at : List (Option ℕ) → ℕ → ℕ → Option ℕ
@@ -45,9 +76,3 @@ numbers_of rows tasks cap task = record {
   writes = writes_in rows.writes.items tasks cap task;
   units = largest (writes_in rows.writes.items tasks cap task) (map (write_length_in rows.writes.items task) (tasks_of tasks)) + reads_in rows tasks cap task * unwrap_or (beside tasks task (row_at rows.reads.items)) 0;
 }
-
--- the rows of a zone
-pub record AreRows (tables : Tables) (tasks : ℕ) (zone : Set) (rows : ZoneRows) : Type 0 where
-  pub writes : rows.writes.items ≡ map (λ t. longest_in tables.write_places.items t zone) (range_with_len 0 tasks)
-  pub reads : rows.reads.items ≡ map (λ t. longest_in tables.read_places.items t zone) (range_with_len 0 tasks)
-  pub upgrades : rows.upgrades.items ≡ map (λ t. longest_in tables.upgrade_places.items t zone) (range_with_len 0 tasks)

@@ -1,28 +1,23 @@
 //! What tasks need, the zones of these needs, and the bounds of their waits.
 #![tactic(auto)]
 
-mod answers;
-mod asked;
 mod bound;
-mod bounds;
-mod columns;
 pub mod laws;
 mod longest;
 mod made;
 mod needed;
 mod needs;
+mod read_wait;
 mod requests;
 mod row;
 mod rows;
-mod table;
-mod tables;
 mod which;
 mod write_wait;
 mod zone;
-mod zones;
 
-pub use bound::Bound;
-pub use bounds::Bounds;
+pub use bound::{Bound, write_bound};
+pub use longest::longer;
 pub use needed::Needed;
 pub use needs::{Needs, bound_of, zone_of};
+pub use rows::ZoneRows;
 pub use which::Which;

@@ -3,7 +3,7 @@ ghost use Rattle.std.specs.Prelude.{◌≡◌};
 ghost use Rattle.rbound.specs.Longest.{longer};
 
 /// The greater of two lengths, of which either may be missing.
-pub(crate) fn longer(a: Option<u32>, b: Option<u32>) -> Option<u32>
+pub fn longer(a: Option<u32>, b: Option<u32>) -> Option<u32>
     ensures { result ≡ longer a b }
 {
     match (a, b) {

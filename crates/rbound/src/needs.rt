@@ -1,14 +1,14 @@
 // What tasks need, with the claims that this makes kept beside it.
-ghost use Rattle.std.specs.Prelude.{◌≡◌, ◌≤◌, ◌<◌, ◌==◌, ◌&&◌, ◌∷◌, Some, IfOk, OnOk, OnErr, IsTrue, true, length, option_to_list};
+ghost use Rattle.std.specs.Prelude.{◌≡◌, ◌≤◌, ◌<◌, ◌==◌, ◌&&◌, ◌∷◌, Some, IfOk, OnOk, OnErr, IsTrue, true, length, slice_get, option_to_list};
 ghost use Rattle.rset.specs.Sets.{all_below};
+ghost use Rattle.rbound.specs.Needs.{first_need, write_need};
 ghost use Rattle.rbound.specs.Zones.{zone_of};
 ghost use Rattle.rbound.specs.Bounds.{numbers_in};
-ghost use Rattle.rbound.specs.Kept.{tasks_in, AreFine};
-ghost use Rattle.rbound.specs.Answers.{AreClaimsOf, AreAnswers};
+ghost use Rattle.rbound.specs.Kept.{tasks_in, AreFine, AreClaimsOf, write_among};
+ghost use Rattle.rbound.specs.Sound.{AreSound};
 ghost use Rattle.rbound.specs.TaskNeeds.{none_needed, with_request, with_ask, requests_of, last_is_nested, kind_at, asks_at, needed_in, bound_of};
 
-use crate::answers::{Answers, answers_of, asked_answer, first_answer, rise_answer, write_among};
-use crate::bound::no_wait;
+use crate::bound::{asked_bound, first_bound, rise_bound};
 use crate::made::{insert_needed, needed_of, place_behind};
 use crate::requests::{
     RequestAsks, asks_at, kind_at, len_of, no_requests, push_ask, push_request, request_at,
@@ -122,6 +122,50 @@ impl Needs {
     {
         asks_at(&self.tasks, usize::from(task), k).len()
     }
+
+    /// The number of tasks.
+    pub fn tasks(&self) -> u8
+        ensures { result ≡ length self.now.tasks }
+    {
+        self.tasks.len() as u8
+    }
+
+    /// All claims that are needed, task by task.
+    pub fn claims(&self) -> &[Needed]
+        ensures value { result.now ≡ needed_in self.now }
+        ensures sound { AreSound (needed_in self.now) (length self.now.tasks) }
+    {
+        &self.claims
+    }
+
+    /// The claim of the request number `k` of a task that waits first: of an upgrade its read half, of others their one claim.
+    pub fn first_claim(&self, task: u8, k: usize) -> Needed
+        requires task { task < length self.now.tasks }
+        requires number { k < length (requests_of self.now.tasks task) }
+        ensures { first_need (needed_in self.now) task k ≡ Some result }
+    {
+        let (first, _) = claims_at(&self.groups, &self.tasks, task, k);
+        first
+    }
+
+    /// The write claim of the request number `k` of a task, where it has one.
+    pub fn write_claim(&self, task: u8, k: usize) -> Option<Needed>
+        requires task { task < length self.now.tasks }
+        requires number { k < length (requests_of self.now.tasks task) }
+        ensures { result ≡ write_need (needed_in self.now) task k }
+    {
+        let (first, second) = claims_at(&self.groups, &self.tasks, task, k);
+        write_among(first, second)
+    }
+
+    /// The set for which the request number `k` of a task asks in its ask number `i`, where there is such an ask.
+    pub fn ask(&self, task: u8, k: usize, i: usize) -> Option<ResourceSet>
+        requires task { task < length self.now.tasks }
+        requires number { k < length (requests_of self.now.tasks task) }
+        ensures { result ≡ slice_get (asks_at self.now.tasks task k) i }
+    {
+        asks_at(&self.tasks, usize::from(task), k).get(i).copied()
+    }
 }
 
 /// The zone of some places: they and the places of all claims that are needed, joined as long as two of them share one. It
@@ -148,40 +192,19 @@ fn claims_at(
     needed_of(groups, task, number as u64, &request)
 }
 
-/// The bound of a wait, by what answers all bounds of these needs.
-pub(crate) fn answered(answers: &Answers, needs: &Needs, task: u8, k: usize, which: Which) -> Bound
-    requires task { task < length needs.now.tasks }
-    requires number { k < length (requests_of needs.now.tasks task) }
-    requires answers { AreAnswers (needed_in needs.now) (length needs.now.tasks) answers.now }
-    ensures { numbers_in result ≡ bound_of needs.now answers.now.cap task k which }
+/// The write claim among those of a request.
+fn write_among(first: Needed, second: Option<Needed>) -> Option<Needed>
+    ensures { result ≡ write_among first second }
 {
-    let (first, second) = claims_at(&needs.groups, &needs.tasks, task, k);
-    match which {
-        Which::First => first_answer(answers, &first.claim),
-        Which::Rise => rise_answer(answers, write_among(first, second)),
-        Which::Ask(i) => {
-            let asks = asks_at(&needs.tasks, usize::from(task), k);
-            if i < asks.len() {
-                asked_answer(answers, write_among(first, second), asks[i])
-            } else {
-                no_wait()
-            }
-        }
+    if first.claim.write_half {
+        Some(first)
+    } else {
+        second
     }
 }
 
-/// What answers all bounds of these needs.
-pub(crate) fn answers_to(alloc: Global, needs: &Needs, cap: u8) -> Result<Answers, AllocError>
-    requires { 1 ≤ cap }
-    ensures answers { IfOk result (AreAnswers (needed_in needs.now) (length needs.now.tasks)) }
-    ensures cap { IfOk result (λ answers. answers.cap ≡ cap) }
-{
-    let tasks = needs.tasks.len() as u8;
-    answers_of(alloc, &needs.claims, tasks, cap)
-}
-
 /// The bound of a wait of the request number `k` of a task, both counted from 0, where no more than `cap` requests may be
-/// incomplete. All needs are looked through for it: [`Bounds`](crate::Bounds) does so once for all bounds.
+/// incomplete. All claims are looked through for it.
 ///
 /// # Errors
 ///
@@ -199,6 +222,14 @@ pub fn bound_of(
     requires number { k < length (requests_of needs.now.tasks task) }
     ensures { IfOk result (λ b. numbers_in b ≡ bound_of needs.now cap task k which) }
 {
-    let answers = answers_to(alloc, needs, cap)?;
-    Ok(answered(&answers, needs, task, k, which))
+    let tasks = needs.tasks();
+    let claims = needs.claims();
+    match which {
+        Which::First => first_bound(alloc, claims, tasks, cap, &needs.first_claim(task, k).claim),
+        Which::Rise => rise_bound(alloc, claims, tasks, cap, needs.write_claim(task, k)),
+        Which::Ask(i) => match needs.ask(task, k, i) {
+            None => Ok(Bound::no_wait()),
+            Some(part) => Ok(asked_bound(claims, needs.write_claim(task, k), part)),
+        },
+    }
 }

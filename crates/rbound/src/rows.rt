@@ -1,56 +1,118 @@
 // What the claims of each task come to in a zone.
-ghost use Rattle.std.specs.Prelude.{◌≡◌, IfOk, IsTrue, map};
+ghost use Rattle.std.specs.Prelude.{◌≡◌, IfOk, None, fold, map, if◌then◌else◌};
 ghost use Rattle.std.specs.List.{range_with_len};
-ghost use Rattle.rset.specs.Sets.{all_below};
-ghost use Rattle.rset.specs.declared.TheConstants.{RESOURCES};
-ghost use Rattle.rbound.specs.Tables.{longest_in};
-ghost use Rattle.rbound.specs.ZoneRows.{AreRows};
+ghost use Rattle.rbound.specs.Longest.{longer, longest};
+ghost use Rattle.rbound.specs.ZoneRows.{is_sort, is_there_of, beside, row_at, AreRows};
 
-use crate::table::{Cell, longest_in};
-use crate::tables::Tables;
+use crate::Needed;
+use crate::longest::longer;
+use rmodel::is_upgrade;
 use rset::ResourceSet;
 use std::alloc::{AllocError, Global};
 
 /// Of each task, the longest of its claims in a zone.
 #[derive(Drop)]
-pub(crate) struct ZoneRows {
+pub struct ZoneRows {
     /// Of its write claims.
-    pub(crate) writes: Vec<Option<u32>>,
+    pub writes: Vec<Option<u32>>,
     /// Of its read claims.
-    pub(crate) reads: Vec<Option<u32>>,
+    pub reads: Vec<Option<u32>>,
     /// Of the claims of its upgrades.
-    pub(crate) upgrades: Vec<Option<u32>>,
+    pub upgrades: Vec<Option<u32>>,
 }
 
-/// Of each task, the longest of its claims that a table has in a zone.
+/// Which claims are meant.
+#[derive(Clone, Copy)]
+pub(crate) enum Sort {
+    /// Write claims.
+    Writes,
+    /// Read claims.
+    Reads,
+    /// Those of upgrades.
+    Upgrades,
+}
+
+/// Whether a claim is of this sort.
+fn is_sort(sort: Sort, need: &Needed) -> bool
+    ensures { result ≡ is_sort sort need.now }
+{
+    match sort {
+        Sort::Writes => need.claim.write_half,
+        Sort::Reads => !need.claim.write_half,
+        Sort::Upgrades => is_upgrade(need.claim.kind),
+    }
+}
+
+/// Whether it is a claim of the task of this sort, in the zone.
+fn is_there_of(sort: Sort, zone: ResourceSet, task: u8, need: &Needed) -> bool
+    ensures { result ≡ is_there_of sort zone task need.now }
+{
+    need.claim.seat == task && (is_sort(sort, need) && need.claim.places.within(zone))
+}
+
+/// The longest of these.
+fn longest_there(needs: &[Needed], sort: Sort, zone: ResourceSet, task: u8) -> Option<u32>
+    ensures { result ≡ longest (is_there_of sort zone task) needs.now }
+{
+    needs.iter().fold(None, |most, n| {
+        if is_there_of(sort, zone, task, n) {
+            longer(most, Some(n.len))
+        } else {
+            most
+        }
+    })
+}
+
+/// The longest of these of each task.
 fn row_of(
     alloc: Global,
-    cells: &[Cell],
-    tasks: u8,
+    needs: &[Needed],
+    sort: Sort,
     zone: ResourceSet,
+    tasks: u8,
 ) -> Result<Vec<Option<u32>>, AllocError>
-    ensures { IfOk result (λ row. row.items ≡ map (λ t. longest_in cells.now t zone) (range_with_len 0 tasks)) }
+    ensures { IfOk result (λ row. row.items ≡ map (λ t. longest (is_there_of sort zone t) needs.now) (range_with_len 0 tasks)) }
 {
     (0..tasks)
-        .map(|task| longest_in(cells, task, zone))
+        .map(|task| longest_there(needs, sort, zone, task))
         .collect(alloc)
 }
 
 /// The rows of a zone.
 pub(crate) fn rows_of(
     alloc: Global,
-    tables: &Tables,
+    needs: &[Needed],
     tasks: u8,
     zone: ResourceSet,
 ) -> Result<ZoneRows, AllocError>
-    ensures rows { IfOk result (AreRows tables.now tasks zone) }
-    ensures below { IsTrue (all_below RESOURCES zone) }
+    ensures { IfOk result (AreRows needs.now tasks zone) }
 {
-    // A look at the zone tells the proof that its places are below the number of resources.
-    let _ = zone.len();
     Ok(ZoneRows {
-        writes: row_of(alloc, &tables.write_places, tasks, zone)?,
-        reads: row_of(alloc, &tables.read_places, tasks, zone)?,
-        upgrades: row_of(alloc, &tables.upgrade_places, tasks, zone)?,
+        writes: row_of(alloc, needs, Sort::Writes, zone, tasks)?,
+        reads: row_of(alloc, needs, Sort::Reads, zone, tasks)?,
+        upgrades: row_of(alloc, needs, Sort::Upgrades, zone, tasks)?,
+    })
+}
+
+/// The length that a row has of a task.
+pub(crate) fn row_at(row: &[Option<u32>], task: u8) -> Option<u32>
+    ensures { result ≡ row_at row.now task }
+{
+    match row.get(usize::from(task)) {
+        Some(len) => *len,
+        None => None,
+    }
+}
+
+/// The longest of a row but for that of one task.
+pub(crate) fn row_beside(row: &[Option<u32>], tasks: u8, me: u8) -> Option<u32>
+    ensures { result ≡ beside tasks me (row_at row.now) }
+{
+    (0..tasks).fold(None, |most, task| {
+        if task == me {
+            most
+        } else {
+            longer(most, row_at(row, task))
+        }
     })
 }

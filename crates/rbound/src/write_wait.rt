@@ -1,10 +1,8 @@
 // The numbers that bound the wait of a write claim of a task, by what the claims of each task come to in its zone.
 ghost use Rattle.std.specs.Prelude.{◌≡◌, ◌≤◌, ◌<◌, unwrap_or};
-ghost use Rattle.rbound.specs.Columns.{beside, row_at};
-ghost use Rattle.rbound.specs.ZoneRows.{other_at, writers_in, writes_in, all_may_write_in, none_beside_in, reads_in, write_length_in};
+ghost use Rattle.rbound.specs.ZoneRows.{beside, row_at, other_at, writers_in, writes_in, all_may_write_in, none_beside_in, reads_in, write_length_in};
 
-use crate::columns::{row_at, row_beside};
-use crate::rows::ZoneRows;
+use crate::rows::{ZoneRows, row_at, row_beside};
 
 /// What another task than this one has in a row.
 fn other_at(row: &[Option<u32>], task: u8, other: u8) -> Option<u32>

@@ -5,7 +5,8 @@ ghost use Rattle.rbound.specs.TaskNeeds.{requests_of};
 ghost use Rattle.rbound_text.specs.BoundText.{bounds_text, tasks_rows, task_rows, request_rows, wait_row, asks_rows};
 
 use crate::line::push_line;
-use rbound::{Bounds, Which};
+use rbound::Which;
+use rbound_table::Bounds;
 use rclaim::Kind;
 use rscript::Script;
 use rset::NameTable;

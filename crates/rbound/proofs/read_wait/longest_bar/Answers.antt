@@ -1,0 +1,14 @@
+use Rattle.std.proofs.Common.{◌∙◌, cond, Some, None, rules, tests}
+use Rattle.std.proofs.lemmas.Iterator.{YieldsList-from_slice}
+use Rattle.std.proofs.lemmas.Iterator.Consumers.{fold_from_yields_List}
+use Rattle.rbound.specs.Needs.{Needed}
+use Rattle.rbound.specs.Bounds.{may_bar}
+use Rattle.rbound.specs.Longest.{longer}
+use Rattle.rbound.proofs.LongestClaims.{found_longest}
+use Rattle.rbound.proofs.read_wait.longest_bar.Goals as goal
+
+pub returns : goal.returns
+returns c =
+    let p = may_bar c.args.claim.now c.args.part in
+    fold_from_yields_List _ (λ most (n : Needed). cond (p n) (longer most (Some n.len)) most) None c.fold.result c.fold.ensures.ran (YieldsList-from_slice c.args.needs.now cc) (λ a x b q k. search (rules, tests))
+    ∙ found_longest p c.args.needs.now

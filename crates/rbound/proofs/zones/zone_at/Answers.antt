@@ -1,7 +1,0 @@
-use Rattle.std.proofs.Common.{sym, ◌∙◌}
-use Rattle.rbound.proofs.PlaceZoneFacts.{found_zone}
-use Rattle.rbound.proofs.zones.zone_at.Goals as goal
-
-pub returns-then-has : goal.returns-then-has
-returns-then-has c =
-    found_zone c.args.needs.now c.args.zones.now c.args.l c.loop-zone.zone-index c.zone-item.result c.requires.zones c.loop-zone-test.true c.zone-item.is (sym c.has.ensures ∙ c.if-has.true)

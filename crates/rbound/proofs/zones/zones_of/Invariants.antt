@@ -1,7 +1,0 @@
-use Rattle.std.proofs.Common.{◌≡◌, map}
-use Rattle.std.specs.List.{range_with_len}
-use Rattle.rbound.specs.PlaceZones.{zone_at}
-use Rattle.rbound.proofs.zones.zones_of.Given as goal
-
-abbrev pub invariant-loop-l : goal.invariant-loop-l
-invariant-loop-l l = l.zones.items ≡ map (zone_at l.needs) (range_with_len 0 l.l)

@@ -1,0 +1,10 @@
+pub mod TwoFacts
+pub mod RowFacts
+pub mod TableFacts
+pub mod QueryFacts
+pub mod HoldFacts
+pub mod WaitFacts
+pub mod PlaceZoneFacts
+pub mod ZoneFacts
+pub mod AnswerFacts
+pub mod BoundFacts

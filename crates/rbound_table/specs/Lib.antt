@@ -1,0 +1,10 @@
+pub mod Tables
+pub mod AllTables
+pub mod Two
+pub mod Lengths
+pub mod Delays
+pub mod OtherLengths
+pub mod TableRows
+pub mod PlaceZones
+pub mod Answers
+pub mod BoundedNeeds

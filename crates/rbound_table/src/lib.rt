@@ -1,0 +1,15 @@
+//! The bounds of all waits of what tasks need, looked up in tables that are made once.
+#![tactic(auto)]
+
+mod answers;
+mod bounds;
+mod delays;
+mod lengths;
+mod other_lengths;
+mod rows;
+mod table;
+mod tables;
+mod two;
+mod zones;
+
+pub use bounds::Bounds;

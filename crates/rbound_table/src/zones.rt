@@ -1,0 +1,36 @@
+// The zones of all places.
+ghost use Rattle.std.specs.Prelude.{◌≡◌, ◌<◌, IfOk, map};
+ghost use Rattle.std.specs.List.{range_with_len};
+ghost use Rattle.rset.specs.declared.TheConstants.{RESOURCES};
+ghost use Rattle.rbound.specs.TaskNeeds.{needed_in};
+ghost use Rattle.rbound_table.specs.PlaceZones.{zone_at};
+
+use rbound::{Needs, zone_of};
+use rset::{RESOURCES, ResourceSet};
+use std::alloc::{AllocError, Global};
+
+/// The zone of a place: that of an earlier place, where it has this one.
+fn zone_at(zones: &[ResourceSet], needs: &Needs, l: u8) -> ResourceSet
+    requires within { l < RESOURCES }
+    requires zones { zones.now ≡ map (zone_at (needed_in needs.now)) (range_with_len 0 l) }
+    ensures { result ≡ zone_at (needed_in needs.now) l }
+{
+    for zone in zones {
+        if zone.has(l) {
+            return *zone;
+        }
+    }
+    zone_of(needs, ResourceSet::one(l))
+}
+
+/// The zones of all places by number.
+pub(crate) fn zones_of(alloc: Global, needs: &Needs) -> Result<Vec<ResourceSet>, AllocError>
+    ensures { IfOk result (λ zones. zones.items ≡ map (zone_at (needed_in needs.now)) (range_with_len 0 RESOURCES)) }
+{
+    let mut zones = Vec::new(alloc);
+    for l in 0..RESOURCES as u8 {
+        let zone = zone_at(&zones, needs, l);
+        zones.push(zone)?;
+    }
+    Ok(zones)
+}
