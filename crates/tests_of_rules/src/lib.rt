@@ -10,6 +10,8 @@ mod bounds;
 #[cfg(test)]
 mod claims;
 #[cfg(test)]
+mod covers;
+#[cfg(test)]
 mod drills;
 #[cfg(test)]
 mod ends;

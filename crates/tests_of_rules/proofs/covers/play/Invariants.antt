@@ -1,0 +1,5 @@
+use Rattle.tests_of_rules.specs.Stories.{IsStory}
+use Rattle.tests_of_rules.proofs.covers.play.Given as goal
+
+abbrev pub invariant-loop-turn : goal.invariant-loop-turn
+invariant-loop-turn l = IsStory l.story

@@ -1,0 +1,354 @@
+// Tests of `rcover`: covers that were worked by hand.
+ghost use Rattle.std.specs.Prelude.{OnOk, IfOk};
+ghost use Rattle.rmodel.specs.Steps.{Fits};
+ghost use Rattle.tests_of_rules.specs.Stories.{IsStory};
+
+use rbound::Which;
+use rclaim::{Event, Kind, Request};
+use rcover::{WaitEnd, plain_cover};
+use rexpand::Groups;
+use rmodel::{Machine, admit};
+use rplain::Plain;
+use rset::{RESOURCES, ResourceSet};
+use std::alloc::Global;
+use std::test::Fail;
+
+// A machine, and the events that it took.
+#[derive(Drop)]
+pub struct Story {
+    machine: Plain,
+    events: Vec<Event>,
+    groups: Groups,
+    seats: u8,
+}
+
+// What a seat does.
+#[derive(Clone, Copy)]
+enum Move {
+    // It issues a request that reads and writes so, with these lengths.
+    Issue(Kind, ResourceSet, ResourceSet, u32, u32),
+    // Its upgrade rises.
+    Rise,
+    // Its nested request asks for these.
+    Ask(ResourceSet),
+    // Its request is complete.
+    Finish,
+}
+
+// A move of a seat, and the waits that it has to end, which are two at most.
+#[derive(Clone, Copy)]
+struct Turn {
+    seat: u8,
+    makes: Move,
+    first: Option<WaitEnd>,
+    second: Option<WaitEnd>,
+}
+
+// A story of four seats with no event, in which the resources 0 and 1 are declared together, and 1 and 2.
+fn begin(alloc: Global) -> Result<Story, Fail>
+    ensures { IfOk result IsStory }
+{
+    let mut groups = Groups::new(alloc, RESOURCES as u8)?;
+    let (first, second) = (set(&[0, 1]), set(&[1, 2]));
+    let _ = (first.len(), second.len());
+    groups.declare(first)?;
+    groups.declare(second)?;
+    let machine = Plain::new(alloc, groups.copy(alloc)?, 4, 4)?;
+    Ok(Story {
+        machine,
+        events: Vec::new(alloc),
+        groups,
+        seats: 4,
+    })
+}
+
+// The set of these resources.
+fn set(members: &[u8]) -> ResourceSet {
+    let mut all = ResourceSet::empty();
+    for l in members {
+        if *l < RESOURCES as u8 {
+            all = all.with(*l);
+        }
+    }
+    all
+}
+
+// One more event.
+fn step(story: &mut Story, event: &Event) -> Result<(), Fail>
+    requires story { IsStory story.old }
+    requires fits { Fits story.old.machine.state event.now }
+    ensures { OnOk result (IsStory story.new) }
+{
+    story.machine.step(*event)?;
+    story.events.push(*event)?;
+    Ok(())
+}
+
+// A request is issued, once all conditions of a step are tested.
+fn issue(
+    story: &mut Story,
+    seat: u8,
+    kind: Kind,
+    reads: ResourceSet,
+    writes: ResourceSet,
+    lengths: (u32, u32),
+) -> Result<(), Fail>
+    requires { IsStory story.old }
+    ensures { OnOk result (IsStory story.new) }
+{
+    let (len, later) = lengths;
+    if len > 9 || later > 9 {
+        return Err(Fail::from("the length is out of range"));
+    }
+    let request = Request::new(kind, reads, writes, ResourceSet::one(0), len, later)?;
+    admit(story.machine.groups(), &request)?;
+    let _ = (request.reads().len(), request.writes().len());
+    if seat >= story.machine.seats() || story.machine.issued() >= 1 << 63 {
+        return Err(Fail::from("the seat or the stamp is out of range"));
+    }
+    step(story, &Event::Issue { seat, request })
+}
+
+// A seat makes a move.
+fn make(story: &mut Story, seat: u8, makes: Move) -> Result<(), Fail>
+    requires { IsStory story.old }
+    ensures { OnOk result (IsStory story.new) }
+{
+    if seat >= story.machine.seats() {
+        return Err(Fail::from("the seat is out of range"));
+    }
+    match makes {
+        Move::Issue(kind, reads, writes, len, later) => {
+            issue(story, seat, kind, reads, writes, (len, later))
+        }
+        Move::Rise => step(story, &Event::Rise { seat }),
+        Move::Ask(set) => ask(story, seat, set),
+        Move::Finish => step(story, &Event::Finish { seat }),
+    }
+}
+
+// A nested request asks for a part.
+fn ask(story: &mut Story, seat: u8, set: ResourceSet) -> Result<(), Fail>
+    requires { IsStory story.old }
+    ensures { OnOk result (IsStory story.new) }
+{
+    let _ = set.len();
+    if seat >= story.machine.seats() {
+        return Err(Fail::from("the seat is out of range"));
+    }
+    step(story, &Event::Ask { seat, set })
+}
+
+// Whether these are just the waits that a turn has to end.
+fn are_just(found: &[WaitEnd], turn: &Turn) -> bool {
+    match (turn.first, turn.second) {
+        (None, _) => found.is_empty(),
+        (Some(first), None) => found == [first].as_slice(),
+        (Some(first), Some(second)) => found == [first, second].as_slice(),
+    }
+}
+
+// Whether the last event ended just the waits that a turn has to end.
+fn is_right(alloc: Global, story: &Story, turn: &Turn) -> Result<bool, Fail>
+    requires { IsStory story.now }
+{
+    let found = plain_cover(
+        alloc,
+        &story.groups,
+        story.seats,
+        story.seats,
+        &story.events,
+    )?;
+    Ok(are_just(&found, turn))
+}
+
+// Plays the turns, and tells whether each ended just the waits that it has to end.
+fn play(alloc: Global, story: &mut Story, turns: &[Turn]) -> Result<bool, Fail>
+    requires { IsStory story.old }
+{
+    for turn in turns {
+        make(story, turn.seat, turn.makes)?;
+        if !is_right(alloc, story, turn)? {
+            return Ok(false);
+        }
+    }
+    Ok(true)
+}
+
+// The same from the beginning.
+fn are_right(alloc: Global, turns: &[Turn]) -> Result<bool, Fail> {
+    let mut story = begin(alloc)?;
+    play(alloc, &mut story, turns)
+}
+
+// A seat makes a move that ends no wait.
+fn makes(seat: u8, makes: Move) -> Turn {
+    Turn {
+        seat,
+        makes,
+        first: None,
+        second: None,
+    }
+}
+
+// The request of a seat is complete, which ends this wait.
+fn ends(seat: u8, end: WaitEnd) -> Turn {
+    Turn {
+        first: Some(end),
+        ..makes(seat, Move::Finish)
+    }
+}
+
+// A seat issues a request, which ends no wait.
+fn issues(seat: u8, kind: Kind, reads: &[u8], writes: &[u8], len: u32, later: u32) -> Turn {
+    makes(seat, Move::Issue(kind, set(reads), set(writes), len, later))
+}
+
+// A wait ended, of the request of this stamp of a seat.
+fn end(seat: u8, stamp: u64, which: Which, numbers: (u64, u64, u64)) -> WaitEnd {
+    let (reads, writes, units) = numbers;
+    WaitEnd {
+        seat,
+        stamp,
+        which,
+        reads,
+        writes,
+        units,
+    }
+}
+
+// Entitlement keeps out only conflicts; then one phase each.
+fn phases(alloc: Global) -> Result<bool, Fail> {
+    are_right(
+        alloc,
+        &[
+            issues(0, Kind::Read, &[0, 1], &[], 3, 0),
+            issues(1, Kind::Write, &[], &[0], 2, 0),
+            issues(2, Kind::Read, &[0], &[], 1, 0),
+            issues(3, Kind::Read, &[1], &[], 1, 0),
+            ends(0, end(1, 1, Which::First, (1, 0, 3))),
+            ends(1, end(2, 2, Which::First, (1, 1, 5))),
+        ],
+    )
+}
+
+// Places keep writes apart that do not conflict.
+fn places(alloc: Global) -> Result<bool, Fail> {
+    are_right(
+        alloc,
+        &[
+            issues(0, Kind::Write, &[], &[0], 2, 0),
+            issues(1, Kind::Write, &[], &[1], 5, 0),
+            ends(0, end(1, 1, Which::First, (0, 1, 2))),
+        ],
+    )
+}
+
+// A waiting read that touches the places of a write keeps it back.
+fn reads_between(alloc: Global) -> Result<bool, Fail> {
+    let read = end(1, 1, Which::First, (0, 1, 2));
+    let write = end(2, 2, Which::First, (0, 1, 2));
+    let both = Turn {
+        second: Some(write),
+        ..ends(0, read)
+    };
+    are_right(
+        alloc,
+        &[
+            issues(0, Kind::Write, &[], &[0], 2, 0),
+            issues(1, Kind::Read, &[0, 1], &[], 3, 0),
+            issues(2, Kind::Write, &[], &[2], 4, 0),
+            both,
+        ],
+    )
+}
+
+// A mixed section holds up a write by its reading.
+fn reading_beside(alloc: Global) -> Result<bool, Fail> {
+    are_right(
+        alloc,
+        &[
+            issues(0, Kind::Mixed, &[0], &[3], 2, 0),
+            issues(1, Kind::Read, &[0], &[], 3, 0),
+            issues(2, Kind::Write, &[], &[0], 1, 0),
+            makes(1, Move::Finish),
+            ends(0, end(2, 2, Which::First, (0, 1, 2))),
+        ],
+    )
+}
+
+// The least of a line changes while it is there.
+fn line_changes(alloc: Global) -> Result<bool, Fail> {
+    are_right(
+        alloc,
+        &[
+            issues(0, Kind::Mixed, &[0], &[1], 1, 0),
+            issues(1, Kind::Mixed, &[0], &[5], 1, 0),
+            issues(2, Kind::Read, &[4], &[], 5, 0),
+            issues(3, Kind::Write, &[], &[4, 5], 1, 0),
+            makes(1, Move::Finish),
+            ends(2, end(3, 3, Which::First, (1, 1, 6))),
+        ],
+    )
+}
+
+// An upgrade that does not rise.
+fn stays(alloc: Global) -> Result<bool, Fail> {
+    are_right(
+        alloc,
+        &[
+            issues(0, Kind::Upgrade, &[0], &[], 3, 2),
+            issues(1, Kind::Read, &[0], &[], 1, 0),
+            ends(0, end(1, 1, Which::First, (1, 0, 3))),
+        ],
+    )
+}
+
+// An upgrade that rises.
+fn rises(alloc: Global) -> Result<bool, Fail> {
+    are_right(
+        alloc,
+        &[
+            issues(0, Kind::Upgrade, &[0], &[], 3, 2),
+            issues(1, Kind::Read, &[0], &[], 1, 0),
+            makes(0, Move::Rise),
+            ends(0, end(1, 1, Which::First, (1, 1, 5))),
+        ],
+    )
+}
+
+// A nested request asks for more.
+fn asks(alloc: Global) -> Result<bool, Fail> {
+    are_right(
+        alloc,
+        &[
+            issues(0, Kind::Read, &[3], &[], 3, 0),
+            issues(1, Kind::Nested, &[], &[0, 3], 4, 0),
+            makes(1, Move::Ask(set(&[3]))),
+            ends(0, end(1, 1, Which::Ask(0), (1, 0, 3))),
+        ],
+    )
+}
+
+// A nested request leaves while it is only entitled.
+fn leaves(alloc: Global) -> Result<bool, Fail> {
+    are_right(
+        alloc,
+        &[
+            issues(0, Kind::Read, &[3], &[], 3, 0),
+            issues(1, Kind::Nested, &[], &[0, 3], 4, 0),
+            issues(2, Kind::Read, &[0], &[], 1, 0),
+            ends(1, end(2, 2, Which::First, (1, 0, 3))),
+        ],
+    )
+}
+
+#[test]
+fn covers_are_those_worked_by_hand(rt: HostRuntime) -> Result<(), Fail> {
+    let alloc = rt.alloc();
+    let writes = phases(alloc)? && places(alloc)? && reads_between(alloc)?;
+    let lines = reading_beside(alloc)? && line_changes(alloc)?;
+    let upgrades = stays(alloc)? && rises(alloc)?;
+    assert!(rt; writes && lines && upgrades && asks(alloc)? && leaves(alloc)?);
+    Ok(())
+}
