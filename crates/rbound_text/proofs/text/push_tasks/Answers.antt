@@ -1,4 +1,4 @@
-use Rattle.std.proofs.Common.{◌++◌, ℕ, ap, ◌∙◌}
+use Rattle.std.proofs.Common.{◌++◌, ℕ, ap, ◌∙◌, rules}
 use Rattle.rforms.specs.SetFields.{name_at}
 use Rattle.rforms.specs.Texts.{text_of}
 use Rattle.rbound_text.specs.BoundText.{task_rows}
@@ -12,3 +12,6 @@ loop-task-preserved c =
     ∙ ap (λ name. c.loop-task.text.items ++ text_of (task_rows c.args.bounds.now.needs c.args.bounds.now.cap name c.loop-task.task)) (named c.args.tasks.now c.loop-task.task c.name_of.result.now c.name_of.ensures)
     ∙ ap (λ text. text ++ text_of (rows c.loop-task.task)) c.loop-task.invariant
     ∙ rows_more rows c.args.text.now.items c.loop-task.task
+
+pub loop-task-init : goal.loop-task-init
+loop-task-init c = search rules
