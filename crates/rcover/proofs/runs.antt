@@ -4,5 +4,4 @@ pub mod Push
 pub mod Steps
 pub mod Taken
 pub mod Throughout
-pub mod LastHolder
 pub mod LineOverTime

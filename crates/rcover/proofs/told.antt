@@ -5,4 +5,3 @@ pub mod OneClaim
 pub mod Runs
 pub mod Waits
 pub mod Few
-pub mod Tracking

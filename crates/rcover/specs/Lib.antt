@@ -8,7 +8,4 @@ pub mod Within
 pub mod Told
 pub mod Ended
 pub mod Lists
-pub mod Tracked
-pub mod Last
-pub mod Shown
 pub mod Promises

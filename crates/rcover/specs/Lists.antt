@@ -1,5 +1,6 @@
 -- How the plain cover keeps moments, and which claims it looks for at them.
-use Rattle.std.specs.Prelude.{◌≤◌, ◌^◌, ◌-◌, ◌&&◌, ℕ, zero, suc, Bool, Option, Some, None, List, length, map, fold, reverse, if◌then◌else◌}
+use Rattle.std.specs.Prelude.{◌≤◌, ◌^◌, ◌-◌, not, ◌&&◌, ℕ, zero, suc, Bool, Option, Some, None, List, [], ◌∷◌, ◌++◌, length, map, fold, reverse, if◌then◌else◌}
+use Rattle.std.specs.List.{list_any}
 use Rattle.std.specs.declared.vec.Vec.{Vec}
 use Rattle.std.specs.declared.alloc.Global.{Global}
 use Rattle.rclaim.specs.declared.claim.Claim.{Claim}
@@ -15,9 +16,21 @@ use Rattle.rcover.specs.declared.leasts.Lowest.{Lowest}
 use Rattle.std.specs.FinSet.{union}
 use Rattle.rset.specs.Sets.{meets}
 use Rattle.rmodel.specs.Rules.{is_earlier_write}
-use Rattle.rcover.specs.Moments.{Moment}
+use Rattle.rcover.specs.Moments.{Moment, is_claim}
 use Rattle.rcover.specs.Sections.{Sections}
-use Rattle.rcover.specs.Shown.{reads_against}
+
+-- a read claim that conflicts with a write
+abbrev pub reads_against : Claim → Claim → Bool
+reads_against v d = not d.write_half && conflicts d v
+
+-- claims, each once, and one more, if it is not among them
+abbrev pub with_different : List Claim → Claim → List Claim
+with_different cs d = if list_any (λ c. is_claim c d) cs then cs else cs ++ d ∷ []
+
+-- the same of a claim that there may be
+abbrev pub with_option : List Claim → Option Claim → List Claim
+with_option cs None = cs
+with_option cs (Some d) = with_different cs d
 
 -- the moments that lists of claims are
 abbrev pub moments_in : List (Vec Claimed Global) → List Moment
@@ -37,6 +50,11 @@ sections_of a = record { reads = a.reads.items; writes = a.writes.items }
 pub record AreFew (a : Sections) : Type 0 where
   pub reads : length a.reads ≤ 2 ^ 31
   pub writes : length a.writes ≤ 2 ^ 31
+
+-- sections are no more than this
+pub record AreAtMost (top : ℕ) (a : Sections) : Type 0 where
+  pub reads : length a.reads ≤ top
+  pub writes : length a.writes ≤ top
 
 -- what is found of the line of a write once a claim before the others is looked at
 abbrev pub with_lowest : Claim → Lowest → Claimed → Lowest

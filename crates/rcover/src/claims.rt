@@ -4,21 +4,21 @@ ghost use Rattle.rmodel.specs.Claims.{touches, conflicts};
 ghost use Rattle.rmodel.specs.Laws.{keeps_out};
 ghost use Rattle.rmodel.specs.Rules.{is_earlier_write};
 ghost use Rattle.rcover.specs.Moments.{is_claim, holds_at};
-ghost use Rattle.rcover.specs.Shown.{reads_against};
+ghost use Rattle.rcover.specs.Lists.{reads_against};
 
 use rclaim::Claim;
 use rmodel::Claimed;
 use rset::ResourceSet;
 
 /// Whether two claims are one: of one stamp, and both read claims or both write claims.
-pub(crate) fn is_claim(c: &Claim, d: &Claim) -> bool
+pub fn is_claim(c: &Claim, d: &Claim) -> bool
     ensures { result ≡ is_claim c.now d.now }
 {
     c.stamp == d.stamp && c.write_half == d.write_half
 }
 
 /// Whether a claim is satisfied at a moment.
-pub(crate) fn holds_at(c: &Claim, moment: &[Claimed]) -> bool
+pub fn holds_at(c: &Claim, moment: &[Claimed]) -> bool
     ensures { result ≡ holds_at c.now moment.now }
 {
     moment

@@ -30,7 +30,7 @@ pub(crate) struct Cover {
 }
 
 /// The write that keeps a read claim waiting at a moment.
-fn keeper_at(c: &Claim, moment: &[Claimed]) -> Option<Claim>
+pub fn keeper_at(c: &Claim, moment: &[Claimed]) -> Option<Claim>
     ensures { result ≡ keeper_of c.now (moment.now ∷ []) }
 {
     moment.iter().find(|x| keeps_out(c, x)).map(|x| x.claim)

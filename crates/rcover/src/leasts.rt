@@ -5,7 +5,7 @@ ghost use Rattle.rcover.specs.Line.{least_of, is_least, is_kept_least, kept_mome
 ghost use Rattle.rcover.specs.Lists.{with_lowest, lowest_of, moments_in, sections_of};
 ghost use Rattle.rcover.specs.Moments.{holds_at, is_claim};
 ghost use Rattle.rcover.specs.Sections.{different};
-ghost use Rattle.rcover.specs.Shown.{with_different, with_option};
+ghost use Rattle.rcover.specs.Lists.{with_different, with_option};
 
 use crate::claims::{holds_at, is_claim, is_earlier_write};
 use crate::cover::Cover;
@@ -54,7 +54,7 @@ fn lowest_of(c: &Claim, moment: &[Claimed]) -> Lowest
 }
 
 /// The least claim of the line of a write at a moment.
-fn least_of(c: &Claim, moment: &[Claimed]) -> Claim
+pub fn least_of(c: &Claim, moment: &[Claimed]) -> Claim
     ensures { result ≡ least_of c.now moment.now }
 {
     lowest_of(c, moment).least

@@ -17,4 +17,9 @@ mod waits;
 mod wanted;
 
 pub use by_definition::plain_cover;
+pub use claims::{holds_at, is_claim};
+pub use cover::keeper_at;
+pub use leasts::least_of;
 pub use wait_end::WaitEnd;
+pub use waits::{stands, waits_first, waits_for_ask, waits_to_rise};
+pub use wanted::{Wanted, is_wanted};

@@ -17,7 +17,7 @@ fn is_rising_half(c: &Claim) -> bool
 }
 
 /// Whether a claim is in its first wait.
-pub(crate) fn waits_first(x: &Claimed) -> bool
+pub fn waits_first(x: &Claimed) -> bool
     ensures { (m : List Claimed) → result ≡ waits_first m x.now }
 {
     x.held().is_nothing() && !is_rising_half(&x.claim)
@@ -33,14 +33,14 @@ fn has_read_claim(moment: &[Claimed], c: &Claim) -> bool
 }
 
 /// Whether a claim waits to rise.
-pub(crate) fn waits_to_rise(moment: &[Claimed], x: &Claimed) -> bool
+pub fn waits_to_rise(moment: &[Claimed], x: &Claimed) -> bool
     ensures { result ≡ waits_to_rise moment.now x.now }
 {
     is_rising_half(&x.claim) && !has_read_claim(moment, &x.claim) && !x.is_satisfied()
 }
 
 /// Whether an ask of the request of a claim is pending.
-pub(crate) fn waits_for_ask(x: &Claimed) -> bool
+pub fn waits_for_ask(x: &Claimed) -> bool
     ensures { (m : List Claimed) → result ≡ waits_for_ask m x.now }
 {
     !x.held().is_nothing() && x.asked.len() > 0
@@ -58,7 +58,7 @@ fn waits_in(which: Which, moment: &[Claimed], x: &Claimed) -> bool
 }
 
 /// Whether a claim stands at a moment, in this wait of its request.
-pub(crate) fn stands(which: Which, c: &Claim, moment: &[Claimed]) -> bool
+pub fn stands(which: Which, c: &Claim, moment: &[Claimed]) -> bool
     ensures { result ≡ stands (waits_in which) c.now moment.now }
 {
     moment

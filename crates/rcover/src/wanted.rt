@@ -9,7 +9,7 @@ use rset::ResourceSet;
 
 /// Which claim is looked for.
 #[derive(Clone, Copy)]
-pub(crate) enum Wanted {
+pub enum Wanted {
     /// One that conflicts with this claim.
     Against(Claim),
     /// A read claim that does.
@@ -19,7 +19,7 @@ pub(crate) enum Wanted {
 }
 
 /// Whether a claim is one that is looked for.
-pub(crate) fn is_wanted(wanted: &Wanted, d: &Claim) -> bool
+pub fn is_wanted(wanted: &Wanted, d: &Claim) -> bool
     ensures { result ≡ is_wanted wanted.now d.now }
 {
     match wanted {

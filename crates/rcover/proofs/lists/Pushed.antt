@@ -11,7 +11,7 @@ use Rattle.rcover.specs.Line.{least_of, leasts}
 use Rattle.rcover.specs.Lists.{moments_in}
 use Rattle.rcover.specs.Moments.{Moment}
 use Rattle.rcover.specs.Sections.{different}
-use Rattle.rcover.specs.Shown.{with_different, with_option}
+use Rattle.rcover.specs.Lists.{with_different, with_option}
 use Rattle.rcover.proofs.runs.Push.{filter_map_append, different_push, different_option}
 
 -- the lists of claims as far as one more of them

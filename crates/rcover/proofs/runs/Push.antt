@@ -11,7 +11,7 @@ use Rattle.rmodel.proofs.ListFacts.{Among, any_among, none_among, none_from, amo
 use Rattle.rmodel.proofs.settling.OneSettlement.{both_cases}
 use Rattle.rcover.specs.Moments.{moments, is_claim}
 use Rattle.rcover.specs.Sections.{different}
-use Rattle.rcover.specs.Shown.{with_different, with_option}
+use Rattle.rcover.specs.Lists.{with_different, with_option}
 use Rattle.rcover.proofs.runs.Moments.{are_one, one_from}
 
 pub moments_push : (s : LockState) (es : List Event) (e : Event) → moments s (es ++ e ∷ []) ≡ moments s es ++ (next (after s es) e).claims ∷ []

@@ -17,7 +17,7 @@ use Rattle.rbound.specs.declared.which.Which.{Which}
 use Rattle.rbound.specs.declared.which.Which.TheVariants.{First, Rise, Ask}
 use Rattle.rcover.specs.Ended.{wait_of, waits_in, sections_in}
 use Rattle.rcover.specs.Lists.{AreFew}
-use Rattle.rcover.specs.Tracked.{AreAtMost}
+use Rattle.rcover.specs.Lists.{AreAtMost}
 use Rattle.rcover.specs.Moments.{Moment, moments}
 use Rattle.rcover.specs.Sections.{Sections, read_sections, ask_sections}
 use Rattle.rbound.specs.Zones.{zone_of}

@@ -1,7 +1,7 @@
 use Rattle.std.proofs.Common.{take, sym, ap, arith, ◌∙◌}
 use Rattle.rcover.specs.Line.{leasts}
 use Rattle.rcover.specs.Lists.{moments_in}
-use Rattle.rcover.specs.Shown.{with_different}
+use Rattle.rcover.specs.Lists.{with_different}
 use Rattle.rcover.proofs.lists.Pushed.{moments_more, leasts_more}
 use Rattle.rcover.proofs.leasts.leasts_of.Goals as goal
 

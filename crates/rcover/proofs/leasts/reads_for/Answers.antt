@@ -1,7 +1,7 @@
 use Rattle.std.proofs.Common.{sym, ap, arith, ◌∙◌}
 use Rattle.rcover.specs.Line.{read_for}
 use Rattle.rcover.specs.Lists.{moments_in}
-use Rattle.rcover.specs.Shown.{with_option}
+use Rattle.rcover.specs.Lists.{with_option}
 use Rattle.rcover.proofs.lists.Pushed.{different_more}
 use Rattle.rcover.proofs.leasts.reads_for.Goals as goal
 

@@ -17,7 +17,7 @@ use Rattle.rmodel.proofs.reaching.Reached.{reached_next}
 use Rattle.rmodel.proofs.reaching.Stamps.{OfOneSeat, one_seat_next}
 use Rattle.rmodel.proofs.settling.OneSettlement.{both_cases}
 use Rattle.rmodel.proofs.settling.Turns.{halves_take_turns}
-use Rattle.rcover.specs.Last.{first_at, first_at_last}
+use Rattle.rwaits.specs.Last.{first_at, first_at_last}
 use Rattle.rcover.specs.Moments.{Moment, moments, later, is_claim, holds_at}
 use Rattle.rcover.specs.Sections.{holder_of}
 use Rattle.rcover.proofs.lists.Found.{filter_yes, filter_no}

@@ -13,16 +13,17 @@ use Rattle.rmodel.specs.WellFormed.{EachPair}
 use Rattle.rmodel.proofs.ListFacts.{Among, contrary, false_from, all_from, any_among, in_filter}
 use Rattle.rmodel.proofs.reaching.Stamps.{OfOneSeat}
 use Rattle.rmodel.proofs.settling.OneSettlement.{both_cases}
-use Rattle.rcover.specs.Last.{first_at, first_at_last}
+use Rattle.rwaits.specs.Last.{first_at, first_at_last}
 use Rattle.rcover.specs.Line.{least_of, is_least, leasts, is_kept_least, write_sections}
 use Rattle.rcover.specs.Moments.{Moment, moments, holds_at}
 use Rattle.rcover.specs.Sections.{Sections, different}
-use Rattle.rcover.specs.Shown.{reads_against, with_option, write_shown}
-use Rattle.rcover.specs.Tracked.{taken_over, held_over, IsClosed}
+use Rattle.rcover.specs.Lists.{reads_against, with_option}
+use Rattle.rwaits.specs.Shown.{write_shown}
+use Rattle.rwaits.specs.Tracked.{taken_over, held_over, IsClosed}
 use Rattle.rcover.specs.Waits.{WriteWaits}
 use Rattle.rcover.proofs.covers.WriteCover.{each_there, each_held, that_least, least_among}
 use Rattle.rcover.proofs.lists.Found.{filter_yes, filter_no, all_so, not_empty}
-use Rattle.rcover.proofs.runs.LastHolder.{IsUp, holder_is_last}
+use Rattle.rwaits.proofs.over.LastHolder.{IsUp, holder_is_last}
 use Rattle.rcover.proofs.runs.LineOverTime.{stops_least, held_now}
 use Rattle.rcover.proofs.runs.Moments.{is_itself}
 use Rattle.rcover.proofs.runs.Push.{filter_append, filter_map_append, append_none, different_option}

@@ -24,18 +24,20 @@ use Rattle.rcover.specs.Covers.{IsKeptBy}
 use Rattle.rcover.specs.Ended.{waits_in, sections_in, wait_of, ended_if, ended_by, wait_end}
 use Rattle.rcover.specs.History.{length_in}
 use Rattle.rcover.specs.Within.{numbers_of}
-use Rattle.rcover.specs.Last.{first_at}
+use Rattle.rwaits.specs.Last.{first_at}
 use Rattle.rcover.specs.Line.{least_of, write_sections}
 use Rattle.rcover.specs.Moments.{Moment, moments, is_claim, holds_at}
 use Rattle.rcover.specs.Sections.{Sections, holder_of, moments_without, sections_by, sections_of_keeper, read_sections, ask_sections}
-use Rattle.rcover.specs.Shown.{reads_against, with_option, write_shown, write_closed}
+use Rattle.rcover.specs.Lists.{reads_against, with_option}
+use Rattle.rwaits.specs.Shown.{write_shown, write_closed}
 use Rattle.rcover.specs.Told.{waits_first, waits_to_rise, waits_for_ask, stands, run_of, wait_so_far}
-use Rattle.rcover.specs.Tracked.{IsClosed, no_sections, keeper_at, IsReadClosed, read_shown, read_shown_if, read_closed_if, IsTracked, AreTracked, shown, told_if, told, AreAtMost, IsKept, gone_on, kept_by, AreKept}
+use Rattle.rcover.specs.Lists.{AreAtMost}
+use Rattle.rwaits.specs.Tracked.{IsClosed, no_sections, keeper_at, IsReadClosed, read_shown, read_shown_if, read_closed_if, IsTracked, AreTracked, shown, told_if, told, IsKept, gone_on, kept_by, AreKept}
 use Rattle.rcover.specs.Waits.{ReadWaits, WriteWaits}
 use Rattle.rcover.proofs.covers.ReadCover.{IsActiveWrite, satisfied_on, has_keeper}
-use Rattle.rcover.proofs.covers.ReadRun.{read_closed}
-use Rattle.rcover.proofs.covers.WriteRun.{last_among, write_sections_shown}
-use Rattle.rcover.proofs.covers.WriteStep.{closed_first, closed_next}
+use Rattle.rwaits.proofs.over.ReadRun.{read_closed}
+use Rattle.rwaits.proofs.over.WriteRun.{last_among, write_sections_shown}
+use Rattle.rwaits.proofs.over.WriteStep.{closed_first, closed_next}
 use Rattle.rcover.proofs.lists.Found.{all_both, not_empty}
 use Rattle.rcover.proofs.runs.Moments.{at_moments, is_itself, are_one, sat_holds}
 use Rattle.rcover.proofs.runs.Push.{moments_push, filter_map_same}
@@ -47,7 +49,7 @@ use Rattle.rcover.proofs.told.Few.{waits_told, at_most}
 use Rattle.rcover.proofs.told.OneClaim.{StandsAs, one_of_stamp}
 use Rattle.rcover.proofs.told.Runs.{run_push}
 use Rattle.rcover.proofs.told.Waits.{read_waits, write_waits, rise_waits}
-use Rattle.rcover.proofs.covers.ReadRun as shows
+use Rattle.rwaits.proofs.over.ReadRun as shows
 
 -- ---- a write that keeps a read claim waiting
 
@@ -149,8 +151,8 @@ pub read_closed_first : (c : Claim) (n : Moment) → IsReadClosed c (n ∷ []) n
 read_closed_first c n = record { kept = λ v keeps on. sym (ap (λ b. option_to_list (holder_of (λ d. conflicts d v) (cond (not b) (n ∷ []) []))) on) }
 
 -- what is kept of a write wait is among what it shows
-shown_at_most : {top : ℕ} (e : Claim) (a : Sections) (m : Moment) → AreAtMost top (write_shown e a m) → AreAtMost top a
-shown_at_most {top} e a m few = record { reads = reads (holds_at e m) few.reads; writes = writes (holds_at e m) few.writes }
+among_shown : {top : ℕ} (e : Claim) (a : Sections) (m : Moment) → AreAtMost top (write_shown e a m) → AreAtMost top a
+among_shown {top} e a m few = record { reads = reads (holds_at e m) few.reads; writes = writes (holds_at e m) few.writes }
   where
     longer : (b : Bool) (d : Claim) → length a.reads ≤ length (cond b a.reads (a.reads ++ d ∷ []))
     longer true d = omega arith
@@ -236,22 +238,25 @@ module _ (groups : ReadGroups) (seats cap : ℕ) (es : List Event) (accepted : A
       ∙ (λ i. let a : Sections = record { reads = shows.ask_shown w.start w.more w.reached w.accepted w.seats_apart x.claim part (ask_run x.claim part w.start w.more w.reached w.accepted w.each x w.last refl refl) i; writes = [] } in a)
       ∙ ap (λ (s : LockState). let a : Sections = record { reads = option_to_list (first_at (λ d. conflicts_on d x.claim part) s.claims); writes = [] } in a) w.ends
 
-  -- what is kept shows the sections of each wait
-  pub shown_is : (table : ℕ → Sections) → AreTracked ms m table → (x : Claimed) → Among x m → (w : Which) → waits_in w m x ≡ true
-      → sections_in w x (wait_so_far (waits_in w) x.claim ms) ≡ shown w x (table x.claim.seat) m
-  shown_is table tracked x there First on =
-      let a = table x.claim.seat in
+  -- what is kept of a wait shows its sections
+  pub shown_of : (a : Sections) (x : Claimed) → Among x m → IsTracked ms m a x → (w : Which) → waits_in w m x ≡ true → sections_in w x (wait_so_far (waits_in w) x.claim ms) ≡ shown w x a m
+  shown_of a x there tracked First on =
       let w = wait_at waits_first x there on in
       let run = wait_so_far waits_first x.claim ms in
       let lhs = λ (b : Bool). cond b (write_sections x.claim run) (read_sections x.claim run) in
       let rhs = λ (b : Bool). cond b (write_shown (least_of x.claim m) a m) (read_shown_if (keeper_at x.claim m) a.reads m) in
       both_cases x.claim.write_half
-      (λ write. ap lhs write ∙ write_is waits_first x w (writes_over x w write) a ((tracked x there).first_write write on) ∙ ap rhs (sym write))
-      (λ read. ap lhs read ∙ read_is x w (reads_over x w read) a ((tracked x there).first_read read on) ∙ ap rhs (sym read))
-  shown_is table tracked x there Rise on =
+      (λ write. ap lhs write ∙ write_is waits_first x w (writes_over x w write) a (tracked.first_write write on) ∙ ap rhs (sym write))
+      (λ read. ap lhs read ∙ read_is x w (reads_over x w read) a (tracked.first_read read on) ∙ ap rhs (sym read))
+  shown_of a x there tracked Rise on =
       let w = wait_at waits_to_rise x there on in
-      write_is waits_to_rise x w (rises_over x w) (table x.claim.seat) ((tracked x there).rise on)
-  shown_is table tracked x there (Ask number) on = ask_is x (wait_at waits_for_ask x there on)
+      write_is waits_to_rise x w (rises_over x w) a (tracked.rise on)
+  shown_of a x there tracked (Ask number) on = ask_is x (wait_at waits_for_ask x there on)
+
+  -- and so it is of all of them
+  pub shown_is : (table : ℕ → Sections) → AreTracked ms m table → (x : Claimed) → Among x m → (w : Which) → waits_in w m x ≡ true
+      → sections_in w x (wait_so_far (waits_in w) x.claim ms) ≡ shown w x (table x.claim.seat) m
+  shown_is table tracked x there w on = shown_of (table x.claim.seat) x there (tracked x there) w on
 
   -- what is told with what is kept is what the definitions say of the waits that end
   pub told_are_ended : (table : ℕ → Sections) → AreTracked ms m table → (event : Event) → told es m (next now event).claims table ≡ ended_by first es event
@@ -266,15 +271,17 @@ module _ (groups : ReadGroups) (seats cap : ℕ) (es : List Event) (accepted : A
       at x there (Some w) is =
           ap (λ (a : Sections). cond (stands (waits_in w) x.claim n) None (Some (wait_end w x.claim (numbers_of (length_in es) a)))) (sym (shown_is table tracked x there w (waits_told es m x w is)))
 
-  -- the sections that are kept of a write wait are no more than the cap
-  pub kept_at_most : 1 ≤ cap → (table : ℕ → Sections) → AreTracked ms m table → (x : Claimed) → Among x m → x.claim.write_half ≡ true → (w : Which) → waits_in w m x ≡ true → is_ask w ≡ false → AreAtMost cap (table x.claim.seat)
-  kept_at_most some table tracked x there write First on plain =
-      shown_at_most (least_of x.claim m) (table x.claim.seat) m
-      (subst (AreAtMost cap) (shown_is table tracked x there First on ∙ ap (λ b. cond b (write_shown (least_of x.claim m) (table x.claim.seat) m) (read_shown_if (keeper_at x.claim m) (table x.claim.seat).reads m)) write)
-      (at_most groups seats cap es some accepted x there First on))
-  kept_at_most some table tracked x there write Rise on plain =
-      shown_at_most (least_of x.claim m) (table x.claim.seat) m (subst (AreAtMost cap) (shown_is table tracked x there Rise on) (at_most groups seats cap es some accepted x there Rise on))
-  kept_at_most some table tracked x there write (Ask number) on plain = contrary true refl plain
+  -- what is shown of a wait is no more than the cap
+  pub shown_at_most : 1 ≤ cap → (a : Sections) (x : Claimed) → Among x m → IsTracked ms m a x → (w : Which) → waits_in w m x ≡ true → AreAtMost cap (shown w x a m)
+  shown_at_most some a x there tracked w on = subst (AreAtMost cap) (shown_of a x there tracked w on) (at_most groups seats cap es some accepted x there w on)
+
+  -- nor is what is kept of a write wait
+  pub kept_at_most : 1 ≤ cap → (a : Sections) (x : Claimed) → Among x m → IsTracked ms m a x → x.claim.write_half ≡ true → (w : Which) → waits_in w m x ≡ true → is_ask w ≡ false → AreAtMost cap a
+  kept_at_most some a x there tracked write First on plain =
+      among_shown (least_of x.claim m) a m
+      (subst (λ b. AreAtMost cap (cond b (write_shown (least_of x.claim m) a m) (read_shown_if (keeper_at x.claim m) a.reads m))) write (shown_at_most some a x there tracked First on))
+  kept_at_most some a x there tracked write Rise on plain = among_shown (least_of x.claim m) a m (shown_at_most some a x there tracked Rise on)
+  kept_at_most some a x there tracked write (Ask number) on plain = contrary true refl plain
 
   module _ (event : Event) (comes : Comes now event) where
     abbrev n : Moment

@@ -17,11 +17,12 @@ use Rattle.rmodel.proofs.settling.OneSettlement.{both_cases}
 use Rattle.rcover.specs.Line.{least_of, is_least, leasts, is_kept_least, kept_moments}
 use Rattle.rcover.specs.Moments.{Moment, moments, is_claim, holds_at}
 use Rattle.rcover.specs.Sections.{Sections, holder_of, different}
-use Rattle.rcover.specs.Shown.{reads_against, with_different, write_shown, write_closed}
-use Rattle.rcover.specs.Tracked.{taken_over, held_over, IsClosed, no_sections}
+use Rattle.rcover.specs.Lists.{reads_against, with_different}
+use Rattle.rwaits.specs.Shown.{write_shown, write_closed}
+use Rattle.rwaits.specs.Tracked.{taken_over, held_over, IsClosed, no_sections}
 use Rattle.rcover.specs.Waits.{WriteWaits}
 use Rattle.rcover.proofs.covers.WriteCover.{write_there, each_there, least_is_there}
-use Rattle.rcover.proofs.covers.WriteRun.{last_among, one_of_option, shown_reads, shown_writes}
+use Rattle.rwaits.proofs.over.WriteRun.{last_among, one_of_option, shown_reads, shown_writes}
 use Rattle.rcover.proofs.lists.Different.{among_different, are_different}
 use Rattle.rcover.proofs.lists.Found.{filter_no}
 use Rattle.rcover.proofs.runs.LineOverTime.{rises_to_last}

@@ -1,5 +1,5 @@
 -- How waits are followed from moment to moment: what is kept of a wait, and what its sections are then.
-use Rattle.std.specs.Prelude.{◌≡◌, ◌≤◌, ℕ, length, Bool, true, false, ◌&&◌, Option, Some, None, List, [], ◌∷◌, ◌++◌, filter, if◌then◌else◌}
+use Rattle.std.specs.Prelude.{◌≡◌, ℕ, Bool, true, false, ◌&&◌, Option, Some, None, List, [], ◌∷◌, ◌++◌, filter, if◌then◌else◌}
 use Rattle.std.specs.List.{list_any, filter_map}
 use Rattle.std.specs.Option.{option_to_list}
 use Rattle.rclaim.specs.declared.claim.Claim.{Claim}
@@ -13,11 +13,12 @@ use Rattle.rmodel.specs.Claims.{conflicts, conflicts_on}
 use Rattle.rmodel.specs.WellFormed.{Among}
 use Rattle.rbound.specs.declared.which.Which.{Which}
 use Rattle.rbound.specs.declared.which.Which.TheVariants.{First, Rise, Ask}
-use Rattle.rcover.specs.Last.{first_at}
+use Rattle.rwaits.specs.Last.{first_at}
 use Rattle.rcover.specs.Line.{least_of, is_least, leasts, kept_moments}
 use Rattle.rcover.specs.Moments.{Moment, holds_at}
 use Rattle.rcover.specs.Sections.{Sections, holder_of, different, keeper_of, sections_by}
-use Rattle.rcover.specs.Shown.{reads_against, write_shown, write_closed}
+use Rattle.rcover.specs.Lists.{reads_against}
+use Rattle.rwaits.specs.Shown.{write_shown, write_closed}
 use Rattle.rcover.specs.Told.{waits_first, waits_to_rise, stands, wait_so_far}
 
 -- the read that is taken for a least claim, and whether it was satisfied as the least
@@ -82,19 +83,18 @@ shown First x a m = if x.claim.write_half then write_shown (least_of x.claim m) 
 shown Rise x a m = write_shown (least_of x.claim m) a m
 shown (Ask number) x a m = record { reads = option_to_list (first_at (λ d. conflicts_on d x.claim x.asked) m); writes = [] }
 
--- what is told of a wait of a claim at m, if a next moment n ends it, with what is kept for each seat
+-- what is told of a wait of a claim at m, if a next moment n ends it, with what is kept of it
+abbrev pub told_of : (Claim → ℕ) → Moment → Moment → Sections → Claimed → Option Which → Option WaitEnd
+told_of len m n a x None = None
+told_of len m n a x (Some w) = if stands (waits_in w) x.claim n then None else Some (wait_end w x.claim (numbers_of len (shown w x a m)))
+
+-- the same with what is kept for each seat
 abbrev pub told_if : (Claim → ℕ) → Moment → Moment → (ℕ → Sections) → Claimed → Option Which → Option WaitEnd
-told_if len m n table x None = None
-told_if len m n table x (Some w) = if stands (waits_in w) x.claim n then None else Some (wait_end w x.claim (numbers_of len (shown w x (table x.claim.seat) m)))
+told_if len m n table x o = told_of len m n (table x.claim.seat) x o
 
 -- what is told of the waits at the last moment m of the events so far that a next moment n ends
 abbrev pub told : List Event → Moment → Moment → (ℕ → Sections) → List WaitEnd
 told es m n table = filter_map (λ x. told_if (length_in es) m n table x (wait_of es m x)) m
-
--- sections are no more than this
-pub record AreAtMost (top : ℕ) (a : Sections) : Type 0 where
-  pub reads : length a.reads ≤ top
-  pub writes : length a.writes ≤ top
 
 -- what is kept of a claim's wait that goes on once a moment n comes behind m
 abbrev pub gone_on : Claim → Sections → Moment → Moment → Sections

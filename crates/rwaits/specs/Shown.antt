@@ -1,24 +1,10 @@
 -- The sections of a write wait, followed moment by moment: those of closed stretches are kept, those of the present one are seen at the last moment.
-use Rattle.std.specs.Prelude.{Bool, not, ◌&&◌, Option, Some, None, List, [], ◌∷◌, ◌++◌, if◌then◌else◌}
-use Rattle.std.specs.List.{list_any}
+use Rattle.std.specs.Prelude.{not, ◌&&◌, [], ◌∷◌, ◌++◌, if◌then◌else◌}
 use Rattle.rclaim.specs.declared.claim.Claim.{Claim}
-use Rattle.rmodel.specs.Claims.{conflicts}
-use Rattle.rcover.specs.Last.{first_at}
+use Rattle.rcover.specs.Lists.{reads_against, with_option}
 use Rattle.rcover.specs.Moments.{Moment, is_claim, holds_at}
 use Rattle.rcover.specs.Sections.{Sections}
-
--- a read claim that conflicts with a write
-abbrev pub reads_against : Claim → Claim → Bool
-reads_against v d = not d.write_half && conflicts d v
-
--- claims, each once, and one more, if it is not among them
-abbrev pub with_different : List Claim → Claim → List Claim
-with_different cs d = if list_any (λ c. is_claim c d) cs then cs else cs ++ d ∷ []
-
--- the same of a claim that there may be
-abbrev pub with_option : List Claim → Option Claim → List Claim
-with_option cs None = cs
-with_option cs (Some d) = with_different cs d
+use Rattle.rwaits.specs.Last.{first_at}
 
 -- the sections of a write wait whose least claim is e at the last moment m, with those of its closed stretches
 abbrev pub write_shown : Claim → Sections → Moment → Sections

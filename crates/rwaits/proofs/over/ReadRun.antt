@@ -11,15 +11,15 @@ use Rattle.rmodel.specs.State.{LockState}
 use Rattle.rmodel.specs.Steps.{after, AreAccepted}
 use Rattle.rmodel.specs.WellFormed.{EachPair}
 use Rattle.rmodel.proofs.reaching.Stamps.{OfOneSeat}
-use Rattle.rcover.specs.Last.{first_at}
+use Rattle.rwaits.specs.Last.{first_at}
 use Rattle.rcover.specs.Moments.{Moment, moments, holds_at}
 use Rattle.rcover.specs.Sections.{holder_of, moments_without, ask_sections}
 use Rattle.rcover.specs.Waits.{AskWaits}
 use Rattle.rcover.proofs.covers.AskCover.{always, filter_always, stops_never}
 use Rattle.rcover.proofs.covers.ReadCover.{IsActiveWrite, entitled_without, stops_once}
-use Rattle.rcover.proofs.covers.WriteRun.{last_filtered}
+use Rattle.rwaits.proofs.over.WriteRun.{last_filtered}
 use Rattle.rcover.proofs.lists.Found.{all_both, all_so}
-use Rattle.rcover.proofs.runs.LastHolder.{IsUp, holder_is_last}
+use Rattle.rwaits.proofs.over.LastHolder.{IsUp, holder_is_last}
 use Rattle.rcover.proofs.runs.Moments.{at_moments}
 use Rattle.rcover.proofs.runs.Push.{filter_append, append_none}
 use Rattle.rcover.proofs.states.AtRest.{Sat, IsEntitled, HoldsUp, holds_it_up}

@@ -1,0 +1,3 @@
+pub mod lists
+pub mod over
+pub mod told

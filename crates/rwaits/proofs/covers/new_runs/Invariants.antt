@@ -1,0 +1,11 @@
+use Rattle.std.proofs.Common.{◌≡◌, length}
+use Rattle.std.specs.List.{AllByRecursion}
+use Rattle.rwaits.specs.Follow.{HasRoom, IsEmpty}
+use Rattle.rwaits.proofs.covers.new_runs.Given as goal
+
+abbrev pub invariant-loop : goal.invariant-loop
+invariant-loop l = record {
+  len : length l.runs.items ≡ l.counter;
+  room : AllByRecursion HasRoom l.runs.items;
+  none : AllByRecursion IsEmpty l.runs.items;
+}

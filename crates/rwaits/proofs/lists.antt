@@ -1,0 +1,2 @@
+-- What is kept, as lists.
+pub mod Kept

@@ -1,0 +1,142 @@
+-- Sections that are kept, and their claims.
+use Rattle.std.proofs.Common.{true, false, None, Option, drop, add-one, drop-cons, ◌≡◌, ℕ, zero, suc, ◌<◌, ◌+◌, ◌++◌, get_or, arith, Bool, ◌||◌, ◌&&◌, cond, Some, List, [], ◌∷◌, length, find, refl, sym, ap, subst, ◌∙◌}
+use Rattle.std.specs.Option.{IfSome, option_map, unwrap_or}
+use Rattle.rmodel.specs.declared.claimed.Claimed.{Claimed}
+use Rattle.rmodel.specs.Claims.{is_satisfied}
+use Rattle.rmodel.proofs.settling.OneSettlement.{both_cases}
+use Rattle.rmodel.specs.Claims.{share_place, is_active, conflicts}
+use Rattle.rmodel.specs.Rules.{is_earlier_write}
+use Rattle.rwaits.specs.Last.{first_at}
+use Rattle.rcover.specs.Line.{line, first_or, least_of}
+use Rattle.rcover.specs.Moments.{Moment, is_claim, holds_at}
+use Rattle.std.proofs.Math.ListN.{set}
+use Rattle.std.proofs.lemmas.List.Sums.{sum_by-cons}
+use Rattle.std.specs.List.{list_any, sum_by, AllByRecursion}
+use Rattle.rmodel.specs.WellFormed.{EachPair, Rises}
+use Rattle.rmodel.proofs.ListFacts.{behind, false_from}
+use Rattle.std.proofs.lemmas.Bool.{and_parts}
+use Rattle.rcover.proofs.runs.Moments.{are_one}
+use Rattle.rclaim.specs.declared.claim.Claim.{Claim}
+use Rattle.rwaits.specs.declared.section.Section.{Section}
+use Rattle.rwaits.specs.Follow.{claims_of, HaveLengths, AreOf}
+use Rattle.rmodel.specs.Laws.{keeps_out}
+use Rattle.rwaits.specs.Tracked.{keeper_at}
+
+pub any_claims : (p : Claim → Bool) (ss : List Section) → list_any (λ s. p s.claim) ss ≡ list_any p (claims_of ss)
+any_claims p [] = refl
+any_claims p (s ∷ ss) = ap (λ b. p s.claim || b) (any_claims p ss)
+
+pub length_claims : (ss : List Section) → length (claims_of ss) ≡ length ss
+length_claims [] = refl
+length_claims (s ∷ ss) = ap (λ n. suc n) (length_claims ss)
+
+-- the claim that is found at a moment has its length
+pub found_has : (by len : Claim → ℕ) (p : Claim → Bool) (m : Moment) → AreOf by len m → IfSome (first_at p m) (λ d. by d ≡ len d)
+found_has by len p [] are = tt
+found_has by len p (x ∷ xs) are =
+    both_cases (p x.claim && is_satisfied x)
+    (λ on. subst (λ b. IfSome (option_map (λ (y : Claimed). y.claim) (cond b (Some x) (find (λ y. p y.claim && is_satisfied y) xs))) (λ d. by d ≡ len d)) (sym on) are.0)
+    (λ off. subst (λ b. IfSome (option_map (λ (y : Claimed). y.claim) (cond b (Some x) (find (λ y. p y.claim && is_satisfied y) xs))) (λ d. by d ≡ len d)) (sym off) (found_has by len p xs are.1))
+
+-- and so has the least of a line
+pub least_has : (by len : Claim → ℕ) (c : Claim) → by c ≡ len c → (m : Moment) → AreOf by len m → by (least_of c m) ≡ len (least_of c m)
+least_has by len c own [] are = own
+least_has by len c own (x ∷ xs) are =
+    both_cases (is_earlier_write c x.claim && list_any (share_place x.claim) (c ∷ line c xs))
+    (λ on. subst (λ b. by (first_or c (cond b (x.claim ∷ line c xs) (line c xs))) ≡ len (first_or c (cond b (x.claim ∷ line c xs) (line c xs)))) (sym on) are.0)
+    (λ off. subst (λ b. by (first_or c (cond b (x.claim ∷ line c xs) (line c xs))) ≡ len (first_or c (cond b (x.claim ∷ line c xs) (line c xs)))) (sym off) (least_has by len c own xs are.1))
+
+-- ---- one element of a list is exchanged
+
+pub all_set : {X : Type 0} (P : X → Type 0) (xs : List X) (i : ℕ) (y : X) → AllByRecursion P xs → P y → AllByRecursion P (set xs i y)
+all_set P [] i y all here = tt
+all_set P (x ∷ xs) zero y all here = (here, all.1)
+all_set P (x ∷ xs) (suc i) y all here = (all.0, all_set P xs i y all.1 here)
+
+pub all_get : {X : Type 0} (P : X → Type 0) (xs : List X) (i : ℕ) (d : X) → AllByRecursion P xs → i < length xs → P (get_or xs i d)
+all_get P [] i d all h = absurd (omega arith)
+all_get P (x ∷ xs) zero d all h = all.0
+all_get P (x ∷ xs) (suc i) d all h = all_get P xs i d all.1 (omega arith)
+
+-- a pair of a list that stands apart from one of its elements
+pub pairs_before : {X : Type 0} (R : X → X → Type 0) (xs : List X) (x : X) (ys : List X) → EachPair R (xs ++ x ∷ ys) → AllByRecursion (λ y. R y x) xs
+pairs_before R [] x ys pairs = tt
+pairs_before R (z ∷ zs) x ys pairs = ((behind (R z) zs (x ∷ ys) pairs.0).0, pairs_before R zs x ys pairs.1)
+
+pub pairs_after : {X : Type 0} (R : X → X → Type 0) (xs : List X) (x : X) (ys : List X) → EachPair R (xs ++ x ∷ ys) → AllByRecursion (R x) ys
+pairs_after R [] x ys pairs = pairs.0
+pairs_after R (z ∷ zs) x ys pairs = pairs_after R zs x ys pairs.1
+
+-- the sum of the lengths of sections that have theirs
+pub sum_claims : (len : Claim → ℕ) (ss : List Section) → HaveLengths len ss → sum_by (λ s. s.len) ss ≡ sum_by len (claims_of ss)
+sum_claims len [] have = refl
+sum_claims len (s ∷ ss) have = sum_by-cons (λ s. s.len) s ss ∙ (λ i. have.0 i + sum_claims len ss have.1 i) ∙ sym (sum_by-cons len s.claim (claims_of ss))
+
+-- and so has the write that keeps a read claim waiting
+pub keeper_has : (by len : Claim → ℕ) (c : Claim) (m : Moment) → AreOf by len m → IfSome (keeper_at c m) (λ d. by d ≡ len d)
+keeper_has by len c [] are = tt
+keeper_has by len c (x ∷ xs) are =
+    both_cases (keeps_out c x)
+    (λ on. subst (λ b. IfSome (option_map (λ (y : Claimed). y.claim) (cond b (Some x) (find (keeps_out c) xs))) (λ d. by d ≡ len d)) (sym on) are.0)
+    (λ off. subst (λ b. IfSome (option_map (λ (y : Claimed). y.claim) (cond b (Some x) (find (keeps_out c) xs))) (λ d. by d ≡ len d)) (sym off) (keeper_has by len c xs are.1))
+
+-- what is left from a place on
+pub drop_more : (xs : List Claimed) (i : ℕ) (x : Claimed) → i < length xs → x ≡ get_or xs i x → drop i xs ≡ x ∷ drop (i + 1) xs
+drop_more xs i x h is = rw (add-one, drop-cons xs i x) (ap (λ y. y ∷ drop (suc i) xs) (sym is))
+
+-- the write that keeps a read claim waiting is one
+pub keeper_write : (c : Claim) (m : Moment) → IfSome (keeper_at c m) (λ v. v.write_half ≡ true)
+keeper_write c [] = tt
+keeper_write c (x ∷ xs) =
+    both_cases (keeps_out c x)
+    (λ on.
+    subst (λ b. IfSome (option_map (λ (y : Claimed). y.claim) (cond b (Some x) (find (keeps_out c) xs))) (λ v. v.write_half ≡ true)) (sym on)
+    (writes x.claim.write_half (is_active x) (conflicts x.claim c) on))
+    (λ off. subst (λ b. IfSome (option_map (λ (y : Claimed). y.claim) (cond b (Some x) (find (keeps_out c) xs))) (λ v. v.write_half ≡ true)) (sym off) (keeper_write c xs))
+  where
+    writes : (a b d : Bool) → (a && b && d) ≡ true → a ≡ true
+    writes true b d h = refl
+    writes false true true h = h
+    writes false true false h = h
+    writes false false true h = h
+    writes false false false h = h
+
+-- a write is satisfied where the first claim that it is is
+pub holds_none : (c : Claim) (x : Claimed) → is_claim c x.claim ≡ true → c.write_half ≡ true → (xs : Moment) → AllByRecursion (Rises x) xs → holds_at c xs ≡ false
+holds_none c x is write [] all = refl
+holds_none c x is write (y ∷ ys) all =
+    ap (λ b. b || holds_at c ys)
+    (false_from (is_satisfied y && is_claim c y.claim) (λ on.
+    let a = are_one c x.claim is in
+    let b = are_one c y.claim (and_parts (is_satisfied y) (is_claim c y.claim) on).1 in
+    let below = all.0.after_write (sym a.half ∙ write) in
+    let s = a.stamp in
+    let t = b.stamp in
+    absurd (omega arith)))
+    ∙ holds_none c x is write ys all.1
+
+pub holds_found : (c : Claim) → c.write_half ≡ true → (m : Moment) → EachPair Rises m → (o : Option Claimed) → o ≡ find (λ x. is_claim c x.claim) m → (b : Bool) → IfSome o (λ x. b ≡ is_satisfied x) → (o ≡ None → b ≡ false) → b ≡ holds_at c m
+holds_found c write [] rising o is b some none = none is
+holds_found c write (x ∷ xs) rising o is b some none =
+    both_cases (is_claim c x.claim)
+    (λ on.
+    subst (λ (p : Option Claimed). IfSome p (λ x. b ≡ is_satisfied x)) (is ∙ ap (λ d. cond d (Some x) (find (λ y. is_claim c y.claim) xs)) on) some
+    ∙ sym ((λ i. (is_satisfied x && on i) || holds_none c x on write xs rising.0 i) ∙ at (is_satisfied x)))
+    (λ off.
+    holds_found c write xs rising.1 o (is ∙ ap (λ d. cond d (Some x) (find (λ y. is_claim c y.claim) xs)) off) b some none
+    ∙ sym (ap (λ d. (is_satisfied x && d) || holds_at c xs) off ∙ and_false (is_satisfied x) (holds_at c xs)))
+  where
+    at : (s : Bool) → ((s && true) || false) ≡ s
+    at true = refl
+    at false = refl
+
+    and_false : (s h : Bool) → ((s && false) || h) ≡ h
+    and_false true h = refl
+    and_false false h = refl
+
+pub holds_first : (c : Claim) → c.write_half ≡ true → (m : Moment) → EachPair Rises m → unwrap_or (option_map is_satisfied (find (λ x. is_claim c x.claim) m)) false ≡ holds_at c m
+holds_first c write m rising = at (find (λ x. is_claim c x.claim) m) refl
+  where
+    at : (o : Option Claimed) → o ≡ find (λ x. is_claim c x.claim) m → unwrap_or (option_map is_satisfied o) false ≡ holds_at c m
+    at None is = holds_found c write m rising None is false tt (λ _. refl)
+    at (Some x) is = holds_found c write m rising (Some x) is (is_satisfied x) refl (λ h. cc)

@@ -1,0 +1,24 @@
+use Rattle.std.proofs.Common.{◌≡◌, sym, ap, subst, ◌∙◌}
+use Rattle.std.specs.Option.{IfSome}
+use Rattle.rwaits.specs.Follow.{length_by}
+use Rattle.rwaits.proofs.lists.Kept.{least_has, keeper_has}
+use Rattle.rwaits.proofs.show.show.Goals as goal
+
+pub returns-then-c-clause-lengths : goal.returns-then-c-clause-lengths
+returns-then-c-clause-lengths c = λ len are own have.
+    let by = length_by c.args.lengths.now in
+    c.show_write.ensures.lengths len are (ap by c.least_of.ensures ∙ least_has by len c.args.x.now.claim own c.args.moment.now are ∙ ap len (sym c.least_of.ensures)) have
+
+pub returns-else-c-clause-lengths : goal.returns-else-c-clause-lengths
+returns-else-c-clause-lengths c = λ len are own have.
+    let by = length_by c.args.lengths.now in
+    c.show_read_if.ensures.lengths len are (subst (λ o. IfSome o (λ v. by v ≡ len v)) (sym c.keeper_at.ensures) (keeper_has by len c.args.x.now.claim c.args.moment.now are)) have
+
+pub returns-in-Rise-clause-lengths : goal.returns-in-Rise-clause-lengths
+returns-in-Rise-clause-lengths c = λ len are own have.
+    let by = length_by c.args.lengths.now in
+    c.show_write-in-Rise.ensures.lengths len are
+    (ap by c.least_of-in-Rise.ensures ∙ least_has by len c.args.x.now.claim own c.args.moment.now are ∙ ap len (sym c.least_of-in-Rise.ensures)) have
+
+pub returns-in-Ask-clause-lengths : goal.returns-in-Ask-clause-lengths
+returns-in-Ask-clause-lengths c = λ len are own have. c.show_found.ensures.lengths len are

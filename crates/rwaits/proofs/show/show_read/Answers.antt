@@ -1,0 +1,13 @@
+use Rattle.std.proofs.Common.{List, sym, subst, ◌∙◌}
+use Rattle.rwaits.specs.declared.section.Section.{Section}
+use Rattle.rwaits.specs.Follow.{HaveLengths}
+use Rattle.rwaits.proofs.show.show_read.Goals as goal
+
+pub returns-then-not-holds_at-clause-lengths : goal.returns-then-not-holds_at-clause-lengths
+returns-then-not-holds_at-clause-lengths c = λ len are own have. c.show_found.ensures.lengths len are
+
+pub returns-clause-lengths : goal.returns-clause-lengths
+returns-clause-lengths c = λ len are own have. record {
+  reads = subst (λ (ss : List Section). HaveLengths len ss) (sym (c.copy_sections.ensures.items ∙ c.deref.ensures.value)) have.reads;
+  writes = c.push_section.ensures.lengths len own (subst (λ (ss : List Section). HaveLengths len ss) (sym c.clear.ensures.items) tt);
+}

@@ -1,0 +1,10 @@
+-- The waits that states tell, followed from moment to moment.
+pub mod Tracking
+pub mod Tables
+pub mod Rooms
+pub mod Noted
+pub mod Knowing
+pub mod Quiet
+pub mod Heads
+pub mod Stood
+pub mod Grants

@@ -1,0 +1,303 @@
+-- What covers know of the events that they were told holds with one event more.
+use Rattle.std.proofs.Common.{◌≡◌, ℕ, zero, suc, ◌*◌, ◌≤◌, ◌<◌, true, false, List, [], ◌∷◌, ◌++◌, append_assoc, length, length-append, drop, slice_get, Some, refl, sym, ap, subst, ◌∙◌, arith}
+use Rattle.std.proofs.lemmas.List.{take-append-le, take_all}
+use Rattle.std.specs.Vec.{with_items}
+use Rattle.std.specs.declared.vec.Vec.{Vec}
+use Rattle.std.specs.declared.alloc.Global.{Global}
+use Rattle.std.specs.List.{AllByRecursion}
+use Rattle.std.specs.Prelude.{slice_index}
+use Rattle.rset.specs.declared.TheConstants.{SEATS}
+use Rattle.rexpand.specs.Groups.{ReadGroups}
+use Rattle.rclaim.specs.Events.{seat_of}
+use Rattle.rclaim.specs.declared.claim.Claim.{Claim}
+use Rattle.rclaim.specs.declared.event.Event.{Event}
+use Rattle.rclaim.specs.declared.event.Event.TheVariants.{Issue, Finish, Rise, Ask}
+use Rattle.rmodel.specs.declared.claimed.Claimed.{Claimed}
+use Rattle.rmodel.specs.Reached.{IsReached}
+use Rattle.rmodel.specs.State.{LockState, opening}
+use Rattle.rmodel.specs.Steps.{Comes, next}
+use Rattle.rmodel.specs.WellFormed.{Among, EachPair, Rises, Distinct}
+use Rattle.rmodel.proofs.ListFacts.{all_at, all_from}
+use Rattle.rmodel.proofs.reaching.FewClaims.{few_claims}
+use Rattle.rmodel.proofs.reaching.Histories.{accepted_push, after_append, sizes_after, sizes_next}
+use Rattle.rmodel.proofs.reaching.Reached.{reached_after, reached_next, reached_opening}
+use Rattle.rbound.specs.declared.which.Which.{Which}
+use Rattle.rbound.specs.declared.which.Which.TheVariants.{First}
+use Rattle.rbound.specs.declared.which.Which.TheVariants as which
+use Rattle.rcover.specs.Ended.{waits_in, ended_by}
+use Rattle.rcover.specs.History.{length_in, count_ask, asks_since}
+use Rattle.rcover.specs.Lists.{AreAtMost}
+use Rattle.rcover.specs.Moments.{Moment}
+use Rattle.rcover.specs.Sections.{Sections}
+use Rattle.rcover.proofs.lists.Pushed.{same_ends}
+use Rattle.rcover.proofs.runs.Push.{append_none}
+use Rattle.rwaits.specs.declared.covers.Covers.{Covers}
+use Rattle.rwaits.specs.declared.run.Run.{Run}
+use Rattle.rwaits.specs.declared.section.Section.{Section}
+use Rattle.rwaits.specs.Follow.{claims_of, kept_in, table_of, length_by, HasRoom, IsEmpty, AreLong, AreOf, may_wait, WaitApart, kept_of}
+use Rattle.rwaits.specs.declared.lines.Head.{Head}
+use Rattle.rwaits.specs.Lines.{head_of, TellHeads, HeadsTell}
+use Rattle.rwaits.specs.Knows.{HaveRoom, Knows}
+use Rattle.rwaits.specs.Past.{Past, begun, with_event, start_of, state_of, noted, is_issue, StoodBy}
+use Rattle.rwaits.specs.Tracked.{shown, told}
+use Rattle.rwaits.proofs.lists.Kept.{length_claims}
+use Rattle.rwaits.proofs.told.Noted.{lengths_next, lengths_stay, asks_more}
+use Rattle.rwaits.proofs.told.Rooms.{waits_apart, kept_each, all_next_few}
+use Rattle.rmodel.specs.Changes.{changes_between}
+use Rattle.rwaits.specs.Quiet.{GoesOn}
+use Rattle.rwaits.proofs.told.Grants.{goes_on}
+use Rattle.rwaits.proofs.told.Stood.{stood_by}
+use Rattle.rwaits.proofs.told.Tracking.{shown_at_most, told_are_ended, tracked_next, tracked_opening, was_before}
+
+-- what runs with room keep is no more than there are seats
+run_few : (r : Run) → HasRoom r → AreAtMost SEATS (kept_in r)
+run_few r room =
+    let reads = r.reads.ok in
+    let writes = r.writes.ok in
+    let r_reads = room.reads in
+    let r_writes = room.writes in
+    let some_reads = length_claims r.reads.items in
+    let some_writes = length_claims r.writes.items in
+    record { reads = omega arith; writes = omega arith }
+
+runs_few : (rs : List Run) → AllByRecursion HasRoom rs → (seat : ℕ) → AreAtMost SEATS (table_of rs seat)
+runs_few [] rooms seat = record { reads = omega arith; writes = omega arith }
+runs_few (r ∷ rs) rooms zero = run_few r rooms.0
+runs_few (r ∷ rs) rooms (suc seat) = runs_few rs rooms.1 seat
+
+-- elements that stand in the place of others, as many as they are
+refill : {X : Type 0} (v : Vec X Global) (xs : List X) → length xs ≡ length v.items → (with_items v xs).items ≡ xs
+refill v xs same =
+    let len = v.ok.0 in
+    take-append-le v.len xs (drop (length xs) v.items) (omega arith) ∙ take_all v.len xs (omega arith)
+
+pub refilled : (v : Vec Run Global) (rs : List Run) → length rs ≡ length v.items → (with_items v rs).items ≡ rs
+refilled v rs same = refill v rs same
+
+pub refilled_heads : (v : Vec Head Global) (hs : List Head) → length hs ≡ length v.items → (with_items v hs).items ≡ hs
+refilled_heads v hs same = refill v hs same
+
+-- the same lengths by another name
+renamed : (by by' len : Claim → ℕ) → ((c : Claim) → by' c ≡ by c) → (m : Moment) → AreOf by len m → AreOf by' len m
+renamed by by' len is [] are = tt
+renamed by by' len is (x ∷ xs) are = (is x.claim ∙ are.0, renamed by by' len is xs are.1)
+
+module _ (a : Covers) (p : Past) (k : Knows a p) where
+  abbrev o : LockState
+  o = start_of p
+
+  abbrev es : List Event
+  es = p.events
+
+  abbrev m : Moment
+  m = (state_of p).claims
+
+  abbrev table : ℕ → Sections
+  table = table_of a.runs.items
+
+  pub reached : IsReached (state_of p)
+  reached = reached_after o es (reached_opening p.groups p.seats p.cap) k.accepted
+
+  seats_are : (state_of p).seats ≡ p.seats
+  seats_are = (sizes_after o es).seats
+
+  pub claims_few : length m ≤ 2 * SEATS
+  claims_few =
+      let few = few_claims (state_of p) reached.sound in
+      let are = seats_are in
+      let most = k.seats in
+      omega arith
+
+  seat_in : (x : Claimed) → Among x m → x.claim.seat < SEATS
+  seat_in x there =
+      let h = all_at (λ y. y.claim.seat < (state_of p).seats) m x reached.sound.seated there in
+      let are = seats_are in
+      let most = k.seats in
+      omega arith
+
+  pub seats_now : AllByRecursion (λ x. (x.claim.seat < length a.runs.items) × (x.claim.seat < length a.asks)) m
+  seats_now =
+      all_from (λ x. (x.claim.seat < length a.runs.items) × (x.claim.seat < length a.asks)) m
+      (λ x there. (subst (λ l. x.claim.seat < l) (sym k.room.seats) (seat_in x there), subst (λ l. x.claim.seat < l) (sym k.room.asks) (seat_in x there)))
+
+  pub seats_at : (l : ℕ) → l ≡ SEATS → AllByRecursion (λ x. x.claim.seat < l) m
+  seats_at l is = all_from (λ x. x.claim.seat < l) m (λ x there. subst (λ k. x.claim.seat < k) (sym is) (seat_in x there))
+
+  pub rising_now : EachPair Rises m
+  rising_now = reached.sound.well_formed.rising
+
+  pub one_each_now : EachPair Distinct m
+  one_each_now = reached.sound.one_each
+
+  above : (b : Sections) → AreAtMost p.cap b → AreAtMost SEATS b
+  above b few = let r = few.reads in let w = few.writes in let most = k.cap in record { reads = omega arith; writes = omega arith }
+
+  pub shown_few : AllByRecursion (λ x. (w : Which) → waits_in w m x ≡ true → AreAtMost SEATS (shown w x (table x.claim.seat) m)) m
+  shown_few =
+      all_from (λ x. (w : Which) → waits_in w m x ≡ true → AreAtMost SEATS (shown w x (table x.claim.seat) m)) m
+      (λ x there w on. above (shown w x (table x.claim.seat) m) (shown_at_most p.groups p.seats p.cap es k.accepted k.some_cap (table x.claim.seat) x there (k.tracked x there) w on))
+
+  pub asks_now : AllByRecursion (λ x. slice_index a.asks x.claim.seat ≡ asks_since x.claim.seat es) m
+  asks_now = all_from (λ x. slice_index a.asks x.claim.seat ≡ asks_since x.claim.seat es) m (λ x there. k.asks x.claim.seat (seat_in x there))
+
+  pub lengths_now : AreOf (length_by a.lengths) (length_in es) m
+  lengths_now = subst (λ (ds : List Event). AreOf (length_by a.lengths) (length_in ds) m) (append_none es) (k.lengths [])
+
+  pub long_now : AllByRecursion (AreLong (length_in es)) a.runs.items
+  long_now = subst (λ (ds : List Event). AllByRecursion (AreLong (length_in ds)) a.runs.items) (append_none es) (k.long [])
+
+  module _ (e : Event) (comes : Comes (state_of p) e) where
+    abbrev n : Moment
+    n = (next (state_of p) e).claims
+
+    seat_by : (s : LockState) (e : Event) → Comes s e → seat_of e < s.seats
+    seat_by s (Issue seat r) comes = comes.fits.seat_there
+    seat_by s (Finish seat) comes = comes.fits
+    seat_by s (Rise seat) comes = comes.fits
+    seat_by s (Ask seat part) comes = comes.fits.0
+
+    pub event_seat : seat_of e < SEATS
+    event_seat =
+        let h = seat_by (state_of p) e comes in
+        let are = seats_are in
+        let most = k.seats in
+        omega arith
+
+    reached_on : IsReached (next (state_of p) e)
+    reached_on = reached_next (state_of p) e reached comes
+
+    seat_in_next : (x : Claimed) → Among x n → x.claim.seat < SEATS
+    seat_in_next x there =
+        let h = all_at (λ y. y.claim.seat < (next (state_of p) e).seats) n x reached_on.sound.seated there in
+        let same = (sizes_next (state_of p) e).seats in
+        let are = seats_are in
+        let most = k.seats in
+        omega arith
+
+    pub seats_next_at : (l : ℕ) → l ≡ SEATS → AllByRecursion (λ x. x.claim.seat < l) n
+    seats_next_at l is = all_from (λ x. x.claim.seat < l) n (λ x there. subst (λ k. x.claim.seat < k) (sym is) (seat_in_next x there))
+
+    pub seats_next : AllByRecursion (λ x. x.claim.seat < length a.runs.items) n
+    seats_next = seats_next_at (length a.runs.items) k.room.seats
+
+    pub seats_both : (l l' : ℕ) → l ≡ SEATS → l' ≡ SEATS → AllByRecursion (λ x. (x.claim.seat < l) × (x.claim.seat < l')) n
+    seats_both l l' is is' =
+        all_from (λ x. (x.claim.seat < l) × (x.claim.seat < l')) n
+        (λ x there. (subst (λ k. x.claim.seat < k) (sym is) (seat_in_next x there), subst (λ k. x.claim.seat < k) (sym is') (seat_in_next x there)))
+
+    pub claims_few_next : length n ≤ 2 * SEATS
+    claims_few_next =
+        let few = few_claims (next (state_of p) e) reached_on.sound in
+        let same = (sizes_next (state_of p) e).seats in
+        let are = seats_are in
+        let most = k.seats in
+        omega arith
+
+    pub rising_next : EachPair Rises n
+    rising_next = reached_on.sound.well_formed.rising
+
+    pub one_each_next : EachPair Distinct n
+    one_each_next = reached_on.sound.one_each
+
+    -- a wait stood before the event, but for that of the upgrade that rises
+    pub stood_next : is_issue e ≡ false → AllByRecursion (StoodBy e m n) n
+    stood_next old =
+        all_from (StoodBy e m n) n
+        (λ x there. record {
+          first = λ on. stood_by p.groups p.seats p.cap es k.accepted e comes old First x there refl on;
+          rise = λ on. stood_by p.groups p.seats p.cap es k.accepted e comes old which.Rise x there refl on;
+        })
+
+    -- a wait that nothing is granted goes on
+    pub quiet_now : is_issue e ≡ false → AllByRecursion (GoesOn (seat_of e) (changes_between (state_of p) (next (state_of p) e)).grants m n) m
+    quiet_now old =
+        all_from (GoesOn (seat_of e) (changes_between (state_of p) (next (state_of p) e)).grants m n) m
+        (λ x there quiet. goes_on (state_of p) e reached comes old x there quiet)
+
+    -- heads that tell of both moments tell of each wait that goes on
+    pub heads_tell : (hs hs' : List Head) → TellHeads hs m → TellHeads hs' n → AllByRecursion (HeadsTell hs hs' m n) n
+    heads_tell hs hs' tells tells' =
+        all_from (HeadsTell hs hs' m n) n
+        (λ x there write w on stood.
+        let y = was_before p.groups p.seats p.cap es k.accepted e comes (waits_in w) x there stood in
+        let was = all_at (λ z. z.claim.write_half ≡ true → slice_get hs z.claim.seat ≡ Some (head_of m z.claim)) m y.0 tells y.1 (ap (λ d. d.write_half) y.2 ∙ write) in
+        let is = all_at (λ z. z.claim.write_half ≡ true → slice_get hs' z.claim.seat ≡ Some (head_of n z.claim)) n x tells' there write in
+        (subst (λ d. slice_get hs d.seat ≡ Some (head_of m d)) y.2 was, is))
+
+    pub apart_next : EachPair (WaitApart n) n
+    apart_next = waits_apart n n (λ x there. there) reached_on.sound.one_each
+
+    pub few_next : AllByRecursion (λ x. may_wait n x ≡ true → AreAtMost SEATS (kept_of m n (table x.claim.seat) x)) n
+    few_next = all_next_few p.groups p.seats p.cap es k.accepted k.some_cap k.cap e comes table k.tracked (runs_few a.runs.items k.room.runs)
+
+    module _ (by : Claim → ℕ) (is_noted : (c : Claim) → by c ≡ noted e (length_by a.lengths) c) where
+      pub lengths_stay_on : (rest : List Event) → AreOf by (length_in (es ++ e ∷ rest)) m
+      lengths_stay_on rest = renamed (noted e (length_by a.lengths)) by (length_in (es ++ e ∷ rest)) is_noted m (lengths_stay (state_of p) e (length_by a.lengths) (length_in (es ++ e ∷ rest)) comes (k.lengths (e ∷ rest)))
+
+      pub lengths_come : (rest : List Event) → AreOf by (length_in (es ++ e ∷ rest)) n
+      lengths_come rest = renamed (noted e (length_by a.lengths)) by (length_in (es ++ e ∷ rest)) is_noted n (lengths_next o es e refl reached comes (length_by a.lengths) rest (k.lengths (e ∷ rest)))
+
+    at_next : state_of (with_event p e) ≡ next (state_of p) e
+    at_next = after_append o es (e ∷ [])
+
+    behind : (rest : List Event) → es ++ e ∷ rest ≡ (es ++ e ∷ []) ++ rest
+    behind rest = sym (append_assoc es (e ∷ []) rest)
+
+    never_none : es ++ e ∷ [] ≡ [] → ⊥
+    never_none none = let h = ap (λ (l : List Event). length l) none in let some = length-append es (e ∷ []) in omega arith
+
+    pub known : (b : Covers) → b.machine.state ≡ next (state_of p) e → HaveRoom b
+        → AllByRecursion (λ x. may_wait n x ≡ true → table_of b.runs.items x.claim.seat ≡ kept_of m n (table x.claim.seat) x) n
+        → ((rest : List Event) → AllByRecursion (AreLong (length_in (es ++ e ∷ rest))) b.runs.items)
+        → ((c : Claim) → length_by b.lengths c ≡ noted e (length_by a.lengths) c)
+        → ((seat : ℕ) → seat < SEATS → slice_index b.asks seat ≡ count_ask seat (slice_index a.asks seat) e)
+        → b.ended.items ≡ told es m n table → Knows b (with_event p e)
+    known b state room kept long lengths asks ended = record {
+      accepted = accepted_push o es e k.accepted comes;
+      seats = k.seats;
+      some_cap = k.some_cap;
+      cap = k.cap;
+      state = state ∙ sym at_next;
+      tracked = tracked_next p.groups p.seats p.cap es k.accepted e comes table (table_of b.runs.items) k.tracked
+          (λ x there. kept_each m n table (table_of b.runs.items) x (all_at (λ x. may_wait n x ≡ true → table_of b.runs.items x.claim.seat ≡ kept_of m n (table x.claim.seat) x) n x kept there));
+      long = λ rest. subst (λ (ds : List Event). AllByRecursion (AreLong (length_in ds)) b.runs.items) (behind rest) (long rest);
+      lengths = λ rest.
+          subst (λ (z : List Event × LockState). AreOf (length_by b.lengths) (length_in z.0) z.1.claims) (λ i. (behind rest i, sym at_next i)) (lengths_come (length_by b.lengths) lengths rest);
+      asks = λ seat h. asks seat h ∙ ap (λ n. count_ask seat n e) (k.asks seat h) ∙ sym (asks_more seat es e);
+      room = room;
+      none = λ none. absurd (never_none none);
+      ended = λ before last is.
+          let ends = same_ends es before e last is in
+          ended ∙ told_are_ended p.groups p.seats p.cap es k.accepted table k.tracked e ∙ (λ i. ended_by o (ends.0 i) (ends.1 i));
+    }
+
+-- ---- before the first event
+
+empty_claims : (len : Claim → ℕ) (ss : List Section) → claims_of ss ≡ [] → AllByRecursion (λ s. s.len ≡ len s.claim) ss
+empty_claims len [] none = tt
+empty_claims len (s ∷ ss) none = cc
+
+pub empty_long : (rs : List Run) → AllByRecursion IsEmpty rs → (len : Claim → ℕ) → AllByRecursion (AreLong len) rs
+empty_long [] none len = tt
+empty_long (r ∷ rs) none len =
+    (record { reads = empty_claims len r.reads.items (ap (λ (b : Sections). b.reads) none.0); writes = empty_claims len r.writes.items (ap (λ (b : Sections). b.writes) none.0) }, empty_long rs none.1 len)
+
+pub known_first : (groups : ReadGroups) (seats cap : ℕ) (a : Covers) → seats ≤ SEATS → (1 ≤ cap) × (cap ≤ SEATS) → a.machine.state ≡ opening groups seats cap → HaveRoom a
+    → ((len : Claim → ℕ) → AllByRecursion (AreLong len) a.runs.items) → ((seat : ℕ) → seat < SEATS → slice_index a.asks seat ≡ 0) → a.ended.items ≡ [] → Knows a (begun groups seats cap)
+known_first groups seats cap a most some state room long asks none = record {
+  accepted = tt;
+  seats = most;
+  some_cap = some.0;
+  cap = some.1;
+  state = state;
+  tracked = tracked_opening groups seats cap (table_of a.runs.items);
+  long = λ rest. long (length_in rest);
+  lengths = λ rest. tt;
+  asks = asks;
+  room = room;
+  none = λ _. none;
+  ended = λ before last is. absurd (some_event before last is);
+}
+  where
+    some_event : (before : List Event) (last : Event) → [] ≡ before ++ last ∷ [] → ⊥
+    some_event before last is = let h = ap (λ (l : List Event). length l) is in let more = length-append before (last ∷ []) in omega arith

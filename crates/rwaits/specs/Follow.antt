@@ -1,0 +1,84 @@
+-- How the covers of all waits are kept, a run for each seat.
+use Rattle.std.specs.Prelude.{◌≡◌, ◌≢◌, ◌==◌, ℕ, Bool, true, false, ◌&&◌, ◌||◌, Option, Some, None, List, map, slice_get, vec_capacity, if◌then◌else◌}
+use Rattle.std.specs.List.{AllByRecursion}
+use Rattle.rset.specs.declared.TheConstants.{SEATS}
+use Rattle.rclaim.specs.declared.claim.Claim.{Claim}
+use Rattle.rmodel.specs.Claims.{is_upgrade}
+use Rattle.rmodel.specs.declared.claimed.Claimed.{Claimed}
+use Rattle.rwaits.specs.declared.section.Section.{Section}
+use Rattle.rwaits.specs.declared.section.Lengths.{Lengths}
+use Rattle.rwaits.specs.declared.run.Run.{Run}
+use Rattle.rcover.specs.Moments.{Moment}
+use Rattle.rcover.specs.Sections.{Sections}
+use Rattle.rcover.specs.Told.{waits_first, waits_to_rise}
+use Rattle.rwaits.specs.Tracked.{no_sections, kept_by}
+
+-- the claims of sections
+abbrev pub claims_of : List Section → List Claim
+claims_of ss = map (λ s. s.claim) ss
+
+-- what a run keeps of a wait
+abbrev pub kept_in : Run → Sections
+kept_in r = record { reads = claims_of r.reads.items; writes = claims_of r.writes.items }
+
+abbrev pub kept_if : Option Run → Sections
+kept_if None = no_sections
+kept_if (Some r) = kept_in r
+
+-- what runs keep, for each seat
+abbrev pub table_of : List Run → ℕ → Sections
+table_of rs seat = kept_if (slice_get rs seat)
+
+-- the length of the section of a claim, by the lengths of the requests of seats
+abbrev pub length_if : Option Lengths → Claim → ℕ
+length_if None c = 0
+length_if (Some l) c = if is_upgrade c.kind && c.write_half then l.later else l.len
+
+abbrev pub length_by : List Lengths → Claim → ℕ
+length_by ls c = length_if (slice_get ls c.seat) c
+
+-- sections have their lengths
+abbrev pub HaveLengths : (Claim → ℕ) → List Section → Type 0
+HaveLengths len ss = AllByRecursion (λ s. s.len ≡ len s.claim) ss
+
+-- a run has its room, and its sections have their lengths
+pub record HasRoom (r : Run) : Type 0 where
+  pub reads : vec_capacity r.reads ≡ SEATS
+  pub writes : vec_capacity r.writes ≡ SEATS
+
+-- the claims at a moment have these lengths
+abbrev pub AreOf : (Claim → ℕ) → (Claim → ℕ) → Moment → Type 0
+AreOf by len m = AllByRecursion (λ x. by x.claim ≡ len x.claim) m
+
+-- the sections of a run have their lengths
+pub record AreLong (len : Claim → ℕ) (r : Run) : Type 0 where
+  pub reads : HaveLengths len r.reads.items
+  pub writes : HaveLengths len r.writes.items
+
+-- a claim waits at a moment, before it holds anything or to rise
+abbrev pub may_wait : Moment → Claimed → Bool
+may_wait n x = waits_first n x || waits_to_rise n x
+
+-- two claims that wait are of two seats
+abbrev pub WaitApart : Moment → Claimed → Claimed → Type 0
+WaitApart n x y = may_wait n x ≡ true → may_wait n y ≡ true → x.claim.seat ≢ y.claim.seat
+
+-- no claim waits both ways
+abbrev pub WaitsOnce : Moment → Claimed → Type 0
+WaitsOnce n x = waits_first n x ≡ true → waits_to_rise n x ≡ false
+
+-- what is kept of the wait of a claim at a moment n behind m, whichever it is
+abbrev pub kept_of : Moment → Moment → Sections → Claimed → Sections
+kept_of m n a x = if waits_first n x then kept_by waits_first x.claim a m n else kept_by waits_to_rise x.claim a m n
+
+-- a table with another entry for a seat
+abbrev pub with_entry : (ℕ → Sections) → ℕ → Sections → ℕ → Sections
+with_entry table seat a other = if other == seat then a else table other
+
+-- the table once one claim of a moment n behind m is looked at
+abbrev pub kept_with : Moment → Moment → (ℕ → Sections) → Claimed → (ℕ → Sections)
+kept_with m n table x = if may_wait n x then with_entry table x.claim.seat (kept_of m n (table x.claim.seat) x) else table
+
+-- a run keeps nothing
+abbrev pub IsEmpty : Run → Type 0
+IsEmpty r = kept_in r ≡ no_sections

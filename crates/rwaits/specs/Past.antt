@@ -1,0 +1,68 @@
+-- The events that covers were told.
+use Rattle.std.specs.Prelude.{◌≡◌, ℕ, ◌==◌, Bool, true, false, not, List, [], ◌∷◌, ◌++◌, if◌then◌else◌}
+use Rattle.rexpand.specs.Groups.{ReadGroups}
+use Rattle.rclaim.specs.declared.claim.Claim.{Claim}
+use Rattle.rclaim.specs.declared.event.Event.{Event}
+use Rattle.rclaim.specs.declared.event.Event.TheVariants.{Issue, Finish, Rise, Ask}
+use Rattle.rmodel.specs.State.{LockState, opening}
+use Rattle.rmodel.specs.Steps.{after}
+use Rattle.rbound.specs.Needs.{length_of}
+use Rattle.rcover.specs.Ended.{ended_by}
+use Rattle.rcover.specs.Moments.{Moment, moments}
+use Rattle.rcover.specs.Told.{waits_first, waits_to_rise, stands}
+use Rattle.rmodel.specs.declared.claimed.Claimed.{Claimed}
+use Rattle.rcover.specs.declared.wait_end.WaitEnd.{WaitEnd}
+
+-- the groups, the number of seats, the cap, and the events one after another
+pub record Past : Type 0 where
+  pub groups : ReadGroups
+  pub seats : ℕ
+  pub cap : ℕ
+  pub events : List Event
+
+-- before the first event
+abbrev pub begun : ReadGroups → ℕ → ℕ → Past
+begun groups seats cap = record { groups = groups; seats = seats; cap = cap; events = [] }
+
+abbrev pub with_event : Past → Event → Past
+with_event p e = record { groups = p.groups; seats = p.seats; cap = p.cap; events = p.events ++ e ∷ [] }
+
+-- the state before the first event, and that after the last
+abbrev pub start_of : Past → LockState
+start_of p = opening p.groups p.seats p.cap
+
+abbrev pub state_of : Past → LockState
+state_of p = after (start_of p) p.events
+
+-- the moments so far
+abbrev pub moments_of : Past → List Moment
+moments_of p = moments (start_of p) p.events
+
+-- these are the waits that the last event ended
+abbrev pub AreLastEnded : Past → List WaitEnd → Type 0
+AreLastEnded p ends = (before : List Event) (last : Event) → p.events ≡ before ++ last ∷ [] → ends ≡ ended_by (start_of p) before last
+
+-- the lengths of claims by the last request of each seat, once an event came
+abbrev pub noted : Event → (Claim → ℕ) → Claim → ℕ
+noted (Issue seat r) by c = if c.seat == seat then length_of r c else by c
+noted (Finish seat) by c = by c
+noted (Rise seat) by c = by c
+noted (Ask seat part) by c = by c
+
+abbrev pub is_issue : Event → Bool
+is_issue (Issue seat r) = true
+is_issue (Finish seat) = false
+is_issue (Rise seat) = false
+is_issue (Ask seat part) = false
+
+-- the upgrade of a seat rises by an event
+abbrev pub rises_at : Event → ℕ → Bool
+rises_at (Issue t r) seat = false
+rises_at (Finish t) seat = false
+rises_at (Rise t) seat = t == seat
+rises_at (Ask t part) seat = false
+
+-- a wait of a claim after an event stood before it, but for that of the upgrade that rises
+pub record StoodBy (e : Event) (m n : Moment) (x : Claimed) : Type 0 where
+  pub first : waits_first n x ≡ true → stands waits_first x.claim m ≡ not (rises_at e x.claim.seat)
+  pub rise : waits_to_rise n x ≡ true → stands waits_to_rise x.claim m ≡ not (rises_at e x.claim.seat)

@@ -1,0 +1,15 @@
+//! The waits of a lock, kept event by event: once an event ends some, they are told with the numbers of their covers.
+//!
+//! [`Covers`] keeps of each wait what its cover needs, and no list of events.
+#![tactic(auto)]
+
+mod covers;
+mod follow;
+mod lines;
+mod noted;
+mod run;
+mod section;
+mod show;
+mod tell;
+
+pub use covers::Covers;

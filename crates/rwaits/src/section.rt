@@ -1,0 +1,113 @@
+// A section that is kept, with its length.
+ghost use Rattle.std.specs.Prelude.{◌≡◌, ◌≤◌, ◌<◌, ◌++◌, ◌∷◌, [], ℕ, ◌^◌, IfSome, length, vec_capacity};
+ghost use Rattle.rclaim.specs.declared.claim.Claim.{Claim};
+ghost use Rattle.rwaits.specs.Follow.{claims_of, length_by, HaveLengths};
+ghost use Rattle.rcover.specs.Lists.{with_different, with_option};
+ghost use Rattle.std.specs.List.{list_any, sum_by};
+ghost use Rattle.rset.specs.declared.TheConstants.{SEATS};
+ghost use Rattle.rcover.specs.Moments.{is_claim};
+
+use rclaim::Claim;
+use rcover::is_claim;
+use rmodel::is_upgrade;
+
+/// A section of a wait, with its length.
+#[derive(Clone, Copy)]
+pub(crate) struct Section {
+    pub(crate) claim: Claim,
+    pub(crate) len: u32,
+}
+
+/// The lengths of the last request of a seat.
+#[derive(Clone, Copy)]
+pub(crate) struct Lengths {
+    pub(crate) len: u32,
+    pub(crate) later: u32,
+}
+
+/// The length of the section of a claim, by the lengths of the requests of seats.
+pub(crate) fn length_by(lengths: &[Lengths], c: &Claim) -> u32
+    ensures { result ≡ length_by lengths.now c.now }
+{
+    match lengths.get(c.seat as usize) {
+        Some(by) => {
+            if is_upgrade(c.kind) && c.write_half {
+                by.later
+            } else {
+                by.len
+            }
+        }
+        None => 0,
+    }
+}
+
+/// Whether the section of a claim is among these.
+fn has_section(sections: &[Section], d: &Claim) -> bool
+    ensures { result ≡ list_any (λ s. is_claim s.claim d.now) sections.now }
+{
+    sections.iter().any(|s| is_claim(&s.claim, d))
+}
+
+/// Adds the section of a claim.
+pub(crate) fn push_section(sections: &mut Vec<Section>, lengths: &[Lengths], d: &Claim)
+    requires { length sections.old.items < vec_capacity sections.old }
+    ensures claims { claims_of sections.new.items ≡ claims_of sections.old.items ++ d.now ∷ [] }
+    ensures capacity { vec_capacity sections.new ≡ vec_capacity sections.old }
+    ensures lengths { (len : Claim → ℕ) → length_by lengths.now d.now ≡ len d.now → HaveLengths len sections.old.items → HaveLengths len sections.new.items }
+{
+    sections.push_reserved(Section {
+        claim: *d,
+        len: length_by(lengths, d),
+    });
+}
+
+/// Adds the section of a claim, if it is not there.
+fn add_section(sections: &mut Vec<Section>, lengths: &[Lengths], d: &Claim)
+    requires { length (with_different (claims_of sections.old.items) d.now) ≤ vec_capacity sections.old }
+    ensures claims { claims_of sections.new.items ≡ with_different (claims_of sections.old.items) d.now }
+    ensures capacity { vec_capacity sections.new ≡ vec_capacity sections.old }
+    ensures lengths { (len : Claim → ℕ) → length_by lengths.now d.now ≡ len d.now → HaveLengths len sections.old.items → HaveLengths len sections.new.items }
+{
+    if has_section(sections, d) {
+        return;
+    }
+    push_section(sections, lengths, d);
+}
+
+/// Adds the section of the claim that there may be, if it is not there.
+pub(crate) fn add_found(sections: &mut Vec<Section>, lengths: &[Lengths], found: Option<Claim>)
+    requires { length (with_option (claims_of sections.old.items) found) ≤ vec_capacity sections.old }
+    ensures claims { claims_of sections.new.items ≡ with_option (claims_of sections.old.items) found }
+    ensures capacity { vec_capacity sections.new ≡ vec_capacity sections.old }
+    ensures lengths { (len : Claim → ℕ) → IfSome found (λ d. length_by lengths.now d ≡ len d) → HaveLengths len sections.old.items → HaveLengths len sections.new.items }
+{
+    match found {
+        Some(d) => add_section(sections, lengths, &d),
+        None => {}
+    }
+}
+
+/// Makes sections a copy of others, in the room that they have.
+pub(crate) fn copy_sections(to: &mut Vec<Section>, from: &[Section])
+    requires { length from.now ≤ vec_capacity to.old }
+    ensures items { to.new.items ≡ from.now }
+    ensures capacity { vec_capacity to.new ≡ vec_capacity to.old }
+{
+    to.clear();
+    for s in from {
+        to.push_reserved(*s);
+    }
+}
+
+/// The sum of the lengths of sections.
+pub(crate) fn sum_of(sections: &[Section]) -> u64
+    requires { length sections.now ≤ SEATS }
+    ensures value { result ≡ sum_by (λ s. s.len) sections.now }
+    ensures bound { result ≤ 2 ^ 40 }
+{
+    let mut sum = 0;
+    for s in sections {
+        sum += s.len as u64;
+    }
+    sum
+}
