@@ -1,5 +1,6 @@
 //! The program `rnlp`: its handles alone. What it does stands in `redge`.
 #![tactic(auto)]
+
 ghost use Rattle.std.specs.Prelude.{◌≡◌, [], List, IfOk, OnErr};
 ghost use Rattle.std.specs.Process.{exit_status};
 ghost use Rattle.rforms.specs.Reports.{Entry};

@@ -17,7 +17,12 @@ use rtrace::{Counting, count_events};
 use std::alloc::{AllocError, Global};
 
 /// Checks a report, and writes how many events it has.
-pub fn audit<K: Sink>(alloc: Global, bytes: &[u8], sink: &mut K, told: &mut Option<Told>) -> ToolStatus
+pub fn audit<K: Sink>(
+    alloc: Global,
+    bytes: &[u8],
+    sink: &mut K,
+    told: &mut Option<Told>,
+) -> ToolStatus
     ensures { (watchers : List Seen) → IsAnswer watchers (Some Audit) bytes.now (K.written sink.old) (K.written sink.new) (K.faults sink.new ≡ K.faults sink.old) (Rose (K.faults sink.old) (K.faults sink.new)) (sink.new ≡ sink.old) result }
 {
     let mut counting = Counting::new(alloc);

@@ -63,10 +63,6 @@ may_wait n x = waits_first n x || waits_to_rise n x
 abbrev pub WaitApart : Moment → Claimed → Claimed → Type 0
 WaitApart n x y = may_wait n x ≡ true → may_wait n y ≡ true → x.claim.seat ≢ y.claim.seat
 
--- no claim waits both ways
-abbrev pub WaitsOnce : Moment → Claimed → Type 0
-WaitsOnce n x = waits_first n x ≡ true → waits_to_rise n x ≡ false
-
 -- what is kept of the wait of a claim at a moment n behind m, whichever it is
 abbrev pub kept_of : Moment → Moment → Sections → Claimed → Sections
 kept_of m n a x = if waits_first n x then kept_by waits_first x.claim a m n else kept_by waits_to_rise x.claim a m n

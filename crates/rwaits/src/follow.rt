@@ -5,7 +5,7 @@ ghost use Rattle.rclaim.specs.declared.claim.Claim.{Claim};
 ghost use Rattle.rset.specs.declared.TheConstants.{SEATS};
 ghost use Rattle.rmodel.specs.WellFormed.{EachPair, Rises};
 ghost use Rattle.rcover.specs.Ended.{waits_in};
-ghost use Rattle.rwaits.specs.Follow.{table_of, kept_if, length_by, HasRoom, AreLong, AreOf, WaitApart, WaitsOnce, may_wait, kept_of, with_entry, kept_with};
+ghost use Rattle.rwaits.specs.Follow.{table_of, length_by, HasRoom, AreLong, AreOf, WaitApart, may_wait, kept_of, with_entry, kept_with};
 ghost use Rattle.rcover.specs.Lists.{AreAtMost};
 ghost use Rattle.rcover.specs.Told.{stands};
 ghost use Rattle.rwaits.specs.Lines.{HeadsTell};

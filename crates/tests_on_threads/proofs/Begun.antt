@@ -1,8 +1,8 @@
 -- What a seat may do in a section of a nested request or of an upgrade, by its own entries.
-use Rattle.std.proofs.Common.{◌≡◌, ℕ, ◌<◌, ◌==◌, ◌||◌, ◌&&◌, nat_lt, Bool, true, false, cond, List, [], ◌∷◌, ◌++◌, Option, Some, None, refl, sym, ap, subst, ◌∙◌, append-nil}
+use Rattle.std.proofs.Common.{◌≡◌, ℕ, ◌<◌, ◌==◌, ◌&&◌, nat_lt, Bool, true, false, List, [], ◌∷◌, Option, None, refl, sym, ap, subst, ◌∙◌, append-nil}
 use Rattle.std.proofs.lemmas.Bool.{true≢false, eq-eqb, eqb-true, and_from, or_left, or_right}
 use Rattle.std.proofs.lemmas.List.Sums.{fold-append}
-use Rattle.std.specs.FinSet.{empty, insert, union, difference, intersection, contains, len}
+use Rattle.std.specs.FinSet.{empty, union, intersection, contains, len}
 use Rattle.rset.specs.Sets.{Set, all_below}
 use Rattle.rset.specs.declared.TheConstants.{RESOURCES}
 use Rattle.rset.proofs.SetLemmas.{contains_insert, contains_union, contains_intersection, within_empty, insert_within, all_below_empty, all_below_union, all_below_difference, all_below_insert}
@@ -14,13 +14,13 @@ use Rattle.rmodel.proofs.ListFacts.{any_among, passing}
 use Rattle.rlock.specs.Known.{Site}
 use Rattle.rvalue.specs.Entries.{EntryFields}
 use Rattle.rvalue.specs.declared.act.Act.{Act}
-use Rattle.rstate.specs.Histories.{Beginning, lock_after}
+use Rattle.rstate.specs.Histories.{lock_after}
 use Rattle.rscript.specs.Statements.{begun, with_asked, with_risen}
 use Rattle.rscript.specs.declared.section.Section.{Section}
 use Rattle.rguard.specs.declared.guard.Guard.{Guard}
 use Rattle.rguard.specs.declared.guard.Guard.TheVariants.{Nest}
 use Rattle.rguard.specs.declared.guard.Guard.TheVariants as guards
-use Rattle.rguard.specs.Guards.{GuardFields, HasSeenLawful, HasSeenOwn, Holding, HoldingToWrite, IsPartOf, IsReady}
+use Rattle.rguard.specs.Guards.{GuardFields, HasSeenLawful, HasSeenOwn, HoldingToWrite, IsPartOf, IsReady}
 use Rattle.rguard.specs.Looks.{HasAcquired}
 use Rattle.rguard.specs.Resting.{IsAt, HoldsAll, MayWriteAll, all_with}
 use Rattle.rguard.proofs.Resting.{is_inside_itself, suits}

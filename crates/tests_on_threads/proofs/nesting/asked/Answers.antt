@@ -3,7 +3,6 @@ use Rattle.rset.specs.Sets.{Set}
 use Rattle.rclaim.specs.declared.event.Event.TheVariants.{Ask}
 use Rattle.rguard.specs.Guards.{IsPartOf}
 use Rattle.rguard.specs.Seats.{Goes, bare}
-use Rattle.rvalue.specs.declared.ledger.Edit.{Edit}
 use Rattle.rvalue.specs.declared.ledger.Ledger.{Ledger}
 use Rattle.rvalue.specs.Ledgers.{value_after, is_taken}
 use Rattle.tests_on_threads.specs.Begun.{nesting}

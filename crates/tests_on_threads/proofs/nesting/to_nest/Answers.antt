@@ -1,10 +1,8 @@
 use Rattle.std.proofs.Common.{◌≡◌, sym, subst, ◌∙◌}
 use Rattle.std.specs.FinSet.{union}
-use Rattle.rset.specs.Sets.{Set}
 use Rattle.rclaim.specs.Requests.{RequestFields, normalised}
 use Rattle.rclaim.specs.declared.request.Kind.TheVariants as kinds
 use Rattle.rguard.specs.Seats.{SuitsSeat}
-use Rattle.rvalue.specs.declared.ledger.Edit.{Edit}
 use Rattle.rvalue.specs.declared.ledger.Ledger.{Ledger}
 use Rattle.rvalue.specs.Ledgers.{value_after, is_taken}
 use Rattle.tests_on_threads.specs.Begun.{nesting, HasBegunLast}

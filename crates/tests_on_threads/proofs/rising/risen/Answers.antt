@@ -1,4 +1,3 @@
-use Rattle.rvalue.specs.declared.ledger.Edit.{Edit}
 use Rattle.rvalue.specs.declared.ledger.Ledger.{Ledger}
 use Rattle.rvalue.specs.Ledgers.{value_after, is_taken}
 use Rattle.tests_on_threads.proofs.Begun.{risen_writes}

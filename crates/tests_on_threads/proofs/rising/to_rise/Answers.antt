@@ -1,7 +1,6 @@
 use Rattle.std.proofs.Common.{sym, subst}
 use Rattle.rclaim.specs.Requests.{RequestFields}
 use Rattle.rguard.specs.Seats.{SuitsSeat}
-use Rattle.rvalue.specs.declared.ledger.Edit.{Edit}
 use Rattle.rvalue.specs.declared.ledger.Ledger.{Ledger}
 use Rattle.rvalue.specs.Ledgers.{value_after, is_taken}
 use Rattle.tests_on_threads.specs.Begun.{HasBegunLast}
