@@ -263,6 +263,25 @@ fn reads_between(alloc: Global) -> Result<bool, Fail> {
     )
 }
 
+// A read and a write wait for the same write.
+fn both_wait(alloc: Global) -> Result<bool, Fail> {
+    let read = end(1, 1, Which::First, (0, 1, 2));
+    let write = end(2, 2, Which::First, (0, 1, 2));
+    let both = Turn {
+        second: Some(write),
+        ..ends(0, read)
+    };
+    are_right(
+        alloc,
+        &[
+            issues(0, Kind::Write, &[], &[3, 4], 2, 0),
+            issues(1, Kind::Read, &[3], &[], 1, 0),
+            issues(2, Kind::Write, &[], &[4], 1, 0),
+            both,
+        ],
+    )
+}
+
 // A mixed section holds up a write by its reading.
 fn reading_beside(alloc: Global) -> Result<bool, Fail> {
     are_right(
@@ -347,7 +366,7 @@ fn leaves(alloc: Global) -> Result<bool, Fail> {
 fn covers_are_those_worked_by_hand(rt: HostRuntime) -> Result<(), Fail> {
     let alloc = rt.alloc();
     let writes = phases(alloc)? && places(alloc)? && reads_between(alloc)?;
-    let lines = reading_beside(alloc)? && line_changes(alloc)?;
+    let lines = both_wait(alloc)? && reading_beside(alloc)? && line_changes(alloc)?;
     let upgrades = stays(alloc)? && rises(alloc)?;
     assert!(rt; writes && lines && upgrades && asks(alloc)? && leaves(alloc)?);
     Ok(())
