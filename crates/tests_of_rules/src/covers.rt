@@ -46,7 +46,7 @@ struct Turn {
 
 // A story of four seats with no event, in which the resources 0 and 1 are declared together, and 1 and 2.
 fn begin(alloc: Global) -> Result<Story, Fail>
-    ensures { IfOk result IsStory }
+    ensures { IfOk result (λ story. IsStory story.groups story.seats story.events.items story.machine.state) }
 {
     let mut groups = Groups::new(alloc, RESOURCES as u8)?;
     let (first, second) = (set(&[0, 1]), set(&[1, 2]));
@@ -75,9 +75,9 @@ fn set(members: &[u8]) -> ResourceSet {
 
 // One more event.
 fn step(story: &mut Story, event: &Event) -> Result<(), Fail>
-    requires story { IsStory story.old }
+    requires story { IsStory story.old.groups story.old.seats story.old.events.items story.old.machine.state }
     requires fits { Fits story.old.machine.state event.now }
-    ensures { OnOk result (IsStory story.new) }
+    ensures { OnOk result (IsStory story.new.groups story.new.seats story.new.events.items story.new.machine.state) }
 {
     story.machine.step(*event)?;
     story.events.push(*event)?;
@@ -93,8 +93,8 @@ fn issue(
     writes: ResourceSet,
     lengths: (u32, u32),
 ) -> Result<(), Fail>
-    requires { IsStory story.old }
-    ensures { OnOk result (IsStory story.new) }
+    requires { IsStory story.old.groups story.old.seats story.old.events.items story.old.machine.state }
+    ensures { OnOk result (IsStory story.new.groups story.new.seats story.new.events.items story.new.machine.state) }
 {
     let (len, later) = lengths;
     if len > 9 || later > 9 {
@@ -111,8 +111,8 @@ fn issue(
 
 // A seat makes a move.
 fn make(story: &mut Story, seat: u8, makes: Move) -> Result<(), Fail>
-    requires { IsStory story.old }
-    ensures { OnOk result (IsStory story.new) }
+    requires { IsStory story.old.groups story.old.seats story.old.events.items story.old.machine.state }
+    ensures { OnOk result (IsStory story.new.groups story.new.seats story.new.events.items story.new.machine.state) }
 {
     if seat >= story.machine.seats() {
         return Err(Fail::from("the seat is out of range"));
@@ -129,8 +129,8 @@ fn make(story: &mut Story, seat: u8, makes: Move) -> Result<(), Fail>
 
 // A nested request asks for a part.
 fn ask(story: &mut Story, seat: u8, set: ResourceSet) -> Result<(), Fail>
-    requires { IsStory story.old }
-    ensures { OnOk result (IsStory story.new) }
+    requires { IsStory story.old.groups story.old.seats story.old.events.items story.old.machine.state }
+    ensures { OnOk result (IsStory story.new.groups story.new.seats story.new.events.items story.new.machine.state) }
 {
     let _ = set.len();
     if seat >= story.machine.seats() {
@@ -150,7 +150,7 @@ fn are_just(found: &[WaitEnd], turn: &Turn) -> bool {
 
 // Whether the last event ended just the waits that a turn has to end.
 fn is_right(alloc: Global, story: &Story, turn: &Turn) -> Result<bool, Fail>
-    requires { IsStory story.now }
+    requires { IsStory story.now.groups story.now.seats story.now.events.items story.now.machine.state }
 {
     let found = plain_cover(
         alloc,
@@ -164,7 +164,7 @@ fn is_right(alloc: Global, story: &Story, turn: &Turn) -> Result<bool, Fail>
 
 // Plays the turns, and tells whether each ended just the waits that it has to end.
 fn play(alloc: Global, story: &mut Story, turns: &[Turn]) -> Result<bool, Fail>
-    requires { IsStory story.old }
+    requires { IsStory story.old.groups story.old.seats story.old.events.items story.old.machine.state }
 {
     for turn in turns {
         make(story, turn.seat, turn.makes)?;
