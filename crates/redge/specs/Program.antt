@@ -35,7 +35,7 @@ module _ {S K : Type 0} (left : S → Option (List ℕ)) (reads : S → ℕ) (wr
   pub record AnsweredUnwatched (on_terminal : Bool) (words : List (List ℕ)) (source source_after : S) (sink sink_after : K) (receipts receipts_after : List (List Entry)) (watchers watchers_after : List Seen) (answer : ToolStatus) : Type 0 where
     pub unshown : on_terminal ≡ false
     pub replay : command_in words ≡ Some Replay
-    pub answered : ProgramAnswer words source source_after sink sink_after receipts receipts_after [] [] answer
+    pub answered : (heard : List Seen) × ProgramAnswer words source source_after sink sink_after receipts receipts_after [] heard answer
     pub untold : watchers_after ≡ watchers
 
   -- what the program answers to words, which shows what is counted of a replay on a terminal alone

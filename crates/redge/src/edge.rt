@@ -7,7 +7,6 @@ ghost use Rattle.ranswer.specs.declared.command.Command.TheVariants.{Replay};
 ghost use Rattle.redge.specs.Program.{ProgramAnswer, RunAnswer, ShownAnswer};
 
 use crate::explain::explain;
-use crate::nobody::Nobody;
 use crate::own::own_text;
 use io_ends::{Sink, Source};
 use ranswer::{ToolStatus, are_for_run, write_output};
@@ -15,7 +14,7 @@ use rguard::Receipt;
 use rnlp_cli::{Told, told_run, told_tool};
 use rrun::Pace;
 use rvalue::Edit;
-use rwatch::Audience;
+use rwatch::{Audience, Watchers};
 use std::alloc::Global;
 use std::env;
 use std::io::ErrorKind;
@@ -86,7 +85,7 @@ fn shown_answer<R: AllocGlobal + Threads + Wait + Sync, S: Source, K: Sink, G: P
             rt, alloc, words, source, sink, pace, receipts, audience, told,
         )
     } else {
-        let nobody = &mut Nobody;
+        let nobody = &mut Watchers::new(Vec::new(alloc));
         told_answer(rt, alloc, words, source, sink, pace, receipts, nobody, told)
     }
 }

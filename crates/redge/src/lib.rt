@@ -6,7 +6,6 @@
 
 mod edge;
 mod explain;
-mod nobody;
 mod own;
 
 pub use edge::{answer, run, words_of};

@@ -1,4 +1,4 @@
-use Rattle.std.proofs.Common.{inl, inr, refl}
+use Rattle.std.proofs.Common.{inl}
 use Rattle.redge.proofs.edge.shown_answer.Goals as goal
 
 pub returns-then-not-ask_for_replay : goal.returns-then-not-ask_for_replay
