@@ -4,8 +4,8 @@ use Rattle.rbound.specs.Bounds.{largest}
 
 -- the greatest sum of so many, of one length and of those that a row has: with that length and one fewer of the others, or without it
 abbrev pub with_length : ℕ → List ℕ → ℕ → ℕ
-with_length len row zero = slice_index row 0
-with_length len row (suc j) = max (len + slice_index row j) (slice_index row (suc j))
+with_length len sums zero = slice_index sums 0
+with_length len sums (suc j) = max (len + slice_index sums j) (slice_index sums (suc j))
 
 -- a row has the greatest sums of these lengths
 abbrev pub IsRow : List ℕ → List ℕ → Type 0

@@ -104,7 +104,7 @@ impl NameRows {
         self.tasks.len() as u8
     }
 
-    // Puts the name of a task; nothing where there is none.
+    /// Puts the name of a task at a place of a page, and answers where it ends; nothing where there is no such task.
     #[inline]
     pub fn put_task(&self, page: &mut [u8], at: usize, seat: u8) -> usize
         requires { at + LONGEST_NAME ≤ length page.old }
@@ -114,7 +114,7 @@ impl NameRows {
         put_name_at(page, at, &self.tasks, seat)
     }
 
-    // Puts the name of a resource; nothing where there is none.
+    /// Puts the name of a resource at a place of a page, and answers where it ends; nothing where there is no such resource.
     #[inline]
     pub fn put_resource(&self, page: &mut [u8], at: usize, place: u8) -> usize
         requires { at + LONGEST_NAME ≤ length page.old }

@@ -66,7 +66,7 @@ fn begin_of(resources: &NameTable, kind: Kind, fields: &ByteRecord) -> Result<St
     }
 }
 
-// The code of a request that is refused.
+/// The code of a request that is refused.
 pub fn request_code(cause: RequestErr) -> Code
     ensures { result ≡ request_code cause }
 {

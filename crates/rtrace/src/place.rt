@@ -11,24 +11,35 @@ use rforms::Code;
 use rmodel::Machine;
 
 // The places of records, as `rforms` numbers them: where the last one stands, in the order in which they may stand.
+
+/// Nothing was read.
 pub const AT_START: u8 = 0;
 
+/// The version was read.
 pub const AT_VERSION: u8 = 1;
 
+/// The last record declares a resource.
 pub const AT_RESOURCES: u8 = 2;
 
+/// The last record declares a group.
 pub const AT_GROUPS: u8 = 3;
 
+/// The last record declares a task.
 pub const AT_TASKS: u8 = 4;
 
+/// The last record tells the cap.
 pub const AT_CAP: u8 = 5;
 
+/// Acts may follow.
 pub const AT_ACTS: u8 = 6;
 
+/// No act may follow until the next event.
 pub const AT_CHANGES: u8 = 7;
 
+/// The last record is a ledger.
 pub const AT_LEDGERS: u8 = 8;
 
+/// The end was read.
 pub const AT_END: u8 = 9;
 
 impl Reading {
