@@ -1,7 +1,7 @@
-// The calls of a device in memory: how many were made, which of them fail, and how many failed.
-ghost use Rattle.std.specs.Prelude.{◌≡◌, ◌↔◌, IsTrue, [], ◌∷◌};
+// The calls of a device in memory: how many were made, which of them fail, how many failed, and how many bytes go in one.
+ghost use Rattle.std.specs.Prelude.{◌≡◌, ◌≤◌, ◌<◌, ◌↔◌, IsTrue, [], ◌∷◌};
 ghost use Rattle.io_ends.specs.Faults.{one_more};
-ghost use Rattle.io_ends.specs.Memory.{NextFails};
+ghost use Rattle.io_ends.specs.Memory.{NextFails, GoesOn, at_most};
 
 use crate::Failed;
 
@@ -50,5 +50,18 @@ fn is_next(numbers: &[u64], made: u64) -> bool
     match made.checked_add(1) {
         Some(number) => numbers.contains(&number),
         None => false,
+    }
+}
+
+// So many bytes, but no more than go in one call.
+pub(crate) fn at_most(most: Option<usize>, n: usize) -> usize
+    requires { GoesOn most }
+    ensures value { result ≡ at_most most n }
+    ensures fits { result ≤ n }
+    ensures some { 0 < n → 0 < result }
+{
+    match most {
+        None => n,
+        Some(most) => n.min(most),
     }
 }

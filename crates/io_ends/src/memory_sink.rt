@@ -1,10 +1,10 @@
 // A sink into memory.
-ghost use Rattle.std.specs.Prelude.{◌≡◌, ◌≤◌, ◌<◌, ◌-◌, ◌↔◌, ◌⊎◌, [], length, min, Some, IfOk, OnOk, OnErr, IsErr, is_err, if◌then◌else◌};
+ghost use Rattle.std.specs.Prelude.{◌≡◌, ◌≤◌, ◌<◌, ◌-◌, ◌↔◌, ◌⊎◌, [], length, min, Some, None, IfOk, OnOk, OnErr, IsErr, is_err, if◌then◌else◌};
 ghost use Rattle.io_ends.specs.Faults.{Rose, one_more};
 ghost use Rattle.io_ends.specs.Ends.{Takes};
-ghost use Rattle.io_ends.specs.Memory.{SinkContent, NextFails};
+ghost use Rattle.io_ends.specs.Memory.{SinkContent, NextFails, at_most};
 
-use crate::calls::Calls;
+use crate::calls::{Calls, at_most};
 use crate::{Failed, Sink};
 use std::alloc::{AllocError, Global};
 use std::marker::Model;
@@ -14,18 +14,19 @@ use std::marker::Model;
 pub struct MemSink {
     bytes: Vec<u8>,
     room: usize,
+    most: Option<usize>,
     calls: Calls,
 }
 
 impl Model for MemSink {
     ghost use Rattle.std.specs.Prelude.{◌≤◌, vec_len, vec_capacity};
-    ghost use Rattle.io_ends.specs.Memory.{SinkContent};
+    ghost use Rattle.io_ends.specs.Memory.{SinkContent, GoesOn};
 
     ghost Value = { SinkContent };
 
-    ghost view = { λ s. record { written = s.bytes.items; room = s.room; calls = s.calls.made; fails = s.calls.fails.items; faults = s.calls.faults } };
+    ghost view = { λ s. record { written = s.bytes.items; room = s.room; most = s.most; calls = s.calls.made; fails = s.calls.fails.items; faults = s.calls.faults } };
 
-    ghost invariant = { λ s. (vec_len s.bytes ≤ s.room) × (s.room ≤ vec_capacity s.bytes) };
+    ghost invariant = { λ s. (vec_len s.bytes ≤ s.room) × (s.room ≤ vec_capacity s.bytes) × GoesOn s.most };
 }
 
 impl MemSink {
@@ -33,11 +34,34 @@ impl MemSink {
     /// in `fails` fail, and so does each write to a full sink. The room is taken here, so no
     /// write takes memory.
     pub fn new(alloc: Global, room: usize, fails: Vec<u64>) -> Result<MemSink, AllocError>
-        ensures { IfOk result (λ s. s ≡ record { written = []; room = room; calls = 0; fails = fails.items; faults = 0 }) }
+        ensures { IfOk result (λ s. s ≡ record { written = []; room = room; most = None; calls = 0; fails = fails.items; faults = 0 }) }
     {
         Ok(MemSink {
             bytes: Vec::with_capacity(alloc, room)?,
             room,
+            most: None,
+            calls: Calls::new(fails),
+        })
+    }
+
+    /// The same, which takes at most `most` bytes in one write, one at least.
+    ///
+    /// # Errors
+    ///
+    /// Want of memory for the room.
+    pub fn short(
+        alloc: Global,
+        room: usize,
+        fails: Vec<u64>,
+        most: usize,
+    ) -> Result<MemSink, AllocError>
+        requires { 1 ≤ most }
+        ensures { IfOk result (λ s. s ≡ record { written = []; room = room; most = Some most; calls = 0; fails = fails.items; faults = 0 }) }
+    {
+        Ok(MemSink {
+            bytes: Vec::with_capacity(alloc, room)?,
+            room,
+            most: Some(most),
             calls: Calls::new(fails),
         })
     }
@@ -62,22 +86,23 @@ impl Sink for MemSink {
         ensures kept { OnErr result (Some self.new.written ≡ Some self.old.written) }
         ensures counted { self.old.faults ≤ self.new.faults }
 
-        // It fails just where it is to or the room is full, and else it takes as much as there is room for.
+        // It fails just where it is to or the room is full, and else it takes as much as there is room for, or as goes in one write.
         ensures fails { IsErr result ↔ (NextFails self.old.calls self.old.fails
             ⊎ ((0 < length piece.now) × (length self.old.written ≡ self.old.room))) }
-        ensures most { IfOk result (λ n. n ≡ min (length piece.now) (self.old.room - length self.old.written)) }
+        ensures most { IfOk result (λ n. n ≡ min (at_most self.old.most (length piece.now)) (self.old.room - length self.old.written)) }
 
         ensures calls { self.new.calls ≡ one_more self.old.calls }
         ensures faults { self.new.faults ≡ (if is_err result then one_more self.old.faults else self.old.faults) }
         ensures plan { self.new.fails ≡ self.old.fails }
         ensures room { self.new.room ≡ self.old.room }
+        ensures limit { self.new.most ≡ self.old.most }
     {
         let free = self.room - self.bytes.len();
         let is_full = free == 0 && !piece.is_empty();
         if self.calls.begin() || is_full {
             return Err(self.calls.fail());
         }
-        let n = piece.len().min(free);
+        let n = at_most(self.most, piece.len()).min(free);
         self.bytes.extend_from_slice(&piece[..n]).unwrap();
         Ok(n)
     }

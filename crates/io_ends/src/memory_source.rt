@@ -1,42 +1,57 @@
 // A source over bytes in memory.
-ghost use Rattle.std.specs.Prelude.{◌≡◌, ◌≤◌, ◌↔◌, ◌++◌, length, min, take, drop, Some, IfOk, OnOk, OnErr, IsErr, is_err, if◌then◌else◌};
+ghost use Rattle.std.specs.Prelude.{◌≡◌, ◌≤◌, ◌↔◌, ◌++◌, length, min, take, drop, Some, None, IfOk, OnOk, OnErr, IsErr, is_err, if◌then◌else◌};
 ghost use Rattle.io_ends.specs.Faults.{Rose, one_more};
 ghost use Rattle.io_ends.specs.Ends.{Gives};
-ghost use Rattle.io_ends.specs.Memory.{SourceContent, NextFails};
+ghost use Rattle.io_ends.specs.Memory.{SourceContent, NextFails, at_most};
 
-use crate::calls::Calls;
+use crate::calls::{Calls, at_most};
 use crate::{Failed, Source};
 use std::marker::Model;
 
 /// A source over bytes in memory, of which chosen reads fail. It gives as many bytes as the
-/// buffer holds.
+/// buffer holds, or as go in one read.
 #[derive(Drop)]
 pub struct MemSource {
     bytes: Vec<u8>,
     next: usize,
+    most: Option<usize>,
     calls: Calls,
 }
 
 impl Model for MemSource {
     ghost use Rattle.std.specs.Prelude.{◌≤◌, length, drop};
-    ghost use Rattle.io_ends.specs.Memory.{SourceContent};
+    ghost use Rattle.io_ends.specs.Memory.{SourceContent, GoesOn};
 
     ghost Value = { SourceContent };
 
-    ghost view = { λ s. record { left = drop s.next s.bytes.items; calls = s.calls.made; fails = s.calls.fails.items; faults = s.calls.faults } };
+    ghost view = { λ s. record { left = drop s.next s.bytes.items; most = s.most; calls = s.calls.made; fails = s.calls.fails.items; faults = s.calls.faults } };
 
-    ghost invariant = { λ s. s.next ≤ length s.bytes.items };
+    ghost invariant = { λ s. (s.next ≤ length s.bytes.items) × GoesOn s.most };
 }
 
 impl MemSource {
     /// A source that has `bytes` left. Its reads are counted from 1, and those whose number is
     /// in `fails` fail.
     pub fn new(bytes: Vec<u8>, fails: Vec<u64>) -> MemSource
-        ensures { result ≡ record { left = bytes.items; calls = 0; fails = fails.items; faults = 0 } }
+        ensures { result ≡ record { left = bytes.items; most = None; calls = 0; fails = fails.items; faults = 0 } }
     {
         MemSource {
             bytes,
             next: 0,
+            most: None,
+            calls: Calls::new(fails),
+        }
+    }
+
+    /// The same, which gives at most `most` bytes in one read, one at least.
+    pub fn short(bytes: Vec<u8>, fails: Vec<u64>, most: usize) -> MemSource
+        requires { 1 ≤ most }
+        ensures { result ≡ record { left = bytes.items; most = Some most; calls = 0; fails = fails.items; faults = 0 } }
+    {
+        MemSource {
+            bytes,
+            next: 0,
+            most: Some(most),
             calls: Calls::new(fails),
         }
     }
@@ -54,30 +69,33 @@ impl Source for MemSource {
         ensures kept { OnErr result (Some self.new.left ≡ Some self.old.left) }
         ensures counted { self.old.faults ≤ self.new.faults }
 
-        // It fails just where it is to, and else it fills the buffer as far as the bytes go.
+        // It fails just where it is to, and else it fills the buffer as far as the bytes go, or as many go in one read.
         ensures fails { IsErr result ↔ NextFails self.old.calls self.old.fails }
-        ensures most { IfOk result (λ n. n ≡ min (length buf.old) (length self.old.left)) }
+        ensures most { IfOk result (λ n. n ≡ min (at_most self.old.most (length buf.old)) (length self.old.left)) }
         ensures buffer_kept { OnErr result (buf.new ≡ buf.old) }
 
         ensures calls { self.new.calls ≡ one_more self.old.calls }
         ensures faults { self.new.faults ≡ (if is_err result then one_more self.old.faults else self.old.faults) }
         ensures plan { self.new.fails ≡ self.old.fails }
+        ensures limit { self.new.most ≡ self.old.most }
     {
         if self.calls.begin() {
             return Err(self.calls.fail());
         }
-        let n = copy_front(&self.bytes[self.next..], buf);
+        let room = at_most(self.most, buf.len());
+        let n = copy_front(&self.bytes[self.next..], buf, room);
         self.next += n;
         Ok(n)
     }
 }
 
-// Copies as many bytes as fit into the front of the buffer.
-fn copy_front(bytes: &[u8], buf: &mut [u8]) -> usize
-    ensures count { result ≡ min (length buf.old) (length bytes.now) }
+// Copies as many bytes as go into so much room at the front of the buffer.
+fn copy_front(bytes: &[u8], buf: &mut [u8], room: usize) -> usize
+    requires { room ≤ length buf.old }
+    ensures count { result ≡ min room (length bytes.now) }
     ensures copied { buf.new ≡ take result bytes.now ++ drop result buf.old }
 {
-    let n = buf.len().min(bytes.len());
+    let n = room.min(bytes.len());
     buf[..n].copy_from_slice(&bytes[..n]);
     n
 }
