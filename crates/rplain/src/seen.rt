@@ -1,6 +1,6 @@
 // What one look at settled claims tells of those to come.
 ghost use Rattle.std.specs.FinSet.{empty, union};
-ghost use Rattle.std.specs.Prelude.{if◌then◌else◌, ◌≡◌, false};
+ghost use Rattle.std.specs.Prelude.{if◌then◌else◌, ◌≡◌, true, false};
 ghost use Rattle.rplain.specs.NewClaim.{no_seen, with_seen};
 ghost use Rattle.rmodel.specs.Settling.{with_bars};
 
@@ -71,5 +71,21 @@ pub(crate) fn with_seen(all: Seen, x: &Claimed) -> Seen
         active: and_where(all.active, active, writes),
         kept: and_where(all.kept, satisfied, writes),
         bars: with_bars(all.bars, x),
+    }
+}
+
+/// What was seen of claims, and a write more. It makes no branch.
+#[inline]
+pub(crate) fn with_write(all: Seen, x: &Claimed) -> Seen
+    requires { x.now.claim.write_half ≡ true }
+    ensures { result ≡ with_seen all x.now }
+{
+    let satisfied = x.is_satisfied();
+    let writes = x.claim.writes;
+    let bars = if satisfied { writes } else { x.claim.places };
+    Seen {
+        active: and_where(all.active, x.is_active(), writes),
+        kept: and_where(all.kept, satisfied, writes),
+        bars: all.bars.union(bars),
     }
 }

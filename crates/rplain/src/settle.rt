@@ -10,7 +10,7 @@ ghost use Rattle.rplain.specs.Sweep.{IsLeft};
 use crate::give::{give, some_asks, some_gets};
 use crate::left::Left;
 use crate::list::copy_into;
-use crate::seen::Seen;
+use crate::seen::{Seen, no_seen};
 use crate::sweep::sweep;
 use crate::tell::tell_changes;
 use rclaim::Changes;
@@ -38,19 +38,20 @@ fn settle_once(
     changes.clear();
     if some_asks(claims, asked) {
         copy_into(before, claims);
-        let seen = sweep(claims, *left, changes);
+        let seen = sweep(claims, left, changes);
         if some_gets(claims) {
             give(claims, changes);
             tell_changes(before, claims, changes);
         }
         seen
     } else {
-        sweep(claims, *left, changes)
+        sweep(claims, left, changes)
     }
 }
 
 /// Settles the claims of a list once, grants what is asked for, and makes the changes those from the list before.
-/// `before` is room, and `asked` whether anything was ever asked for. It answers what is seen of the claims then.
+/// `before` is room, and `asked` whether anything was ever asked for. It answers what is seen of the claims then. Where there
+/// are none, there is nothing to do.
 pub(crate) fn settle(
     claims: &mut Vec<Claimed>,
     left: &Left,
@@ -70,6 +71,10 @@ pub(crate) fn settle(
     ensures statuses { changes.new.statuses ≡ status_changes claims.old.items claims.new.items }
     ensures grants { changes.new.grants ≡ grant_changes claims.old.items claims.new.items }
 {
+    if claims.is_empty() {
+        changes.clear();
+        return no_seen();
+    }
     settle_once(claims, left, asked, before, changes)
 }
 

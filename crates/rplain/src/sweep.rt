@@ -1,17 +1,17 @@
 // Settles the claims that a removal leaves, in one pass by rising stamp. Nearly all are seen at once to stay as they are.
 ghost use Rattle.std.specs.FinSet.{empty};
-ghost use Rattle.std.specs.Prelude.{◌≡◌, ◌<◌, ◌≤◌, false, length, slice_index_or, slice_set};
+ghost use Rattle.std.specs.Prelude.{◌≡◌, ◌<◌, ◌≤◌, true, false, length, slice_index_or, slice_set};
 ghost use Rattle.std.specs.List.{list_any};
 ghost use Rattle.rclaim.specs.declared.TheConstants.{STATUS_ROOM, GRANT_ROOM};
 ghost use Rattle.rclaim.specs.Changes.{no_changes};
 ghost use Rattle.rmodel.specs.Changes.{status_changes, grant_changes, with_change};
 ghost use Rattle.rplain.specs.NewClaim.{seen_of, with_seen};
 ghost use Rattle.rmodel.specs.Settling.{settled};
-ghost use Rattle.rplain.specs.Sweep.{stands, is_near, with_near, still_near, reads_of, is_read_still, is_held_still, is_past_still, remains, read_swept, write_swept, swept_status, swept, IsLeft};
+ghost use Rattle.rplain.specs.Sweep.{stands, is_near, with_near, still_near, reads_of, is_read_still, is_held_still, is_past_still, write_remains, remains, read_swept, write_swept, swept_status, swept, IsLeft};
 ghost use Rattle.rmodel.specs.declared.claimed.Claimed.{Claimed};
 
 use crate::left::Left;
-use crate::seen::{Seen, no_seen, with_seen};
+use crate::seen::{Seen, no_seen, with_seen, with_write};
 use crate::tell::tell_claim;
 use crate::way::{is_earlier_write, is_past};
 use rclaim::{Changes, Claim, Status};
@@ -110,6 +110,16 @@ fn remains(left: &Left, seen: &Seen, x: &Claimed) -> bool
     let kept = seen.kept.meets(x.claim.reads);
     let waits = !left.written.meets(x.claim.reads) & (x.is_entitled() == kept);
     (write & (untouched | barred)) | (!write & waits)
+}
+
+/// The same of a write.
+#[inline]
+fn write_remains(left: &Left, seen: &Seen, x: &Claimed) -> bool
+    ensures { result ≡ write_remains left.now seen.now x.now }
+{
+    let places = x.claim.places;
+    let active = x.is_active();
+    (active & !left.freed.meets(places)) | (!active & seen.bars.meets(places))
 }
 
 /// The status of an unsatisfied read that does not.
@@ -215,9 +225,35 @@ fn sweep_at(
     sweep_claim(claims, i, left, seen, changes)
 }
 
-/// Settles the claims that a removal leaves, tells what changes, and answers what is seen of them then.
-pub(crate) fn sweep(claims: &mut [Claimed], left: Left, changes: &mut Changes) -> Seen
-    requires left { IsLeft claims.old left }
+/// The same of a claim that is a write.
+#[inline]
+fn sweep_write_at(
+    claims: &mut [Claimed],
+    i: usize,
+    left: &Left,
+    seen: Seen,
+    changes: &mut Changes,
+) -> Seen
+    requires place { i < length claims.old }
+    requires write { (d : Claimed) → (slice_index_or claims.old i d).claim.write_half ≡ true }
+    requires statuses_room { length changes.old.statuses < STATUS_ROOM }
+    requires grants_room { length changes.old.grants < GRANT_ROOM }
+    ensures claims { (d : Claimed) → claims.new ≡ slice_set claims.old i (swept left.now seen claims.old (slice_index_or claims.old i d)) }
+    ensures changes { (d : Claimed) → let x = slice_index_or claims.old i d in changes.new ≡ with_change changes.old x (swept left.now seen claims.old x) }
+    ensures seen { (d : Claimed) → result ≡ with_seen seen (swept left.now seen claims.old (slice_index_or claims.old i d)) }
+{
+    let x = &claims[i];
+    if write_remains(left, &seen, x) {
+        return with_write(seen, x);
+    }
+    sweep_claim(claims, i, left, seen, changes)
+}
+
+/// Settles the claims where all are writes, as nobody has read anything.
+#[inline(never)]
+fn sweep_writes(claims: &mut [Claimed], left: &Left, changes: &mut Changes) -> Seen
+    requires left { IsLeft claims.old left.now }
+    requires writes { left.now.read ≡ empty }
     requires room { length claims.old ≤ GRANT_ROOM }
     requires none { changes.old ≡ no_changes }
     ensures claims { claims.new ≡ settled claims.old }
@@ -227,7 +263,41 @@ pub(crate) fn sweep(claims: &mut [Claimed], left: Left, changes: &mut Changes) -
 {
     let mut seen = no_seen();
     for i in 0..claims.len() {
-        seen = sweep_at(claims, i, &left, seen, changes);
+        seen = sweep_write_at(claims, i, left, seen, changes);
     }
     seen
+}
+
+/// Settles the claims of any kind.
+fn sweep_all(claims: &mut [Claimed], left: &Left, changes: &mut Changes) -> Seen
+    requires left { IsLeft claims.old left.now }
+    requires room { length claims.old ≤ GRANT_ROOM }
+    requires none { changes.old ≡ no_changes }
+    ensures claims { claims.new ≡ settled claims.old }
+    ensures seen { result ≡ seen_of claims.new }
+    ensures statuses { changes.new.statuses ≡ status_changes claims.old claims.new }
+    ensures grants { changes.new.grants ≡ grant_changes claims.old claims.new }
+{
+    let mut seen = no_seen();
+    for i in 0..claims.len() {
+        seen = sweep_at(claims, i, left, seen, changes);
+    }
+    seen
+}
+
+/// Settles the claims that a removal leaves, tells what changes, and answers what is seen of them then.
+pub(crate) fn sweep(claims: &mut [Claimed], left: &Left, changes: &mut Changes) -> Seen
+    requires left { IsLeft claims.old left.now }
+    requires room { length claims.old ≤ GRANT_ROOM }
+    requires none { changes.old ≡ no_changes }
+    ensures claims { claims.new ≡ settled claims.old }
+    ensures seen { result ≡ seen_of claims.new }
+    ensures statuses { changes.new.statuses ≡ status_changes claims.old claims.new }
+    ensures grants { changes.new.grants ≡ grant_changes claims.old claims.new }
+{
+    if left.read.is_empty() {
+        sweep_writes(claims, left, changes)
+    } else {
+        sweep_all(claims, left, changes)
+    }
 }
