@@ -170,7 +170,15 @@ fn has_at(names: &[Vec<u8>], n: u8, name: &[u8]) -> bool
     ensures { IsTrue result → slice_get (names_of names.now) n ≡ Some name.now }
 {
     let place = usize::from(n);
-    place < names.len() && names[place].as_slice() == name
+    place < names.len() && are_same(names[place].as_slice(), name)
+}
+
+// Whether two names are the same, byte by byte: they are short, so that a call costs more.
+#[inline]
+fn are_same(kept: &[u8], name: &[u8]) -> bool
+    ensures { IsTrue result → kept.now ≡ name.now }
+{
+    kept.len() == name.len() && kept.iter().zip(name.iter()).all(|(x, y)| x == y)
 }
 
 // Puts a name that is not there behind the others.
