@@ -2,7 +2,7 @@
 ghost use Rattle.std.specs.Prelude.{◌≡◌, ◌==◌, ◌≤◌, ◌&&◌, not, length, position, map, vec_capacity, vec_len, filter};
 ghost use Rattle.std.specs.List.{count_by};
 ghost use Rattle.rmodel.specs.Claims.{is_read_half};
-ghost use Rattle.rmodel.specs.Holds.{Alone, lacks, holds_of, has_request, may_rise, may_ask, is_part_of};
+ghost use Rattle.rmodel.specs.Holds.{Alone, lacks, holds_of, may_rise, may_ask, is_part_of};
 ghost use Rattle.rmodel.specs.Steps.{asking, is_not_holding};
 ghost use Rattle.rmodel.specs.Changes.{status_in};
 ghost use Rattle.rplain.specs.Sweep.{is_of};
@@ -11,13 +11,6 @@ ghost use Rattle.rmodel.specs.WellFormed.{EachPair, Distinct};
 use rclaim::Status;
 use rmodel::{Claimed, Granted, is_nested, is_read_half};
 use rset::ResourceSet;
-
-/// Whether the seat has an incomplete request.
-pub(crate) fn has_request(claims: &[Claimed], seat: u8) -> bool
-    ensures { result ≡ has_request claims.now seat }
-{
-    claims.iter().any(|x| x.claim.seat == seat)
-}
 
 /// What the request of the seat holds.
 #[tactic(auto, unfolding(rmodel::specs::Holds::holds_of))]

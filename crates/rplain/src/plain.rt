@@ -9,8 +9,7 @@ ghost use Rattle.rplain.specs.Sweep.{is_of};
 use crate::claims::push_claims;
 use crate::left::{take_read_half, take_seat};
 use crate::list::{
-    ask, has_request, holds_of, incomplete, is_not_holding, is_part_of, may_ask, may_rise,
-    place_of, status_in,
+    ask, holds_of, incomplete, is_not_holding, is_part_of, may_ask, may_rise, place_of, status_in,
 };
 use crate::seen::{Seen, no_seen};
 use crate::settle::{give_once, settle};
@@ -102,12 +101,12 @@ impl Machine for Plain {
     }
 
     fn pending(&self, seat: u8) -> bool {
-        has_request(&self.claims, seat)
-            && is_not_holding(&self.claims, seat, place_of(&self.claims, seat))
+        let place = self.place_of_any(seat);
+        place.is_some() && is_not_holding(&self.claims, seat, place)
     }
 
     fn idle(&self, seat: u8) -> bool {
-        !has_request(&self.claims, seat)
+        self.place_of_any(seat).is_none()
     }
 
     fn status(&self, seat: u8, write_half: bool) -> Option<Status> {
@@ -152,6 +151,17 @@ impl Plain {
             return None;
         }
         place_of(&self.claims, seat)
+    }
+
+    // The same of a seat that may have too great a number.
+    fn place_of_any(&self, seat: u8) -> Option<usize>
+        ensures { result ≡ position (is_of seat) self.now.state.claims }
+    {
+        if seat < self.seats {
+            self.place(seat)
+        } else {
+            place_of(&self.claims, seat)
+        }
     }
 
     // Why the event is refused, if it is. `place` is that of the first claim of its seat.

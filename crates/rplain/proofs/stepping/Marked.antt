@@ -134,18 +134,21 @@ some_stands p (x ∷ xs) = at (p x) (some_stands p xs)
     at true rest = lt-ltb 0 (length (x ∷ xs)) (omega arith)
     at false rest = later (position_or_len p xs) (length xs) (length (x ∷ xs)) (omega arith) ∙ rest
 
+-- a seat has a place where it has a request
+pub placed_where : (p : Claimed → Bool) (xs : List Claimed) → is_some (position p xs) ≡ list_any p xs
+placed_where p xs = filled (nat_lt (position_or_len p xs) (length xs)) ∙ some_stands p xs
+  where
+    filled : (b : Bool) → is_some (cond b (Some (position_or_len p xs)) None) ≡ b
+    filled true = refl
+    filled false = refl
+
 -- an issue is refused where its seat has a place, or where there are as many requests as the cap
 pub issue_refused : (s : LockState) (e : Event) (seat : ℕ) (r : RequestFields) (place : Option ℕ) → e ≡ Issue seat r → place ≡ position (is_of (seat_of e)) s.claims
     → cond (is_some place) (Some SeatBusy) (cond (incomplete_of s == s.cap) (Some Full) None) ≡ refusal s e
 issue_refused s e seat r place is placed =
     let there = placed ∙ ap (λ (e : Event). position (is_of (seat_of e)) s.claims) is in
-    ap (λ b. cond b (Some SeatBusy) (cond (incomplete_of s == s.cap) (Some Full) None))
-    (ap is_some there ∙ filled (nat_lt (position_or_len (is_of seat) s.claims) (length s.claims)) ∙ some_stands (is_of seat) s.claims)
+    ap (λ b. cond b (Some SeatBusy) (cond (incomplete_of s == s.cap) (Some Full) None)) (ap is_some there ∙ placed_where (is_of seat) s.claims)
     ∙ ap (refusal s) (sym is)
-  where
-    filled : (b : Bool) → is_some (cond b (Some (position_or_len (is_of seat) s.claims)) None) ≡ b
-    filled true = refl
-    filled false = refl
 
 -- a seat that is not marked has no place
 pub none_placed : (marks : List Bool) (xs : List Claimed) (seat : ℕ) → AreMarked marks xs → get_or marks seat false ≡ false → None ≡ position (is_of seat) xs
