@@ -124,28 +124,26 @@ fn tell(
     ensures names { OnOk result (IfSome names.new (λ rows. rows ≡ names_read reading.now)) }
     ensures text { OnOk result (history.new ≡ history.old ++ told (names_read reading.now) (Happens event.now ∷ told_changes (changes_in reading.now.machine))) }
 {
+    if names.is_none() {
+        make_names(alloc, reading, names)?;
+    }
     match names {
         Some(rows) => push(alloc, history, rows, reading, event),
-        None => tell_first(alloc, reading, names, history, event),
+        None => unreachable!(),
     }
 }
 
-// The same of the first event, where names stand ready for the next ones from now on.
+// Makes the names that are not there, once: at the first event.
 #[cold]
 #[inline(never)]
-fn tell_first(
+fn make_names(
     alloc: Global,
     reading: &Reading,
     names: &mut Option<NameRows>,
-    history: &mut Page,
-    event: &Event,
 ) -> Result<(), AllocError>
-    ensures names { OnOk result (IfSome names.new (λ rows. rows ≡ names_read reading.now)) }
-    ensures text { OnOk result (history.new ≡ history.old ++ told (names_read reading.now) (Happens event.now ∷ told_changes (changes_in reading.now.machine))) }
+    ensures { OnOk result (IsSome names.new × IfSome names.new (λ rows. rows ≡ names_read reading.now)) }
 {
-    let rows = NameRows::new(alloc, &reading.resources, &reading.tasks)?;
-    push(alloc, history, &rows, reading, event)?;
-    *names = Some(rows);
+    *names = Some(NameRows::new(alloc, &reading.resources, &reading.tasks)?);
     Ok(())
 }
 
