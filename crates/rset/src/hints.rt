@@ -30,17 +30,17 @@ impl Hints {
     }
 }
 
-// Names mostly differ in length, in how they begin or in how they end.
+// Names mostly differ in how they begin or in how they end.
 #[inline]
 fn place_of(name: &[u8]) -> usize
     ensures { result < PLACES }
 {
     match name {
-        [first, .., before, last] => {
-            let ends = usize::from(*last) + 16 * usize::from(*before) + 67 * usize::from(*first);
-            (ends + 131 * (name.len() % 16)) % PLACES
+        [.., before, last] => {
+            let first = name[0];
+            let ends = usize::from(*last) + 21 * usize::from(*before);
+            (ends + 67 * usize::from(first)) % PLACES
         }
-        [first, last] => (usize::from(*last) + 67 * usize::from(*first)) % PLACES,
         [only] => usize::from(*only),
         [] => 0,
     }
