@@ -12,7 +12,7 @@ use crate::list::{
     ask, holds_of, incomplete, is_not_holding, is_part_of, may_ask, may_rise, place_of, status_in,
 };
 use crate::seen::{Seen, no_seen};
-use crate::settle::{give_once, settle};
+use crate::settle::{give_once, settle, settle_any};
 use rclaim::{Changes, Event, Request, STATUS_ROOM, Status};
 use rexpand::Groups;
 use rmodel::{Claimed, Granted, Machine, Refused, is_upgrade};
@@ -248,7 +248,7 @@ impl Plain {
         self.halves -= may_rise(&self.claims, seat, place) as usize;
         self.marks[seat as usize] = false;
         let left = take_seat(&mut self.claims, seat, place, self.read);
-        let seen = settle(
+        let seen = settle_any(
             &mut self.claims,
             &left,
             self.asked,

@@ -50,9 +50,31 @@ fn settle_once(
 }
 
 /// Settles the claims of a list once, grants what is asked for, and makes the changes those from the list before.
-/// `before` is room, and `asked` whether anything was ever asked for. It answers what is seen of the claims then. Where there
-/// are none, there is nothing to do.
+/// `before` is room, and `asked` whether anything was ever asked for. It answers what is seen of the claims then.
 pub(crate) fn settle(
+    claims: &mut Vec<Claimed>,
+    left: &Left,
+    asked: bool,
+    before: &mut Vec<Claimed>,
+    changes: &mut Changes,
+) -> Seen
+    requires left { IsLeft claims.old.items left.now }
+    requires asked { asked ≡ false → some_asks claims.old.items ≡ false }
+    requires room { length claims.old.items ≤ GRANT_ROOM }
+    requires before_room { length claims.old.items ≤ vec_capacity before.old }
+    ensures items { claims.new.items ≡ given (settled claims.old.items) }
+    ensures seen { result ≡ seen_of claims.new.items }
+    ensures len { length claims.new.items ≡ length claims.old.items }
+    ensures capacity { vec_capacity claims.new ≡ vec_capacity claims.old }
+    ensures before_capacity { vec_capacity before.new ≡ vec_capacity before.old }
+    ensures statuses { changes.new.statuses ≡ status_changes claims.old.items claims.new.items }
+    ensures grants { changes.new.grants ≡ grant_changes claims.old.items claims.new.items }
+{
+    settle_once(claims, left, asked, before, changes)
+}
+
+/// The same of a list that may have no claim: there is nothing to do then.
+pub(crate) fn settle_any(
     claims: &mut Vec<Claimed>,
     left: &Left,
     asked: bool,
@@ -75,7 +97,7 @@ pub(crate) fn settle(
         changes.clear();
         return no_seen();
     }
-    settle_once(claims, left, asked, before, changes)
+    settle(claims, left, asked, before, changes)
 }
 
 /// Grants what is asked for in the claims of a list, and makes the changes those from the list before.

@@ -1,6 +1,6 @@
 use Rattle.std.proofs.Common.{rules, ap, ◌∙◌}
 use Rattle.rplain.proofs.stepping.SweepSteps.{given_none, seen_of_none, statuses_none, grants_none}
-use Rattle.rplain.proofs.settle.settle.Goals as goal
+use Rattle.rplain.proofs.settle.settle_any.Goals as goal
 
 pub returns-then-is_empty-clause-items : goal.returns-then-is_empty-clause-items
 returns-then-is_empty-clause-items c = given_none c.args.claims.now.items (search rules)
