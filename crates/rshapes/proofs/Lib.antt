@@ -1,0 +1,4 @@
+pub mod AlikeClaims
+pub mod SameShapes
+pub mod ShapeRequests
+pub mod SameBounds

@@ -1,0 +1,4 @@
+pub mod Shapes
+pub mod ShapeNeeds
+pub mod Histories
+pub mod Promises

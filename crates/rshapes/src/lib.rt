@@ -1,0 +1,4 @@
+//! Shapes of requests: what is left of the needs of a history of any length, and tells the same bounds.
+#![tactic(auto)]
+
+pub mod laws;
