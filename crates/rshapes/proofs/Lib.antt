@@ -5,3 +5,6 @@ pub mod SameBounds
 pub mod ShapesGrow
 pub mod ShapesAsk
 pub mod ShapesOfNeeds
+pub mod TableFacts
+pub mod TableGrows
+pub mod LongerRequests

@@ -27,14 +27,14 @@ pub record Alike (a b : RequestFields) : Type 0 where
 
 pub alike : (a b : RequestFields) → same_shape a b ≡ true → Alike a b
 alike a b h =
-    let kinds = and_parts (kind_number a.kind == kind_number b.kind) (equals a.reads b.reads && (equals a.writes b.writes && equals a.first b.first)) h in
-    let reads = and_parts (equals a.reads b.reads) (equals a.writes b.writes && equals a.first b.first) kinds.1 in
-    let writes = and_parts (equals a.writes b.writes) (equals a.first b.first) reads.1 in
+    let firsts = and_parts ((kind_number a.kind == kind_number b.kind) && equals a.reads b.reads && equals a.writes b.writes) (equals a.first b.first) h in
+    let writes = and_parts ((kind_number a.kind == kind_number b.kind) && equals a.reads b.reads) (equals a.writes b.writes) firsts.0 in
+    let reads = and_parts (kind_number a.kind == kind_number b.kind) (equals a.reads b.reads) writes.0 in
     record {
-      kind = sym (kind_of-kind_number a.kind) ∙ ap kind_of (eqb-true (kind_number a.kind) (kind_number b.kind) kinds.0) ∙ kind_of-kind_number b.kind;
-      reads = equals-true a.reads b.reads reads.0;
-      writes = equals-true a.writes b.writes writes.0;
-      first = equals-true a.first b.first writes.1;
+      kind = sym (kind_of-kind_number a.kind) ∙ ap kind_of (eqb-true (kind_number a.kind) (kind_number b.kind) reads.0) ∙ kind_of-kind_number b.kind;
+      reads = equals-true a.reads b.reads reads.1;
+      writes = equals-true a.writes b.writes writes.1;
+      first = equals-true a.first b.first firsts.1;
     }
 
 pub alike_back : (a b : RequestFields) → Alike a b → Alike b a
@@ -46,9 +46,10 @@ alike_on a b c s t = record { kind = s.kind ∙ t.kind; reads = s.reads ∙ t.re
 -- and such requests pass the test
 pub shaped : (a b : RequestFields) → Alike a b → same_shape a b ≡ true
 shaped a b s =
-    and_from _ _ (eq-eqb (kind_number a.kind) (kind_number b.kind) (ap kind_number s.kind))
-    (and_from _ _ (ap (equals a.reads) (sym s.reads) ∙ equals_itself a.reads)
-    (and_from _ _ (ap (equals a.writes) (sym s.writes) ∙ equals_itself a.writes) (ap (equals a.first) (sym s.first) ∙ equals_itself a.first)))
+    and_from _ _
+    (and_from _ _ (and_from _ _ (eq-eqb (kind_number a.kind) (kind_number b.kind) (ap kind_number s.kind)) (ap (equals a.reads) (sym s.reads) ∙ equals_itself a.reads))
+    (ap (equals a.writes) (sym s.writes) ∙ equals_itself a.writes))
+    (ap (equals a.first) (sym s.first) ∙ equals_itself a.first)
 
 -- of a task
 pub record IsOf (t : ℕ) (r : RequestFields) (s : Shape) : Type 0 where

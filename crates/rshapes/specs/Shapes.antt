@@ -1,5 +1,5 @@
 -- Shapes of requests: requests of one task that differ in nothing but their lengths and their asks have one shape.
-use Rattle.std.specs.Prelude.{ℕ, zero, suc, Bool, ◌&&◌, ◌==◌, max, List, [], ◌∷◌, ◌++◌, fold, if◌then◌else◌}
+use Rattle.std.specs.Prelude.{ℕ, zero, suc, Bool, false, ◌&&◌, ◌==◌, max, List, [], ◌∷◌, ◌++◌, fold, Option, Some, None, if◌then◌else◌}
 use Rattle.std.specs.List.{list_any, position_or_len}
 use Rattle.rset.specs.Sets.{Set, equals}
 use Rattle.rclaim.specs.Codes.{kind_number}
@@ -14,7 +14,7 @@ pub record Shape : Type 0 where
 
 -- two requests differ in nothing but their lengths
 abbrev pub same_shape : RequestFields → RequestFields → Bool
-same_shape a b = (kind_number a.kind == kind_number b.kind) && (equals a.reads b.reads && (equals a.writes b.writes && equals a.first b.first))
+same_shape a b = (kind_number a.kind == kind_number b.kind) && equals a.reads b.reads && equals a.writes b.writes && equals a.first b.first
 
 -- a request of a task has this shape
 abbrev pub has_shape : ℕ → RequestFields → Shape → Bool
@@ -68,3 +68,20 @@ parts_of (s ∷ ss) (suc place) = parts_of ss place
 -- the number of a set among those for which a shape asks: behind all others, where it is new
 abbrev pub ask_index : List Shape → ℕ → Set → ℕ
 ask_index shapes place part = position_or_len (equals part) (parts_of shapes place)
+
+-- a request of a task has the shape at this place
+abbrev pub is_shape_of : Option Shape → ℕ → RequestFields → Bool
+is_shape_of None task r = false
+is_shape_of (Some s) task r = has_shape task r s
+
+-- the task of the shape at a place, 0 where there is none
+abbrev pub task_at : List Shape → ℕ → ℕ
+task_at [] place = 0
+task_at (s ∷ ss) zero = s.task
+task_at (s ∷ ss) (suc place) = task_at ss place
+
+-- the shape at a place takes a request over
+abbrev pub taken_over : List Shape → ℕ → RequestFields → List Shape
+taken_over [] place r = []
+taken_over (s ∷ ss) zero r = joined s (record { request = r; asks = [] }) ∷ ss
+taken_over (s ∷ ss) (suc place) r = s ∷ taken_over ss place r

@@ -1,0 +1,36 @@
+// Requests of one shape, and the greater of their lengths.
+ghost use Rattle.std.specs.Prelude.{◌≡◌, true};
+ghost use Rattle.rshapes.specs.Shapes.{same_shape, lengthened};
+
+use crate::key::kind_number;
+use rclaim::Request;
+
+/// Whether two requests differ in nothing but their lengths.
+pub(crate) fn same_shape(a: &Request, b: &Request) -> bool
+    ensures { result ≡ same_shape a.now b.now }
+{
+    kind_number(a.kind()) == kind_number(b.kind())
+        && a.reads() == b.reads()
+        && a.writes() == b.writes()
+        && a.first() == b.first()
+}
+
+/// The request with the greater lengths of two requests of one shape.
+pub(crate) fn lengthened(known: &Request, other: &Request) -> Request
+    requires { same_shape other.now known.now ≡ true }
+    ensures { result ≡ lengthened known.now other.now }
+{
+    let made = Request::new(
+        other.kind(),
+        known.reads(),
+        known.writes(),
+        known.first(),
+        known.len().max(other.len()),
+        known.later().max(other.later()),
+    );
+    match made {
+        Ok(request) => request,
+        // A request in normal form is never refused.
+        Err(_) => *known,
+    }
+}
