@@ -8,3 +8,4 @@ pub mod ShapesOfNeeds
 pub mod TableFacts
 pub mod TableGrows
 pub mod LongerRequests
+pub mod Gathering

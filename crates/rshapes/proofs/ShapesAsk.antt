@@ -123,11 +123,13 @@ module _ (is_one other : ℕ → RequestNeeds → Type 0) (task : ℕ) (n : Requ
       told t m (inr new) =
           let before = tell.told task n one_more.old in
           let same = one_only shapes task n.request before.0 s tell.different before.1 (at_among shapes place s at) before.2.same has in
-          let is = subst (λ (x : Shape). IsTold task n x) same before.2 in
-          (asked s part, ask_there shapes place part s at,
-           subst (λ (k : ℕ). IsTold k m (asked s part)) (sym new.0)
-           (subst (λ (y : RequestNeeds). IsTold task y (asked s part)) (sym new.1)
-           (record { same = has; len = is.len; later = is.later; asks = λ p there. taken p is (among_append n.asks (part ∷ []) p there) })))
+          let is = subst (λ (x : Shape). IsTold task n x) same before.2 in (
+            asked s part,
+            ask_there shapes place part s at,
+            subst (λ (k : ℕ). IsTold k m (asked s part)) (sym new.0)
+                (subst (λ (y : RequestNeeds). IsTold task y (asked s part)) (sym new.1)
+                (record { same = has; len = is.len; later = is.later; asks = λ p there. taken p is (among_append n.asks (part ∷ []) p there) })),
+          )
         where
           taken : (p : Set) → IsTold task n s → Among p n.asks ⊎ Among p (part ∷ []) → Among p (with_part s.asks part)
           taken p is (inl old) = part_kept s.asks part p (is.asks p old)

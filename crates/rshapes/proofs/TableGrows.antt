@@ -1,15 +1,17 @@
 -- A table stays a table of its shapes, as it grows.
-use Rattle.std.proofs.Common.{◌≡◌, ◌<◌, ◌≤◌, ◌+◌, ◌||◌, ◌==◌, ◌⊎◌, ℕ, zero, suc, Bool, true, false, cond, List, [], ◌∷◌, ◌++◌, map, length, slice_index, slice_set, IsTrue, refl, sym, ap, subst, ◌∙◌, inl, inr, arith, length-append, length-set, eq-eqb}
+use Rattle.std.proofs.Common.{◌≡◌, ◌<◌, ◌≤◌, ◌+◌, ◌||◌, ◌==◌, ◌⊎◌, ℕ, zero, suc, Bool, true, false, cond, List, [], ◌∷◌, ◌++◌, map, length, slice_get, slice_index, slice_index_or, slice_set, Some, Result, Ok, Err, OnOk, OnErr, IsTrue, refl, sym, ap, subst, ◌∙◌, inl, inr, arith, length-append, length-set, eq-eqb}
 use Rattle.std.specs.List.{list_any, AllByRecursion}
-use Rattle.std.proofs.lemmas.Bool.{or_right}
+use Rattle.std.proofs.lemmas.Bool.{or_left, or_right}
 use Rattle.std.proofs.lemmas.Bool.Decides.{eqb_tells}
 use Rattle.rset.specs.Sets.{Set}
 use Rattle.rclaim.specs.Requests.{RequestFields}
 use Rattle.rmodel.specs.Claims.{is_nested}
-use Rattle.rmodel.proofs.ListFacts.{all_append}
+use Rattle.rmodel.proofs.ListFacts.{all_append, contrary}
+use Rattle.rbound.specs.Needs.{RequestNeeds}
+use Rattle.rbound.specs.TaskNeeds.{requests_of}
 use Rattle.rbound.proofs.RequestVectors.{map_push, length_map}
-use Rattle.rshapes.specs.Shapes.{Shape, has_shape, with_shape, with_shape_ask, taken_over, task_at}
-use Rattle.rshapes.specs.ShapeNeeds.{number_before}
+use Rattle.rshapes.specs.Shapes.{Shape, has_shape, with_shape, with_shape_ask, taken_over, task_at, is_nested_at}
+use Rattle.rshapes.specs.ShapeNeeds.{number_before, requests_of_shapes, needs_of_shapes}
 use Rattle.rshapes.specs.Histories.{AreDifferent}
 use Rattle.rshapes.specs.Keys.{key_of}
 use Rattle.rshapes.specs.Kept.{shape_in, shapes_in, is_none, may_ask, IsTable}
@@ -17,6 +19,8 @@ use Rattle.rshapes.specs.declared.key.ShapeKey.{ShapeKey}
 use Rattle.rshapes.specs.declared.table.Entry.{Entry}
 use Rattle.rshapes.specs.declared.table.Table.{Table}
 use Rattle.rshapes.proofs.ShapesGrow.{still_different}
+use Rattle.rshapes.proofs.ShapesAsk.{ask_different}
+use Rattle.rshapes.proofs.ShapeRequests.{some_none, request_of, requests_at, placed}
 use Rattle.rshapes.proofs.TableFacts.{new_shape, new_behind, number_by, task_by, number_is, task_is, before_last, at_last, set_there, set_elsewhere}
 
 -- ---- the same keys
@@ -206,3 +210,62 @@ asked_keys : (ss : List Shape) (place : ℕ) (part : Set) → map key_of (with_s
 asked_keys [] place part = refl
 asked_keys (s ∷ ss) zero part = refl
 asked_keys (s ∷ ss) (suc place) part = ap (λ ks. key_of s ∷ ks) (asked_keys ss place part)
+
+asked_all : (ss : List Shape) (place : ℕ) (part : Set) → is_nested_at ss place ≡ true → AllByRecursion (λ (s : Shape). IsTrue (may_ask s)) ss → AllByRecursion (λ (s : Shape). IsTrue (may_ask s)) (with_shape_ask ss place part)
+asked_all [] place part nested all = tt
+asked_all (s ∷ ss) zero part nested all = (or_left (is_nested s.request.kind) _ nested, all.1)
+asked_all (s ∷ ss) (suc place) part nested all = (all.0, asked_all ss place part nested all.1)
+
+pub nested_there : (ss : List Shape) (place : ℕ) → is_nested_at ss place ≡ true → place < length ss
+nested_there [] place nested = contrary false nested refl
+nested_there (s ∷ ss) zero nested = omega arith
+nested_there (s ∷ ss) (suc place) nested = let rest = nested_there ss place nested in omega (arith, rest)
+
+-- a shape asked for one set more, or nothing changed
+pub table_asked : {T E : Type 0} (result : Result T E) (t u : Table) (place : ℕ) (part : Set) → IsTable t → is_nested_at (shapes_in t.entries.items) place ≡ true
+    → u.keys.keys ≡ t.keys.keys → u.numbers.items ≡ t.numbers.items → u.counts.items ≡ t.counts.items
+    → OnOk result (shapes_in u.entries.items ≡ with_shape_ask (shapes_in t.entries.items) place part) → OnErr result (shapes_in u.entries.items ≡ shapes_in t.entries.items) → IsTable u
+table_asked (Ok x) t u place part is nested keys numbers counts ok err =
+    still_table t u is keys numbers counts (ap (map key_of) ok ∙ asked_keys (shapes_in t.entries.items) place part)
+    (subst (λ (ss : List Shape). AreDifferent ss) (sym ok) (ask_different (shapes_in t.entries.items) place part is.different))
+    (subst (λ (ss : List Shape). AllByRecursion (λ (s : Shape). IsTrue (may_ask s)) ss) (sym ok) (asked_all (shapes_in t.entries.items) place part nested is.asks))
+table_asked (Err e) t u place part is nested keys numbers counts ok err =
+    still_table t u is keys numbers counts (ap (map key_of) err)
+    (subst (λ (ss : List Shape). AreDifferent ss) (sym err) is.different)
+    (subst (λ (ss : List Shape). AllByRecursion (λ (s : Shape). IsTrue (may_ask s)) ss) (sym err) is.asks)
+
+-- ---- places
+
+pub entry_task : (es : List Entry) (i : ℕ) (x : Entry) → i < length es → x ≡ slice_index_or es i x → x.task ≡ task_at (shapes_in es) i
+entry_task [] i x h is = absurd (omega arith)
+entry_task (e ∷ es) zero x h is = ap (λ (z : Entry). z.task) is
+entry_task (e ∷ es) (suc i) x h is = entry_task es i x (omega arith) is
+
+pub task_below : (n : ℕ) (ss : List Shape) (place : ℕ) → AllByRecursion (λ (s : Shape). s.task < n) ss → place < length ss → task_at ss place < n
+task_below n [] place all h = absurd (omega arith)
+task_below n (s ∷ ss) zero all h = all.0
+task_below n (s ∷ ss) (suc place) all h = task_below n ss place all.1 (omega arith)
+
+shape_at : (ss : List Shape) (place : ℕ) → place < length ss → (s : Shape) × (slice_get ss place ≡ Some s) × (s.task ≡ task_at ss place)
+shape_at [] place h = absurd (omega arith)
+shape_at (s ∷ ss) zero h = (s, refl, refl)
+shape_at (s ∷ ss) (suc place) h = shape_at ss place (omega arith)
+
+got_within : {X : Type 0} (xs : List X) (k : ℕ) (x : X) → slice_get xs k ≡ Some x → k < length xs
+got_within [] k x at = some_none (sym at)
+got_within (y ∷ xs) zero x at = omega arith
+got_within (y ∷ xs) (suc k) x at = let rest = got_within xs k x at in omega (arith, rest)
+
+pub number_within : (n : ℕ) (ss : List Shape) (place : ℕ) → AllByRecursion (λ (s : Shape). s.task < n) ss → place < length ss
+    → number_before ss (task_at ss place) place < length (requests_of (needs_of_shapes n ss) (task_at ss place))
+number_within n ss place all h =
+    let s = shape_at ss place h in
+    let there = got_within (requests_of_shapes ss s.0.task) (number_before ss s.0.task place) (request_of s.0) (placed ss place s.0 s.1) in
+    let task = task_below n ss place all h in
+    subst (λ (xs : List RequestNeeds). number_before ss (task_at ss place) place < length xs) (sym (requests_at n ss (task_at ss place) task))
+    (subst (λ (t : ℕ). number_before ss t place < length (requests_of_shapes ss t)) s.2 there)
+
+pub any_default : (xs : List ℕ) (i d : ℕ) → i < length xs → slice_index_or xs i d ≡ slice_index xs i
+any_default [] i d h = absurd (omega arith)
+any_default (x ∷ xs) zero d h = refl
+any_default (x ∷ xs) (suc i) d h = any_default xs i d (omega arith)

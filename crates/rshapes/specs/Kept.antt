@@ -1,10 +1,11 @@
 -- How shapes are kept: each with its key, and its number among those of its task. No contract of another crate speaks of it.
-use Rattle.std.specs.Prelude.{◌≡◌, ◌<◌, ◌||◌, ℕ, zero, suc, Bool, true, false, List, [], ◌∷◌, map, length, slice_index, IsTrue}
+use Rattle.std.specs.Prelude.{◌≡◌, ◌<◌, ◌≤◌, ◌-◌, ◌||◌, ◌++◌, take, replicate, ℕ, zero, suc, Bool, true, false, List, [], ◌∷◌, map, length, slice_index, IsTrue}
 use Rattle.std.specs.List.{AllByRecursion}
 use Rattle.rset.specs.Sets.{Set}
 use Rattle.rmodel.specs.Claims.{is_nested}
+use Rattle.rbound.specs.Needs.{Needs}
 use Rattle.rshapes.specs.Shapes.{Shape, task_at}
-use Rattle.rshapes.specs.ShapeNeeds.{number_before}
+use Rattle.rshapes.specs.ShapeNeeds.{number_before, needs_of_shapes}
 use Rattle.rshapes.specs.Histories.{AreDifferent}
 use Rattle.rshapes.specs.Keys.{key_of}
 use Rattle.rshapes.specs.declared.table.Entry.{Entry}
@@ -36,3 +37,12 @@ pub record IsTable (t : Table) : Type 0 where
   pub long : length t.numbers.items ≡ length t.entries.items
   pub numbers : (place : ℕ) → place < length t.entries.items → slice_index t.numbers.items place ≡ number_before (shapes_in t.entries.items) (task_at (shapes_in t.entries.items) place) place
   pub counts : (task : ℕ) → task < length t.counts.items → slice_index t.counts.items task ≡ number_before (shapes_in t.entries.items) task (length t.entries.items)
+
+-- and there are no more tasks than have a number
+pub record IsKept (t : Table) : Type 0 where
+  pub table : IsTable t
+  pub few : length t.counts.items ≤ 255
+
+-- what is needed once the shapes of the tasks before a number are: the others need nothing yet
+abbrev pub gathered : List Shape → ℕ → ℕ → Needs
+gathered shapes tasks task = take task (needs_of_shapes tasks shapes) ++ replicate (tasks - task) []

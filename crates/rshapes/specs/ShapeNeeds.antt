@@ -1,6 +1,9 @@
 -- What tasks would need that issued each shape once, with its greatest lengths and its different asks.
-use Rattle.std.specs.Prelude.{ℕ, zero, suc, ◌==◌, List, [], ◌∷◌, map, if◌then◌else◌}
+use Rattle.std.specs.Prelude.{ℕ, zero, suc, ◌==◌, List, [], ◌∷◌, ◌++◌, map, IsTrue, if◌then◌else◌}
+use Rattle.std.specs.List.{AllByRecursion}
+use Rattle.rset.specs.Sets.{Set, all_below}
 use Rattle.rbound.specs.Needs.{RequestNeeds, Needs}
+use Rattle.rbound.specs.TaskNeeds.{with_ask}
 use Rattle.rbound.specs.Bounds.{tasks_of}
 use Rattle.rshapes.specs.Shapes.{Shape, with_needed}
 
@@ -12,6 +15,21 @@ requests_of_shapes (s ∷ ss) task = if s.task == task then record { request = s
 -- those of each task by number
 abbrev pub needs_of_shapes : ℕ → List Shape → Needs
 needs_of_shapes tasks shapes = map (requests_of_shapes shapes) (tasks_of tasks)
+
+-- what all shapes read and write lies below q
+abbrev pub AreBelow : ℕ → List Shape → Type 0
+AreBelow q shapes = AllByRecursion (λ (s : Shape). IsTrue (all_below q s.request.reads) × IsTrue (all_below q s.request.writes)) shapes
+
+-- these requests behind the others of a task
+abbrev pub with_requests : Needs → ℕ → List RequestNeeds → Needs
+with_requests [] task more = []
+with_requests (ns ∷ rest) zero more = (ns ++ more) ∷ rest
+with_requests (ns ∷ rest) (suc task) more = ns ∷ with_requests rest task more
+
+-- the last request of a task asks for these sets in turn
+abbrev pub with_asks : Needs → ℕ → List Set → Needs
+with_asks needs task [] = needs
+with_asks needs task (part ∷ parts) = with_asks (with_ask needs task part) task parts
 
 -- how many shapes of a task stand before a place
 abbrev pub number_before : List Shape → ℕ → ℕ → ℕ

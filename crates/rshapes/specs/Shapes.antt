@@ -4,6 +4,7 @@ use Rattle.std.specs.List.{list_any, position_or_len}
 use Rattle.rset.specs.Sets.{Set, equals}
 use Rattle.rclaim.specs.Codes.{kind_number}
 use Rattle.rclaim.specs.Requests.{RequestFields}
+use Rattle.rmodel.specs.Claims.{is_nested}
 use Rattle.rbound.specs.Needs.{RequestNeeds}
 
 -- a shape: its task, a request with the greatest lengths, and the different sets for which it asks, in the order in which they first came
@@ -85,3 +86,9 @@ abbrev pub taken_over : List Shape → ℕ → RequestFields → List Shape
 taken_over [] place r = []
 taken_over (s ∷ ss) zero r = joined s (record { request = r; asks = [] }) ∷ ss
 taken_over (s ∷ ss) (suc place) r = s ∷ taken_over ss place r
+
+-- the shape at a place is that of nested requests
+abbrev pub is_nested_at : List Shape → ℕ → Bool
+is_nested_at [] place = false
+is_nested_at (s ∷ ss) zero = is_nested s.request.kind
+is_nested_at (s ∷ ss) (suc place) = is_nested_at ss place

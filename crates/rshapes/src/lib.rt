@@ -4,4 +4,8 @@
 mod key;
 pub mod laws;
 mod lengths;
+mod needed;
+mod shapes;
 mod table;
+
+pub use shapes::Shapes;
