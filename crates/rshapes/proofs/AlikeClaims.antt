@@ -7,14 +7,13 @@ use Rattle.std.proofs.lemmas.Bool.{eq-eqb, eqb-true, and_parts, and_from, or_lef
 use Rattle.rset.specs.Sets.{Set, meets}
 use Rattle.rset.proofs.SetLemmas.{same_test, within_both, meets_empty_right}
 use Rattle.rclaim.specs.declared.claim.Claim.{Claim}
-use Rattle.rclaim.specs.declared.request.Kind.{Kind}
 use Rattle.rmodel.specs.Claims.{conflicts, touches, is_upgrade, is_read_half}
 use Rattle.rmodel.specs.WellFormed.{Among}
-use Rattle.rmodel.proofs.ListFacts.{any_among, passing, all_among, contrary}
+use Rattle.rmodel.proofs.ListFacts.{any_among, passing, all_among}
 use Rattle.rmodel.proofs.settling.OneSettlement.{both_cases}
 use Rattle.rbound.specs.Needs.{Needed}
-use Rattle.rbound.specs.Zones.{zone_of, is_there, IsClosed}
-use Rattle.rbound.specs.Bounds.{Numbers, greatest, largest, one_if, tasks_of, reads_there, writes_there, upgrades_there, is_writer, writers, writes_of, all_may_write, none_beside, reads_of, write_length, units_of, write_bound, can_hold_up, may_keep, may_delay, read_bound, may_bar, ask_bound, bound_by}
+use Rattle.rbound.specs.Zones.{zone_of, IsClosed}
+use Rattle.rbound.specs.Bounds.{greatest, largest, one_if, tasks_of, reads_there, writes_there, upgrades_there, is_writer, writes_of, all_may_write, none_beside, reads_of, write_length, units_of, write_bound, can_hold_up, may_keep, may_delay, read_bound, may_bar, ask_bound, bound_by}
 use Rattle.rbound.specs.Sound.{AreSound}
 use Rattle.rbound.proofs.ClosedZones.{zones_are_closed}
 use Rattle.rbound.proofs.SweptZones.{zone_within}

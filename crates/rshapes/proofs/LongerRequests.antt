@@ -1,9 +1,8 @@
 -- The greater lengths of two requests of one shape make a request in normal form.
-use Rattle.std.proofs.Common.{◌≡◌, ◌≤◌, ℕ, max, refl, sym, ap, subst, ◌∙◌, arith}
-use Rattle.std.specs.FinSet.{empty, difference}
-use Rattle.rset.specs.Sets.{Set, meets}
+use Rattle.std.proofs.Common.{◌≡◌, ℕ, max, sym, arith}
+use Rattle.rset.specs.Sets.{Set}
 use Rattle.rset.proofs.SetLemmas.{difference_of_apart}
-use Rattle.rclaim.specs.Requests.{RequestFields, IsNormal, FitsKind, FitsFirst, FitsLater, normalised}
+use Rattle.rclaim.specs.Requests.{FitsKind, FitsFirst, FitsLater, normalised}
 use Rattle.std.specs.FinSet.{union}
 use Rattle.rclaim.specs.declared.request.Kind.{Kind}
 use Rattle.rclaim.specs.declared.request.Kind.TheVariants.{Read, Write, Mixed, Upgrade, Nested}

@@ -1,9 +1,8 @@
 -- A bound is the same from needs and from their shapes.
-use Rattle.std.proofs.Common.{◌≡◌, ◌<◌, ◌≤◌, ◌==◌, ◌&&◌, ℕ, Bool, true, false, cond, List, [], ◌∷◌, length, slice_get, Option, Some, None, option_to_list, refl, sym, ap, subst, ◌∙◌, inl, inr, arith, IsTrue}
-use Rattle.std.specs.FinSet.{empty}
+use Rattle.std.proofs.Common.{◌≡◌, ◌<◌, ◌≤◌, ◌&&◌, ℕ, Bool, true, false, cond, List, length, slice_get, Option, Some, None, refl, sym, ap, subst, ◌∙◌, inl, arith, IsTrue}
 use Rattle.rset.specs.Sets.{Set, all_below}
 use Rattle.rexpand.specs.Groups.{ReadGroups}
-use Rattle.rclaim.specs.Requests.{RequestFields, IsNormal, FitsKind, FitsFirst, FitsLater}
+use Rattle.rclaim.specs.Requests.{RequestFields, FitsKind, FitsFirst, FitsLater}
 use Rattle.std.specs.FinSet.{union}
 use Rattle.rclaim.specs.declared.TheConstants.{LENGTH_LIMIT}
 use Rattle.rclaim.specs.declared.claim.Claim.{Claim}
@@ -11,9 +10,9 @@ use Rattle.rclaim.specs.declared.request.Kind.{Kind}
 use Rattle.rmodel.specs.Claims.{is_upgrade}
 use Rattle.rmodel.specs.WellFormed.{Among}
 use Rattle.rmodel.proofs.settling.OneSettlement.{both_cases}
-use Rattle.rbound.specs.Needs.{Needed, RequestNeeds, Needs, length_of, needed_of, all_needed, first_need, write_need}
+use Rattle.rbound.specs.Needs.{Needed, RequestNeeds, Needs, length_of, needed_of, all_needed, write_need}
 use Rattle.rbound.specs.TaskNeeds.{requests_of, asks_of, bound_of, bound_of_part}
-use Rattle.rbound.specs.Bounds.{Numbers, write_bound, ask_bound, bound_by, bound_of_first, bound_of_rise, bound_of_ask}
+use Rattle.rbound.specs.Bounds.{bound_of_first, bound_of_rise, bound_of_ask}
 use Rattle.rbound.specs.Kept.{IsFine, AreFine, write_among}
 use Rattle.rbound.specs.Sound.{AreSound}
 use Rattle.rbound.specs.declared.which.Which.{Which}
@@ -21,12 +20,12 @@ use Rattle.rbound.specs.declared.which.Which.TheVariants.{First, Rise, Ask}
 use Rattle.rbound.proofs.ClaimFacts.{Made, made_of, needed_there}
 use Rattle.rbound.proofs.SoundNeeds.{are_sound}
 use Rattle.rbound.proofs.RequestClaims.{first_is, write_is}
-use Rattle.rshapes.specs.Shapes.{Shape, has_shape}
-use Rattle.rshapes.specs.ShapeNeeds.{requests_of_shapes, needs_of_shapes, number_before}
-use Rattle.rshapes.specs.Histories.{IsTold, IsMade, SomeRequest, IsNeededBy, HaveShapes}
+use Rattle.rshapes.specs.Shapes.{Shape}
+use Rattle.rshapes.specs.ShapeNeeds.{needs_of_shapes, number_before}
+use Rattle.rshapes.specs.Histories.{SomeRequest, IsNeededBy, HaveShapes}
 use Rattle.rshapes.specs.Promises.{IsSameWait, BoundsAreOfShapes}
-use Rattle.rshapes.proofs.AlikeClaims.{SameClaim, HasLike, HasAll, first_same, write_same, ask_same}
-use Rattle.rshapes.proofs.SameShapes.{Alike, alike_back, IsOf, is_of, Counterpart, counterpart, SameWrites, Heads, heads_of}
+use Rattle.rshapes.proofs.AlikeClaims.{HasLike, HasAll, first_same, write_same, ask_same}
+use Rattle.rshapes.proofs.SameShapes.{Alike, alike_back, is_of, counterpart, SameWrites, Heads, heads_of}
 use Rattle.rshapes.proofs.ShapeRequests.{at_among, among_at, task_there, fine_of, request_of, requests_at, tasks_at, from_shape, of_shapes, placed, fine_shapes}
 
 -- ---- claims of one list of needs in another

@@ -1,5 +1,5 @@
 -- What requests of one shape have in common, and that their claims are alike.
-use Rattle.std.proofs.Common.{◌≡◌, ◌≤◌, ◌==◌, ◌&&◌, ℕ, Bool, true, false, List, [], ◌∷◌, Option, Some, None, option_to_list, refl, sym, ap, subst, ◌∙◌, inl, inr, arith}
+use Rattle.std.proofs.Common.{◌≡◌, ◌==◌, ◌&&◌, ℕ, Bool, true, false, List, ◌∷◌, Option, Some, None, option_to_list, refl, sym, ap, subst, ◌∙◌, inl, inr}
 use Rattle.std.specs.Bool.{⊤}
 use Rattle.std.proofs.lemmas.Bool.{eq-eqb, eqb-true, and_parts, and_from}
 use Rattle.std.specs.FinSet.{empty}
@@ -12,7 +12,7 @@ use Rattle.rclaim.specs.declared.request.Kind.{Kind}
 use Rattle.rclaim.specs.declared.request.Kind.TheVariants.{Read, Write, Mixed, Upgrade, Nested}
 use Rattle.rmodel.specs.Claims.{claim_of}
 use Rattle.rmodel.specs.WellFormed.{Among}
-use Rattle.rbound.specs.Needs.{Needed, RequestNeeds, needed_of, length_of}
+use Rattle.rbound.specs.Needs.{Needed, needed_of, length_of}
 use Rattle.rbound.specs.Kept.{write_among}
 use Rattle.rbound.proofs.ClaimFacts.{made_by}
 use Rattle.rshapes.specs.Shapes.{Shape, same_shape, has_shape}

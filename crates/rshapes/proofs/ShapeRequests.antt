@@ -1,10 +1,10 @@
 -- The requests of tasks by number, and where those of shapes stand among them.
-use Rattle.std.proofs.Common.{◌≡◌, ◌<◌, ◌+◌, ◌==◌, ◌⊎◌, ℕ, zero, suc, Bool, true, false, cond, List, [], ◌∷◌, map, length, slice_get, Option, Some, None, refl, sym, ap, subst, ◌∙◌, inl, inr, arith}
+use Rattle.std.proofs.Common.{◌≡◌, ◌<◌, ◌==◌, ℕ, zero, suc, Bool, true, false, cond, List, [], ◌∷◌, length, slice_get, Some, None, refl, sym, ap, subst, inl, inr, arith}
 use Rattle.std.specs.List.{AllByRecursion}
 use Rattle.std.proofs.lemmas.Bool.{eq-eqb, eqb-true}
 use Rattle.std.proofs.lemmas.List.FromFn.{get_or-map-range_with_len, length-map-range_with_len}
 use Rattle.rmodel.specs.WellFormed.{Among}
-use Rattle.rmodel.proofs.ListFacts.{contrary, all_at, all_from, all_map}
+use Rattle.rmodel.proofs.ListFacts.{all_at, all_from, all_map}
 use Rattle.rbound.specs.Needs.{RequestNeeds, Needs}
 use Rattle.rbound.specs.TaskNeeds.{requests_of}
 use Rattle.rbound.specs.Bounds.{tasks_of}

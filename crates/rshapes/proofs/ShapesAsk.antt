@@ -1,5 +1,5 @@
 -- How shapes grow with one ask more.
-use Rattle.std.proofs.Common.{◌≡◌, ◌≤◌, ◌||◌, ◌⊎◌, ℕ, zero, suc, Bool, true, false, List, [], ◌∷◌, ◌++◌, slice_get, Option, Some, None, refl, sym, ap, subst, ◌∙◌, inl, inr, arith}
+use Rattle.std.proofs.Common.{◌≡◌, ◌||◌, ◌⊎◌, ℕ, zero, suc, true, List, [], ◌∷◌, ◌++◌, slice_get, Some, refl, sym, ap, subst, ◌∙◌, inl, inr, arith}
 use Rattle.std.specs.List.{list_any}
 use Rattle.rset.specs.Sets.{Set}
 use Rattle.rmodel.specs.WellFormed.{Among}

@@ -1,19 +1,18 @@
 -- How shapes grow with the requests and asks that they tell.
-use Rattle.std.proofs.Common.{◌≡◌, ◌<◌, ◌≤◌, ◌+◌, ◌&&◌, ◌||◌, ◌==◌, ◌⊎◌, not, ltb, ℕ, zero, suc, Bool, true, false, cond, max, List, [], ◌∷◌, ◌++◌, fold, slice_get, Option, Some, None, refl, sym, ap, subst, ◌∙◌, inl, inr, arith, ltb-true, ltb-false}
-use Rattle.std.specs.List.{list_any, position_or_len}
-use Rattle.std.proofs.lemmas.Bool.{or_parts}
+use Rattle.std.proofs.Common.{◌≡◌, ◌≤◌, ◌+◌, ◌||◌, ◌⊎◌, not, ltb, ℕ, zero, suc, Bool, true, false, cond, max, List, [], ◌∷◌, ◌++◌, slice_get, Some, refl, sym, ap, subst, ◌∙◌, inl, inr, arith, ltb-true, ltb-false}
+use Rattle.std.specs.List.{list_any}
 use Rattle.rset.specs.Sets.{Set, equals}
 use Rattle.rset.specs.SetFacts.{equals-true}
 use Rattle.rclaim.specs.Requests.{RequestFields}
 use Rattle.rmodel.specs.WellFormed.{Among}
-use Rattle.rmodel.proofs.ListFacts.{any_among, none_among, none_from, passing, contrary, false_from, among_append, among_behind}
+use Rattle.rmodel.proofs.ListFacts.{none_among, none_from, passing, contrary, false_from, among_append, among_behind}
 use Rattle.rmodel.proofs.reaching.Came.{in_append}
 use Rattle.rmodel.proofs.settling.OneSettlement.{both_cases}
 use Rattle.rbound.specs.Needs.{RequestNeeds}
 use Rattle.rbound.proofs.ClaimFacts.{some_is}
-use Rattle.rshapes.specs.Shapes.{Shape, has_shape, lengthened, with_part, with_parts, shape_of, joined, with_needed, shape_index, with_shape_ask}
+use Rattle.rshapes.specs.Shapes.{Shape, has_shape, with_part, with_parts, shape_of, joined, with_needed, shape_index}
 use Rattle.rshapes.specs.Histories.{IsTold, SomeRequest, IsMade, AreDifferent, TellAll}
-use Rattle.rshapes.proofs.SameShapes.{Alike, alike_back, alike_on, IsOf, is_of, of_shape}
+use Rattle.rshapes.proofs.SameShapes.{Alike, alike_back, alike_on, is_of, of_shape}
 use Rattle.rshapes.proofs.ShapeRequests.{some_none, at_among}
 
 -- ---- one shape

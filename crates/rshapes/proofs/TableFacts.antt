@@ -1,28 +1,23 @@
 -- What a table of shapes becomes, as its parts change.
-use Rattle.std.proofs.Common.{◌≡◌, ◌<◌, ◌≤◌, ◌+◌, ◌&&◌, ◌||◌, ◌==◌, ◌⊎◌, not, ℕ, zero, suc, Bool, true, false, cond, List, [], ◌∷◌, ◌++◌, map, length, slice_get, slice_index, slice_index_or, slice_set, Option, Some, None, IsTrue, refl, sym, ap, subst, ◌∙◌, inl, inr, arith, length-append, length-set, eq-eqb}
+use Rattle.std.proofs.Common.{◌≡◌, ◌<◌, ◌+◌, ◌||◌, ◌==◌, not, ℕ, zero, suc, Bool, true, false, cond, List, [], ◌∷◌, ◌++◌, map, length, slice_get, slice_index, slice_index_or, slice_set, refl, sym, ap, ◌∙◌, inl, inr, arith}
 use Rattle.std.specs.Prelude.{option_map}
-use Rattle.std.specs.List.{list_any, position_or_len, AllByRecursion}
-use Rattle.std.proofs.lemmas.Bool.{eqb-true, or_left, or_right}
-use Rattle.std.proofs.lemmas.Bool.Decides.{eqb_tells}
+use Rattle.std.specs.List.{list_any, position_or_len}
+use Rattle.std.proofs.lemmas.Bool.{or_left, or_right}
 use Rattle.indexmap.specs.IndexSet.{insert_key}
 use Rattle.rset.specs.Sets.{Set, equals}
 use Rattle.rclaim.specs.Requests.{RequestFields}
-use Rattle.rmodel.specs.Claims.{is_nested}
 use Rattle.rmodel.specs.WellFormed.{Among}
-use Rattle.rmodel.proofs.ListFacts.{any_among, none_among, contrary, all_append}
-use Rattle.rbound.proofs.ClaimFacts.{some_is}
-use Rattle.rbound.proofs.RequestVectors.{map_push, length_map}
+use Rattle.rmodel.proofs.ListFacts.{none_among, contrary}
+use Rattle.rbound.proofs.RequestVectors.{map_push}
 use Rattle.rshapes.specs.Shapes.{Shape, has_shape, lengthened, joined, with_part, with_shape, shape_index, with_shape_ask, parts_of, is_shape_of, task_at, taken_over}
 use Rattle.rshapes.specs.ShapeNeeds.{number_before}
 use Rattle.rshapes.specs.Histories.{AreDifferent}
 use Rattle.rshapes.specs.Keys.{same_key, same_asked, key_of}
-use Rattle.rshapes.specs.Kept.{shape_in, shapes_in, may_ask, IsTable}
+use Rattle.rshapes.specs.Kept.{shape_in, shapes_in}
 use Rattle.rshapes.specs.declared.key.ShapeKey.{ShapeKey}
 use Rattle.rshapes.specs.declared.key.AskedSet.{AskedSet}
 use Rattle.rshapes.specs.declared.table.Entry.{Entry}
-use Rattle.rshapes.specs.declared.table.Table.{Table}
-use Rattle.rshapes.proofs.ShapesGrow.{both_of, still_different}
-use Rattle.rshapes.proofs.ShapeRequests.{at_among}
+use Rattle.rshapes.proofs.ShapesGrow.{both_of}
 
 -- ---- lists
 

@@ -1,5 +1,5 @@
 -- A table stays a table of its shapes, as it grows.
-use Rattle.std.proofs.Common.{◌≡◌, ◌<◌, ◌≤◌, ◌+◌, ◌||◌, ◌==◌, ◌⊎◌, ℕ, zero, suc, Bool, true, false, cond, List, [], ◌∷◌, ◌++◌, map, length, slice_get, slice_index, slice_index_or, slice_set, Some, Result, Ok, Err, OnOk, OnErr, IsTrue, refl, sym, ap, subst, ◌∙◌, inl, inr, arith, length-append, length-set, eq-eqb}
+use Rattle.std.proofs.Common.{◌≡◌, ◌<◌, ◌≤◌, ◌+◌, ◌==◌, ◌⊎◌, ℕ, zero, suc, Bool, true, false, cond, List, [], ◌∷◌, ◌++◌, map, length, slice_get, slice_index, slice_index_or, slice_set, Some, Result, Ok, Err, OnOk, OnErr, IsTrue, refl, sym, ap, subst, ◌∙◌, inl, inr, arith, length-append, length-set}
 use Rattle.std.specs.List.{list_any, AllByRecursion}
 use Rattle.std.proofs.lemmas.Bool.{or_left, or_right}
 use Rattle.std.proofs.lemmas.Bool.Decides.{eqb_tells}
@@ -14,7 +14,7 @@ use Rattle.rshapes.specs.Shapes.{Shape, has_shape, with_shape, with_shape_ask, t
 use Rattle.rshapes.specs.ShapeNeeds.{number_before, requests_of_shapes, needs_of_shapes}
 use Rattle.rshapes.specs.Histories.{AreDifferent}
 use Rattle.rshapes.specs.Keys.{key_of}
-use Rattle.rshapes.specs.Kept.{shape_in, shapes_in, is_none, may_ask, IsTable}
+use Rattle.rshapes.specs.Kept.{shape_in, shapes_in, may_ask, IsTable}
 use Rattle.rshapes.specs.declared.key.ShapeKey.{ShapeKey}
 use Rattle.rshapes.specs.declared.table.Entry.{Entry}
 use Rattle.rshapes.specs.declared.table.Table.{Table}

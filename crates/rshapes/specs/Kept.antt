@@ -1,5 +1,5 @@
 -- How shapes are kept: each with its key, and its number among those of its task. No contract of another crate speaks of it.
-use Rattle.std.specs.Prelude.{◌≡◌, ◌<◌, ◌≤◌, ◌-◌, ◌||◌, ◌++◌, take, replicate, ℕ, zero, suc, Bool, true, false, List, [], ◌∷◌, map, length, slice_index, IsTrue}
+use Rattle.std.specs.Prelude.{◌≡◌, ◌<◌, ◌≤◌, ◌-◌, ◌||◌, ◌++◌, take, replicate, ℕ, Bool, true, false, List, [], ◌∷◌, map, length, slice_index, IsTrue}
 use Rattle.std.specs.List.{AllByRecursion}
 use Rattle.rset.specs.Sets.{Set}
 use Rattle.rmodel.specs.Claims.{is_nested}

@@ -1,5 +1,5 @@
 -- The tests of keys say whether two are one, so each is an equivalence, and equal keys hash alike.
-use Rattle.std.proofs.Common.{◌≡◌, ◌&&◌, ◌==◌, true, refl, ap, subst, ◌∙◌}
+use Rattle.std.proofs.Common.{◌≡◌, ◌&&◌, ◌==◌, true, refl, ap, subst}
 use Rattle.std.specs.Bool.{Decides}
 use Rattle.std.specs.Cmp.{IsEquivalence, decided}
 use Rattle.std.proofs.lemmas.Bool.{eq-eqb, eqb-true, and_parts, and_from}

@@ -1,4 +1,4 @@
-use Rattle.std.proofs.Common.{◌≡◌, max, ap, ◌∙◌, sym, subst, ℕ}
+use Rattle.std.proofs.Common.{◌≡◌, max, ◌∙◌, subst}
 use Rattle.rclaim.specs.Requests.{normalised, FitsLater}
 use Rattle.rclaim.specs.declared.request.Kind.{Kind}
 use Rattle.rshapes.proofs.SameShapes.{alike}

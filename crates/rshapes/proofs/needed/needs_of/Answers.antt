@@ -1,9 +1,9 @@
-use Rattle.std.proofs.Common.{◌≡◌, ◌<◌, length, ap, sym, subst, ◌∙◌, arith}
+use Rattle.std.proofs.Common.{◌≡◌, length, ap, ◌∙◌, arith}
 use Rattle.rbound.specs.Needs.{Needs}
 use Rattle.rbound.specs.TaskNeeds.{TaskNeeds}
 use Rattle.rshapes.specs.ShapeNeeds.{requests_of_shapes, with_requests}
 use Rattle.rshapes.specs.Kept.{shapes_in, gathered}
-use Rattle.rshapes.proofs.Gathering.{gathered_none, gathered_more, gathered_all, gathered_long}
+use Rattle.rshapes.proofs.Gathering.{gathered_more, gathered_all, gathered_long}
 use Rattle.rshapes.proofs.needed.needs_of.Goals as goal
 
 pub push_task-requires-clause-task : goal.push_task-requires-clause-task

@@ -1,6 +1,6 @@
 use Rattle.std.proofs.Common.{ap, sym, ◌∙◌, map}
 use Rattle.rmodel.specs.Claims.{is_nested}
-use Rattle.rbound.specs.TaskNeeds.{TaskNeeds, requests_of, last_is_nested, with_request}
+use Rattle.rbound.specs.TaskNeeds.{TaskNeeds, requests_of, last_is_nested}
 use Rattle.rshapes.specs.ShapeNeeds.{with_asks}
 use Rattle.rshapes.specs.Kept.{shape_in}
 use Rattle.rshapes.specs.declared.key.AskedSet.{AskedSet}

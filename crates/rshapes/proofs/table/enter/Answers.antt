@@ -1,6 +1,5 @@
-use Rattle.std.proofs.Common.{◌≡◌, ◌≤◌, not, true, false, cond, length, ◌++◌, ◌∷◌, [], slice_get, slice_index, ap, refl, sym, ◌∙◌, subst, arith, ℕ, List}
-use Rattle.std.specs.List.{list_any}
-use Rattle.rshapes.specs.Shapes.{has_shape, shape_index, with_shape, is_shape_of, taken_over}
+use Rattle.std.proofs.Common.{length, ◌++◌, ◌∷◌, [], slice_get, slice_index, ap, refl, sym, ◌∙◌, arith, List}
+use Rattle.rshapes.specs.Shapes.{is_shape_of, taken_over}
 use Rattle.rshapes.specs.Kept.{shapes_in}
 use Rattle.rshapes.specs.declared.table.Entry.{Entry}
 use Rattle.rshapes.proofs.TableFacts.{known_there, known_taken, new_behind, unknown_by, known_by, keys_pushed, keys_kept, place_by}

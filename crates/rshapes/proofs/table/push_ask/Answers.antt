@@ -1,4 +1,4 @@
-use Rattle.std.proofs.Common.{ap, refl, sym, ◌∙◌, arith}
+use Rattle.std.proofs.Common.{refl, ◌∙◌}
 use Rattle.rbound.proofs.RequestVectors.{on_err}
 use Rattle.rshapes.proofs.TableFacts.{entry_asked, entry_kept, number_asked}
 use Rattle.rshapes.proofs.table.push_ask.Goals as goal

@@ -1,4 +1,4 @@
-use Rattle.std.proofs.Common.{◌≡◌, true, ap, refl, sym, ◌∙◌, arith}
+use Rattle.std.proofs.Common.{◌≡◌, true, ap, refl, ◌∙◌, arith}
 use Rattle.rbound.proofs.RequestVectors.{length_map}
 use Rattle.rshapes.specs.Shapes.{is_nested_at}
 use Rattle.rshapes.specs.Kept.{shape_in, shapes_in}

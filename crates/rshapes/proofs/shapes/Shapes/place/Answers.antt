@@ -1,4 +1,4 @@
-use Rattle.std.proofs.Common.{◌≡◌, ◌<◌, length, ap, sym, subst, ◌∙◌, arith, ℕ}
+use Rattle.std.proofs.Common.{◌<◌, length, ap, sym, subst, ◌∙◌, arith, ℕ}
 use Rattle.rbound.proofs.RequestVectors.{length_map}
 use Rattle.rbound.specs.TaskNeeds.{requests_of}
 use Rattle.rshapes.specs.Shapes.{task_at}
