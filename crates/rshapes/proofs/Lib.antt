@@ -9,3 +9,4 @@ pub mod TableFacts
 pub mod TableGrows
 pub mod LongerRequests
 pub mod Gathering
+pub mod NextShapes
