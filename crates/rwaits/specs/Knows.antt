@@ -1,41 +1,10 @@
 -- What covers know of the events that they were told.
-use Rattle.std.specs.Prelude.{◌≡◌, ◌≤◌, ◌<◌, ◌*◌, ℕ, List, [], ◌++◌, length, slice_index, vec_capacity}
-use Rattle.std.specs.List.{AllByRecursion}
-use Rattle.rset.specs.declared.TheConstants.{SEATS}
-use Rattle.rclaim.specs.declared.event.Event.{Event}
-use Rattle.rmodel.specs.Steps.{AreAccepted}
-use Rattle.rcover.specs.History.{length_in, asks_since}
+use Rattle.std.specs.Prelude.{◌≡◌}
 use Rattle.rwaits.specs.declared.covers.Covers.{Covers}
-use Rattle.rwaits.specs.Follow.{table_of, length_by, HasRoom, AreLong, AreOf}
-use Rattle.rwaits.specs.Past.{Past, start_of, state_of, moments_of, AreLastEnded}
-use Rattle.rwaits.specs.Tracked.{AreTracked}
+use Rattle.rwaits.specs.Follows.{Follows}
+use Rattle.rwaits.specs.Past.{Past, state_of}
 
--- covers have their room
-pub record HaveRoom (a : Covers) : Type 0 where
-  pub last : vec_capacity a.last ≡ 2 * SEATS
-  pub seats : length a.runs.items ≡ SEATS
-  pub runs : AllByRecursion HasRoom a.runs.items
-  pub scratch : HasRoom a.scratch
-  pub ended : vec_capacity a.ended ≡ 2 * SEATS
-  pub lengths : length a.lengths ≡ SEATS
-  pub asks : length a.asks ≡ SEATS
-  pub heads : length a.heads.items ≡ SEATS
-  pub next_heads : length a.next_heads.items ≡ SEATS
-  pub classes : vec_capacity a.classes ≡ 2 * SEATS
-
--- covers were told these events
+-- covers were told these events: their machine stands behind them, and they were followed
 pub record Knows (a : Covers) (p : Past) : Type 0 where
-  pub accepted : AreAccepted (start_of p) p.events
-  pub seats : p.seats ≤ SEATS
-  pub some_cap : 1 ≤ p.cap
-  pub cap : p.cap ≤ SEATS
   pub state : a.machine.state ≡ state_of p
-  -- what is kept of each wait is right, whatever events follow
-  pub tracked : AreTracked (moments_of p) (state_of p).claims (table_of a.runs.items)
-  pub long : (rest : List Event) → AllByRecursion (AreLong (length_in (p.events ++ rest))) a.runs.items
-  pub lengths : (rest : List Event) → AreOf (length_by a.lengths) (length_in (p.events ++ rest)) (state_of p).claims
-  pub asks : (seat : ℕ) → seat < SEATS → slice_index a.asks seat ≡ asks_since seat p.events
-  pub room : HaveRoom a
-  -- and so are the waits that the last event ended
-  pub none : p.events ≡ [] → a.ended.items ≡ []
-  pub ended : AreLastEnded p a.ended.items
+  pub follows : Follows a.following p

@@ -4,5 +4,6 @@ pub mod Tracked
 pub mod Follow
 pub mod Lines
 pub mod Past
+pub mod Follows
 pub mod Knows
 pub mod Quiet

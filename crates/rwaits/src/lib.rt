@@ -1,10 +1,12 @@
 //! The waits of a lock, kept event by event: once an event ends some, they are told with the numbers of their covers.
 //!
-//! [`Covers`] keeps of each wait what its cover needs, and no list of events.
+//! [`Following`] does so beside a machine that is there, and [`Covers`] over one of its own. They keep of each wait what its
+//! cover needs, and no list of events.
 #![tactic(auto)]
 
 mod covers;
 mod follow;
+mod following;
 mod lines;
 mod noted;
 mod run;
@@ -13,3 +15,4 @@ mod show;
 mod tell;
 
 pub use covers::Covers;
+pub use following::Following;

@@ -1,4 +1,4 @@
--- What covers know of the events that they were told holds with one event more.
+-- What a follower knows of the events that it followed holds with one event more.
 use Rattle.std.proofs.Common.{◌≡◌, ℕ, zero, suc, ◌*◌, ◌≤◌, ◌<◌, true, false, List, [], ◌∷◌, ◌++◌, append_assoc, length, length-append, drop, slice_get, Some, refl, sym, ap, subst, ◌∙◌, arith}
 use Rattle.std.proofs.lemmas.List.{take-append-le, take_all}
 use Rattle.std.specs.Vec.{with_items}
@@ -14,7 +14,7 @@ use Rattle.rclaim.specs.declared.event.Event.{Event}
 use Rattle.rclaim.specs.declared.event.Event.TheVariants.{Issue, Finish, Rise, Ask}
 use Rattle.rmodel.specs.declared.claimed.Claimed.{Claimed}
 use Rattle.rmodel.specs.Reached.{IsReached}
-use Rattle.rmodel.specs.State.{LockState, opening}
+use Rattle.rmodel.specs.State.{LockState}
 use Rattle.rmodel.specs.Steps.{Comes, next}
 use Rattle.rmodel.specs.WellFormed.{Among, EachPair, Rises, Distinct}
 use Rattle.rmodel.proofs.ListFacts.{all_at, all_from}
@@ -31,13 +31,13 @@ use Rattle.rcover.specs.Moments.{Moment}
 use Rattle.rcover.specs.Sections.{Sections}
 use Rattle.rcover.proofs.lists.Pushed.{same_ends}
 use Rattle.rcover.proofs.runs.Push.{append_none}
-use Rattle.rwaits.specs.declared.covers.Covers.{Covers}
+use Rattle.rwaits.specs.declared.following.Following.{Following}
 use Rattle.rwaits.specs.declared.run.Run.{Run}
 use Rattle.rwaits.specs.declared.section.Section.{Section}
 use Rattle.rwaits.specs.Follow.{claims_of, kept_in, table_of, length_by, HasRoom, IsEmpty, AreLong, AreOf, may_wait, WaitApart, kept_of}
 use Rattle.rwaits.specs.declared.lines.Head.{Head}
 use Rattle.rwaits.specs.Lines.{head_of, TellHeads, HeadsTell}
-use Rattle.rwaits.specs.Knows.{HaveRoom, Knows}
+use Rattle.rwaits.specs.Follows.{HaveRoom, Follows}
 use Rattle.rwaits.specs.Past.{Past, begun, with_event, start_of, state_of, noted, is_issue, StoodBy}
 use Rattle.rwaits.specs.Tracked.{shown, told}
 use Rattle.rwaits.proofs.lists.Kept.{length_claims}
@@ -82,7 +82,7 @@ renamed : (by by' len : Claim → ℕ) → ((c : Claim) → by' c ≡ by c) → 
 renamed by by' len is [] are = tt
 renamed by by' len is (x ∷ xs) are = (is x.claim ∙ are.0, renamed by by' len is xs are.1)
 
-module _ (a : Covers) (p : Past) (k : Knows a p) where
+module _ (a : Following) (p : Past) (k : Follows a p) where
   abbrev o : LockState
   o = start_of p
 
@@ -246,18 +246,17 @@ module _ (a : Covers) (p : Past) (k : Knows a p) where
     never_none : es ++ e ∷ [] ≡ [] → ⊥
     never_none none = let h = ap (λ (l : List Event). length l) none in let some = length-append es (e ∷ []) in omega arith
 
-    pub known : (b : Covers) → b.machine.state ≡ next (state_of p) e → HaveRoom b
+    pub known : (b : Following) → HaveRoom b
         → AllByRecursion (λ x. may_wait n x ≡ true → table_of b.runs.items x.claim.seat ≡ kept_of m n (table x.claim.seat) x) n
         → ((rest : List Event) → AllByRecursion (AreLong (length_in (es ++ e ∷ rest))) b.runs.items)
         → ((c : Claim) → length_by b.lengths c ≡ noted e (length_by a.lengths) c)
         → ((seat : ℕ) → seat < SEATS → slice_index b.asks seat ≡ count_ask seat (slice_index a.asks seat) e)
-        → b.ended.items ≡ told es m n table → Knows b (with_event p e)
-    known b state room kept long lengths asks ended = record {
+        → b.ended.items ≡ told es m n table → Follows b (with_event p e)
+    known b room kept long lengths asks ended = record {
       accepted = accepted_push o es e k.accepted comes;
       seats = k.seats;
       some_cap = k.some_cap;
       cap = k.cap;
-      state = state ∙ sym at_next;
       tracked = tracked_next p.groups p.seats p.cap es k.accepted e comes table (table_of b.runs.items) k.tracked
           (λ x there. kept_each m n table (table_of b.runs.items) x (all_at (λ x. may_wait n x ≡ true → table_of b.runs.items x.claim.seat ≡ kept_of m n (table x.claim.seat) x) n x kept there));
       long = λ rest. subst (λ (ds : List Event). AllByRecursion (AreLong (length_in ds)) b.runs.items) (behind rest) (long rest);
@@ -282,14 +281,13 @@ empty_long [] none len = tt
 empty_long (r ∷ rs) none len =
     (record { reads = empty_claims len r.reads.items (ap (λ (b : Sections). b.reads) none.0); writes = empty_claims len r.writes.items (ap (λ (b : Sections). b.writes) none.0) }, empty_long rs none.1 len)
 
-pub known_first : (groups : ReadGroups) (seats cap : ℕ) (a : Covers) → seats ≤ SEATS → (1 ≤ cap) × (cap ≤ SEATS) → a.machine.state ≡ opening groups seats cap → HaveRoom a
-    → ((len : Claim → ℕ) → AllByRecursion (AreLong len) a.runs.items) → ((seat : ℕ) → seat < SEATS → slice_index a.asks seat ≡ 0) → a.ended.items ≡ [] → Knows a (begun groups seats cap)
-known_first groups seats cap a most some state room long asks none = record {
+pub known_first : (groups : ReadGroups) (seats cap : ℕ) (a : Following) → seats ≤ SEATS → 1 ≤ cap → cap ≤ SEATS → HaveRoom a
+    → ((len : Claim → ℕ) → AllByRecursion (AreLong len) a.runs.items) → ((seat : ℕ) → seat < SEATS → slice_index a.asks seat ≡ 0) → a.ended.items ≡ [] → Follows a (begun groups seats cap)
+known_first groups seats cap a most some few room long asks none = record {
   accepted = tt;
   seats = most;
-  some_cap = some.0;
-  cap = some.1;
-  state = state;
+  some_cap = some;
+  cap = few;
   tracked = tracked_opening groups seats cap (table_of a.runs.items);
   long = λ rest. long (length_in rest);
   lengths = λ rest. tt;

@@ -2,10 +2,8 @@ use Rattle.std.proofs.Common.{◌≡◌, ℕ, ◌<◌, List, ◌∷◌, ◌++◌
 use Rattle.std.specs.List.{AllByRecursion}
 use Rattle.std.specs.Vec.{with_items}
 use Rattle.rclaim.specs.Events.{seat_of}
-use Rattle.rmodel.specs.State.{LockState}
-use Rattle.rmodel.specs.Steps.{next}
 use Rattle.rcover.specs.History.{length_in}
-use Rattle.rwaits.specs.declared.covers.Covers.{Covers}
+use Rattle.rwaits.specs.declared.following.Following.{Following}
 use Rattle.rwaits.specs.declared.run.Run.{Run}
 use Rattle.rwaits.specs.Follow.{table_of, HasRoom, AreLong, with_entry}
 use Rattle.rwaits.specs.Past.{state_of}
@@ -13,35 +11,37 @@ use Rattle.rwaits.specs.Tracked.{no_sections}
 use Rattle.rwaits.proofs.told.Knowing.{reached, event_seat, refilled, known}
 use Rattle.rwaits.proofs.told.Noted.{asks_at_most}
 use Rattle.rwaits.proofs.told.Quiet.{begun_kept, begun_told}
-use Rattle.rwaits.proofs.covers.Covers.begin.Goals as goal
+use Rattle.rwaits.proofs.following.Following.begin.Goals as goal
 
 pub clear_run-requires-clause-seat : goal.clear_run-requires-clause-seat
 clear_run-requires-clause-seat c =
-    let p = c.requires.known.0 in
-    let k = c.requires.known.1 in
+    let p = c.requires.ahead.0 in
+    let k = c.requires.ahead.1.follows in
     subst (λ (z : ℕ × List Run). z.0 < length z.1) (λ i. (sym c.seat.ensures i, sym c.deref_mut.ensures.value i))
-    (subst (λ l. seat_of c.args.event.now < l) (sym k.room.seats) (event_seat c.args.self.now p k c.args.event.now c.requires.known.2))
+    (subst (λ l. seat_of c.args.event.now < l) (sym k.room.seats) (event_seat c.args.self.now p k c.args.event.now c.requires.ahead.1.comes))
 
 pub note_lengths-requires : goal.note_lengths-requires
 note_lengths-requires c =
-    subst (λ l. seat_of c.args.event.now < l) (sym c.requires.known.1.room.lengths) (event_seat c.args.self.now c.requires.known.0 c.requires.known.1 c.args.event.now c.requires.known.2)
+    subst (λ l. seat_of c.args.event.now < l) (sym c.requires.ahead.1.follows.room.lengths) (event_seat c.args.self.now c.requires.ahead.0 c.requires.ahead.1.follows c.args.event.now c.requires.ahead.1.comes)
 
 pub note_ask-requires-clause-seat : goal.note_ask-requires-clause-seat
 note_ask-requires-clause-seat c =
-    subst (λ l. seat_of c.args.event.now < l) (sym c.requires.known.1.room.asks) (event_seat c.args.self.now c.requires.known.0 c.requires.known.1 c.args.event.now c.requires.known.2)
+    subst (λ l. seat_of c.args.event.now < l) (sym c.requires.ahead.1.follows.room.asks) (event_seat c.args.self.now c.requires.ahead.0 c.requires.ahead.1.follows c.args.event.now c.requires.ahead.1.comes)
 
 pub note_ask-requires-clause-few : goal.note_ask-requires-clause-few
 note_ask-requires-clause-few c =
-    let p = c.requires.known.0 in
-    let k = c.requires.known.1 in
+    let p = c.requires.ahead.0 in
+    let k = c.requires.ahead.1.follows in
     let seat = seat_of c.args.event.now in
-    let is = k.asks seat (event_seat c.args.self.now p k c.args.event.now c.requires.known.2) in
+    let is = k.asks seat (event_seat c.args.self.now p k c.args.event.now c.requires.ahead.1.comes) in
     let few = asks_at_most seat p.events in
-    let most = c.requires.known.3 in
+    let most = c.requires.ahead.2 in
     omega arith
 
 pub returns : goal.returns
-returns c = λ p k comes.
+returns c = λ p g.
+    let k = g.follows in
+    let comes = g.comes in
     let a = c.args.self.now in
     let e = c.args.event.now in
     let es = p.events in
@@ -49,8 +49,8 @@ returns c = λ p k comes.
     let runs = c.clear_run.new.runs in
     let same : length runs ≡ length a.runs.items = c.clear_run.ensures.len ∙ ap (λ (rs : List Run). length rs) c.deref_mut.ensures.value in
     let kept_runs : (with_items a.runs runs).items ≡ runs = refilled a.runs runs same in
-    let b : Covers = record { machine = c.take.new.machine; last = a.last; runs = with_items a.runs runs; lengths = c.note_lengths.new.lengths; asks = c.note_ask.new.asks; heads = a.heads; next_heads = a.next_heads; classes = a.classes; scratch = a.scratch; ended = c.clear.new.self } in
-    known a p k e comes b (c.take.ensures.state ∙ ap (λ (s : LockState). next s e) k.state)
+    let b : Following = record { last = a.last; runs = with_items a.runs runs; lengths = c.note_lengths.new.lengths; asks = c.note_ask.new.asks; heads = a.heads; next_heads = a.next_heads; classes = a.classes; scratch = a.scratch; ended = c.clear.new.self } in
+    known a p k e comes b
     (record {
       last = k.room.last;
       seats = ap (λ (rs : List Run). length rs) kept_runs ∙ same ∙ k.room.seats;

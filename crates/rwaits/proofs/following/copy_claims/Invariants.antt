@@ -1,6 +1,6 @@
 use Rattle.std.proofs.Common.{◌≡◌, take}
 use Rattle.std.specs.Prelude.{vec_capacity}
-use Rattle.rwaits.proofs.covers.copy_claims.Given as goal
+use Rattle.rwaits.proofs.following.copy_claims.Given as goal
 
 abbrev pub invariant-loop-x : goal.invariant-loop-x
 invariant-loop-x l = record {

@@ -12,7 +12,7 @@ use Rattle.rcover.specs.History.{asks_since, length_in}
 use Rattle.rcover.specs.Lists.{AreAtMost}
 use Rattle.rcover.specs.Moments.{Moment}
 use Rattle.std.specs.Vec.{with_items}
-use Rattle.rwaits.specs.declared.covers.Covers.{Covers}
+use Rattle.rwaits.specs.declared.following.Following.{Following}
 use Rattle.rwaits.specs.declared.run.Run.{Run}
 use Rattle.rwaits.specs.Follow.{table_of, length_by, HasRoom, AreLong, AreOf, may_wait, WaitApart, kept_of}
 use Rattle.rwaits.specs.declared.lines.Head.{Head}
@@ -25,180 +25,176 @@ use Rattle.rwaits.specs.Quiet.{GoesOn}
 use Rattle.rwaits.specs.Tracked.{shown, told}
 use Rattle.rwaits.proofs.told.Knowing.{claims_few, seats_now, shown_few, asks_now, lengths_now, long_now, event_seat, seats_next, apart_next, few_next, lengths_stay_on, lengths_come, refilled, refilled_heads, known, seats_at, rising_now, one_each_now, seats_next_at, seats_both, claims_few_next, rising_next, one_each_next, heads_tell, stood_next, quiet_now}
 use Rattle.rwaits.proofs.told.Noted.{asks_at_most}
-use Rattle.rwaits.proofs.covers.Covers.follow.Goals as goal
-
-pub copy_claims-requires : goal.copy_claims-requires
-copy_claims-requires c =
-    let p = c.requires.known.0 in
-    let k = c.requires.known.1 in
-    subst (λ (z : Moment × ℕ). length z.0 ≤ z.1) (λ i. (sym (c.claims.ensures ∙ ap (λ (s : LockState). s.claims) k.state) i, sym k.room.last i)) (claims_few c.args.self.now p k)
+use Rattle.rwaits.proofs.following.Following.advance.Goals as goal
 
 pub tell-requires-clause-seats : goal.tell-requires-clause-seats
 tell-requires-clause-seats c =
-    let p = c.requires.known.0 in
-    let k = c.requires.known.1 in
-    let at_m = c.deref-3.ensures.value ∙ c.copy_claims.ensures.items ∙ c.claims.ensures ∙ ap (λ (s : LockState). s.claims) k.state in
+    let p = c.requires.ahead.0 in
+    let k = c.requires.ahead.1.follows in
+    let at_m = c.deref-3.ensures.value ∙ c.requires.ahead.1.noted c.requires.other in
     subst (λ (z : List Run × Moment). AllByRecursion (λ x. (x.claim.seat < length z.0) × (x.claim.seat < length c.args.self.now.asks)) z.1) (λ i. (sym c.deref.ensures.value i, sym at_m i)) (seats_now c.args.self.now p k)
 
 pub tell-requires-clause-few : goal.tell-requires-clause-few
 tell-requires-clause-few c =
-    let p = c.requires.known.0 in
-    let k = c.requires.known.1 in
-    let at_m = c.deref-3.ensures.value ∙ c.copy_claims.ensures.items ∙ c.claims.ensures ∙ ap (λ (s : LockState). s.claims) k.state in
+    let p = c.requires.ahead.0 in
+    let k = c.requires.ahead.1.follows in
+    let at_m = c.deref-3.ensures.value ∙ c.requires.ahead.1.noted c.requires.other in
     subst (λ (z : List Run × Moment). AllByRecursion (λ x. (w : Which) → waits_in w z.1 x ≡ true → AreAtMost SEATS (shown w x (table_of z.0 x.claim.seat) z.1)) z.1)
     (λ i. (sym c.deref.ensures.value i, sym at_m i)) (shown_few c.args.self.now p k)
 
 pub note_lengths-requires : goal.note_lengths-requires
-note_lengths-requires c = subst (λ l. seat_of c.args.event.now < l) (sym c.requires.known.1.room.lengths) (event_seat c.args.self.now c.requires.known.0 c.requires.known.1 c.args.event.now c.requires.known.2)
+note_lengths-requires c = subst (λ l. seat_of c.args.event.now < l) (sym c.requires.ahead.1.follows.room.lengths) (event_seat c.args.self.now c.requires.ahead.0 c.requires.ahead.1.follows c.args.event.now c.requires.ahead.1.comes)
 
 pub note_ask-requires-clause-seat : goal.note_ask-requires-clause-seat
-note_ask-requires-clause-seat c = subst (λ l. seat_of c.args.event.now < l) (sym c.requires.known.1.room.asks) (event_seat c.args.self.now c.requires.known.0 c.requires.known.1 c.args.event.now c.requires.known.2)
+note_ask-requires-clause-seat c = subst (λ l. seat_of c.args.event.now < l) (sym c.requires.ahead.1.follows.room.asks) (event_seat c.args.self.now c.requires.ahead.0 c.requires.ahead.1.follows c.args.event.now c.requires.ahead.1.comes)
 
 pub note_ask-requires-clause-few : goal.note_ask-requires-clause-few
 note_ask-requires-clause-few c =
-    let p = c.requires.known.0 in
-    let k = c.requires.known.1 in
+    let p = c.requires.ahead.0 in
+    let k = c.requires.ahead.1.follows in
     let seat = seat_of c.args.event.now in
-    let is = k.asks seat (event_seat c.args.self.now p k c.args.event.now c.requires.known.2) in
+    let is = k.asks seat (event_seat c.args.self.now p k c.args.event.now c.requires.ahead.1.comes) in
     let few = asks_at_most seat p.events in
-    let most = c.requires.known.3 in
+    let most = c.requires.ahead.2 in
     omega arith
 
 pub tell_heads-requires-clause-room : goal.tell_heads-requires-clause-room
 tell_heads-requires-clause-room c =
-    let p = c.requires.known.0 in
-    let k = c.requires.known.1 in
-    let at_m = c.deref-4.ensures.value ∙ c.copy_claims.ensures.items ∙ c.claims.ensures ∙ ap (λ (s : LockState). s.claims) k.state in
+    let p = c.requires.ahead.0 in
+    let k = c.requires.ahead.1.follows in
+    let at_m = c.deref-4.ensures.value ∙ c.requires.ahead.1.noted c.requires.other in
     subst (λ (z : Moment × ℕ). length z.0 ≤ z.1) (λ i. (sym at_m i, sym k.room.classes i)) (claims_few c.args.self.now p k)
 
 pub tell_heads-requires-clause-seats : goal.tell_heads-requires-clause-seats
 tell_heads-requires-clause-seats c =
-    let p = c.requires.known.0 in
-    let k = c.requires.known.1 in
-    let at_m = c.deref-4.ensures.value ∙ c.copy_claims.ensures.items ∙ c.claims.ensures ∙ ap (λ (s : LockState). s.claims) k.state in
+    let p = c.requires.ahead.0 in
+    let k = c.requires.ahead.1.follows in
+    let at_m = c.deref-4.ensures.value ∙ c.requires.ahead.1.noted c.requires.other in
     subst (λ (m : Moment). AllByRecursion (λ x. x.claim.seat < length c.deref_mut.result.now) m) (sym at_m)
     (seats_at c.args.self.now p k (length c.deref_mut.result.now) (ap (λ (hs : List Head). length hs) c.deref_mut.ensures.value ∙ k.room.heads))
 
 pub tell_heads-requires-clause-rising : goal.tell_heads-requires-clause-rising
 tell_heads-requires-clause-rising c =
-    let p = c.requires.known.0 in
-    let k = c.requires.known.1 in
-    let at_m = c.deref-4.ensures.value ∙ c.copy_claims.ensures.items ∙ c.claims.ensures ∙ ap (λ (s : LockState). s.claims) k.state in
+    let p = c.requires.ahead.0 in
+    let k = c.requires.ahead.1.follows in
+    let at_m = c.deref-4.ensures.value ∙ c.requires.ahead.1.noted c.requires.other in
     subst (EachPair Rises) (sym at_m) (rising_now c.args.self.now p k)
 
 pub tell_heads-requires-clause-one_each : goal.tell_heads-requires-clause-one_each
 tell_heads-requires-clause-one_each c =
-    let p = c.requires.known.0 in
-    let k = c.requires.known.1 in
-    let at_m = c.deref-4.ensures.value ∙ c.copy_claims.ensures.items ∙ c.claims.ensures ∙ ap (λ (s : LockState). s.claims) k.state in
+    let p = c.requires.ahead.0 in
+    let k = c.requires.ahead.1.follows in
+    let at_m = c.deref-4.ensures.value ∙ c.requires.ahead.1.noted c.requires.other in
     subst (EachPair Distinct) (sym at_m) (one_each_now c.args.self.now p k)
 
 pub tell_heads-requires-2-clause-room : goal.tell_heads-requires-2-clause-room
 tell_heads-requires-2-clause-room c =
-    let p = c.requires.known.0 in
-    let k = c.requires.known.1 in
+    let p = c.requires.ahead.0 in
+    let k = c.requires.ahead.1.follows in
     let e = c.args.event.now in
-    let at_n = c.claims-3.ensures ∙ ap (λ (s : LockState). s.claims) (c.take.ensures.state ∙ ap (λ (s : LockState). next s e) k.state) in
-    subst (λ (z : Moment × ℕ). length z.0 ≤ z.1) (λ i. (sym at_n i, sym (c.tell_heads.ensures.capacity ∙ k.room.classes) i)) (claims_few_next c.args.self.now p k e c.requires.known.2)
+    let at_n = c.claims-2.ensures ∙ ap (λ (s : LockState). s.claims) c.requires.ahead.1.state in
+    subst (λ (z : Moment × ℕ). length z.0 ≤ z.1) (λ i. (sym at_n i, sym (c.tell_heads.ensures.capacity ∙ k.room.classes) i)) (claims_few_next c.args.self.now p k e c.requires.ahead.1.comes)
 
 pub tell_heads-requires-2-clause-seats : goal.tell_heads-requires-2-clause-seats
 tell_heads-requires-2-clause-seats c =
-    let p = c.requires.known.0 in
-    let k = c.requires.known.1 in
+    let p = c.requires.ahead.0 in
+    let k = c.requires.ahead.1.follows in
     let e = c.args.event.now in
-    let at_n = c.claims-3.ensures ∙ ap (λ (s : LockState). s.claims) (c.take.ensures.state ∙ ap (λ (s : LockState). next s e) k.state) in
+    let at_n = c.claims-2.ensures ∙ ap (λ (s : LockState). s.claims) c.requires.ahead.1.state in
     subst (λ (n : Moment). AllByRecursion (λ x. x.claim.seat < length c.deref_mut-2.result.now) n) (sym at_n)
-    (seats_next_at c.args.self.now p k e c.requires.known.2 (length c.deref_mut-2.result.now) (ap (λ (hs : List Head). length hs) c.deref_mut-2.ensures.value ∙ k.room.next_heads))
+    (seats_next_at c.args.self.now p k e c.requires.ahead.1.comes (length c.deref_mut-2.result.now) (ap (λ (hs : List Head). length hs) c.deref_mut-2.ensures.value ∙ k.room.next_heads))
 
 pub tell_heads-requires-2-clause-rising : goal.tell_heads-requires-2-clause-rising
 tell_heads-requires-2-clause-rising c =
-    let p = c.requires.known.0 in
-    let k = c.requires.known.1 in
+    let p = c.requires.ahead.0 in
+    let k = c.requires.ahead.1.follows in
     let e = c.args.event.now in
-    let at_n = c.claims-3.ensures ∙ ap (λ (s : LockState). s.claims) (c.take.ensures.state ∙ ap (λ (s : LockState). next s e) k.state) in
-    subst (EachPair Rises) (sym at_n) (rising_next c.args.self.now p k e c.requires.known.2)
+    let at_n = c.claims-2.ensures ∙ ap (λ (s : LockState). s.claims) c.requires.ahead.1.state in
+    subst (EachPair Rises) (sym at_n) (rising_next c.args.self.now p k e c.requires.ahead.1.comes)
 
 pub tell_heads-requires-2-clause-one_each : goal.tell_heads-requires-2-clause-one_each
 tell_heads-requires-2-clause-one_each c =
-    let p = c.requires.known.0 in
-    let k = c.requires.known.1 in
+    let p = c.requires.ahead.0 in
+    let k = c.requires.ahead.1.follows in
     let e = c.args.event.now in
-    let at_n = c.claims-3.ensures ∙ ap (λ (s : LockState). s.claims) (c.take.ensures.state ∙ ap (λ (s : LockState). next s e) k.state) in
-    subst (EachPair Distinct) (sym at_n) (one_each_next c.args.self.now p k e c.requires.known.2)
+    let at_n = c.claims-2.ensures ∙ ap (λ (s : LockState). s.claims) c.requires.ahead.1.state in
+    subst (EachPair Distinct) (sym at_n) (one_each_next c.args.self.now p k e c.requires.ahead.1.comes)
 
 pub keep-requires-clause-head : goal.keep-requires-clause-head
 keep-requires-clause-head c =
-    let p = c.requires.known.0 in
-    let k = c.requires.known.1 in
+    let p = c.requires.ahead.0 in
+    let k = c.requires.ahead.1.follows in
     let e = c.args.event.now in
-    let at_n = c.claims-4.ensures ∙ ap (λ (s : LockState). s.claims) (c.take.ensures.state ∙ ap (λ (s : LockState). next s e) k.state) in
+    let at_n = c.claims-3.ensures ∙ ap (λ (s : LockState). s.claims) c.requires.ahead.1.state in
     let hs = c.deref-5.result.now in
     let hs' = c.deref-6.result.now in
     let told : c.deref-5.result.now ≡ c.tell_heads.new.heads = c.deref-5.ensures.value ∙ refilled_heads c.args.self.now.heads c.tell_heads.new.heads (c.tell_heads.ensures.len ∙ ap (λ (l : List Head). length l) c.deref_mut.ensures.value) in
     let told' : c.deref-6.result.now ≡ c.tell_heads-2.new.heads = c.deref-6.ensures.value ∙ refilled_heads c.args.self.now.next_heads c.tell_heads-2.new.heads (c.tell_heads-2.ensures.len ∙ ap (λ (l : List Head). length l) c.deref_mut-2.ensures.value) in
     subst (λ (n : Moment). AllByRecursion (λ x. (x.claim.seat < length c.deref-5.result.now) × (x.claim.seat < length c.deref-6.result.now)) n) (sym at_n)
-    (seats_both c.args.self.now p k e c.requires.known.2 (length c.deref-5.result.now) (length c.deref-6.result.now)
+    (seats_both c.args.self.now p k e c.requires.ahead.1.comes (length c.deref-5.result.now) (length c.deref-6.result.now)
     (ap (λ (l : List Head). length l) told ∙ c.tell_heads.ensures.len ∙ ap (λ (l : List Head). length l) c.deref_mut.ensures.value ∙ k.room.heads)
     (ap (λ (l : List Head). length l) told' ∙ c.tell_heads-2.ensures.len ∙ ap (λ (l : List Head). length l) c.deref_mut-2.ensures.value ∙ k.room.next_heads))
 
 pub keep-requires-clause-heads : goal.keep-requires-clause-heads
 keep-requires-clause-heads c =
-    let p = c.requires.known.0 in
-    let k = c.requires.known.1 in
+    let p = c.requires.ahead.0 in
+    let k = c.requires.ahead.1.follows in
     let e = c.args.event.now in
-    let at_m = c.copy_claims.ensures.items ∙ c.claims.ensures ∙ ap (λ (s : LockState). s.claims) k.state in
-    let state = c.take.ensures.state ∙ ap (λ (s : LockState). next s e) k.state in
+    let at_m = c.requires.ahead.1.noted c.requires.other in
+    let state = c.requires.ahead.1.state in
     let told : c.deref-5.result.now ≡ c.tell_heads.new.heads = c.deref-5.ensures.value ∙ refilled_heads c.args.self.now.heads c.tell_heads.new.heads (c.tell_heads.ensures.len ∙ ap (λ (l : List Head). length l) c.deref_mut.ensures.value) in
     let told' : c.deref-6.result.now ≡ c.tell_heads-2.new.heads = c.deref-6.ensures.value ∙ refilled_heads c.args.self.now.next_heads c.tell_heads-2.new.heads (c.tell_heads-2.ensures.len ∙ ap (λ (l : List Head). length l) c.deref_mut-2.ensures.value) in
     subst (λ (z : List Head × List Head × Moment × Moment). AllByRecursion (HeadsTell z.0 z.1 z.2 z.3) z.3)
-    (λ i. (sym told i, sym told' i, sym (c.deref-7.ensures.value ∙ at_m) i, sym (c.claims-4.ensures ∙ ap (λ (s : LockState). s.claims) state) i))
-    (heads_tell c.args.self.now p k e c.requires.known.2 c.tell_heads.new.heads c.tell_heads-2.new.heads
+    (λ i. (sym told i, sym told' i, sym (c.deref-7.ensures.value ∙ at_m) i, sym (c.claims-3.ensures ∙ ap (λ (s : LockState). s.claims) state) i))
+    (heads_tell c.args.self.now p k e c.requires.ahead.1.comes c.tell_heads.new.heads c.tell_heads-2.new.heads
     (subst (TellHeads c.tell_heads.new.heads) (c.deref-4.ensures.value ∙ at_m) c.tell_heads.ensures.heads)
-    (subst (TellHeads c.tell_heads-2.new.heads) (c.claims-3.ensures ∙ ap (λ (s : LockState). s.claims) state) c.tell_heads-2.ensures.heads))
+    (subst (TellHeads c.tell_heads-2.new.heads) (c.claims-2.ensures ∙ ap (λ (s : LockState). s.claims) state) c.tell_heads-2.ensures.heads))
 
 pub keep-requires-clause-seats : goal.keep-requires-clause-seats
 keep-requires-clause-seats c =
-    let p = c.requires.known.0 in
-    let k = c.requires.known.1 in
+    let p = c.requires.ahead.0 in
+    let k = c.requires.ahead.1.follows in
     let e = c.args.event.now in
-    let at_n = c.claims-4.ensures ∙ ap (λ (s : LockState). s.claims) (c.take.ensures.state ∙ ap (λ (s : LockState). next s e) k.state) in
-    subst (λ (z : List Run × Moment). AllByRecursion (λ x. x.claim.seat < length z.0) z.1) (λ i. (sym c.deref_mut-3.ensures.value i, sym at_n i)) (seats_next c.args.self.now p k e c.requires.known.2)
+    let at_n = c.claims-3.ensures ∙ ap (λ (s : LockState). s.claims) c.requires.ahead.1.state in
+    subst (λ (z : List Run × Moment). AllByRecursion (λ x. x.claim.seat < length z.0) z.1) (λ i. (sym c.deref_mut-3.ensures.value i, sym at_n i)) (seats_next c.args.self.now p k e c.requires.ahead.1.comes)
 
 pub keep-requires-clause-apart : goal.keep-requires-clause-apart
 keep-requires-clause-apart c =
-    let p = c.requires.known.0 in
-    let k = c.requires.known.1 in
+    let p = c.requires.ahead.0 in
+    let k = c.requires.ahead.1.follows in
     let e = c.args.event.now in
-    let at_n = c.claims-4.ensures ∙ ap (λ (s : LockState). s.claims) (c.take.ensures.state ∙ ap (λ (s : LockState). next s e) k.state) in
-    subst (λ (n : Moment). EachPair (WaitApart n) n) (sym at_n) (apart_next c.args.self.now p k e c.requires.known.2)
+    let at_n = c.claims-3.ensures ∙ ap (λ (s : LockState). s.claims) c.requires.ahead.1.state in
+    subst (λ (n : Moment). EachPair (WaitApart n) n) (sym at_n) (apart_next c.args.self.now p k e c.requires.ahead.1.comes)
 
 pub keep-requires-clause-few : goal.keep-requires-clause-few
 keep-requires-clause-few c =
-    let p = c.requires.known.0 in
-    let k = c.requires.known.1 in
+    let p = c.requires.ahead.0 in
+    let k = c.requires.ahead.1.follows in
     let e = c.args.event.now in
-    let at_m = c.deref-7.ensures.value ∙ c.copy_claims.ensures.items ∙ c.claims.ensures ∙ ap (λ (s : LockState). s.claims) k.state in
-    let at_n = c.claims-4.ensures ∙ ap (λ (s : LockState). s.claims) (c.take.ensures.state ∙ ap (λ (s : LockState). next s e) k.state) in
+    let at_m = c.deref-7.ensures.value ∙ c.requires.ahead.1.noted c.requires.other in
+    let at_n = c.claims-3.ensures ∙ ap (λ (s : LockState). s.claims) c.requires.ahead.1.state in
     subst (λ (z : List Run × Moment × Moment). AllByRecursion (λ x. may_wait z.2 x ≡ true → AreAtMost SEATS (kept_of z.1 z.2 (table_of z.0 x.claim.seat) x)) z.2)
-    (λ i. (sym c.deref_mut-3.ensures.value i, sym at_m i, sym at_n i)) (few_next c.args.self.now p k e c.requires.known.2)
+    (λ i. (sym c.deref_mut-3.ensures.value i, sym at_m i, sym at_n i)) (few_next c.args.self.now p k e c.requires.ahead.1.comes)
 
 pub returns : goal.returns
-returns c = λ p k comes.
+returns c = λ p g.
+    let k = g.follows in
+    let comes = g.comes in
     let a = c.args.self.now in
     let e = c.args.event.now in
     let es = p.events in
-    let at_m = c.deref-7.ensures.value ∙ c.copy_claims.ensures.items ∙ c.claims.ensures ∙ ap (λ (s : LockState). s.claims) k.state in
-    let at_n = c.claims-4.ensures ∙ ap (λ (s : LockState). s.claims) (c.take.ensures.state ∙ ap (λ (s : LockState). next s e) k.state) in
-    let told_m = c.deref-3.ensures.value ∙ c.copy_claims.ensures.items ∙ c.claims.ensures ∙ ap (λ (s : LockState). s.claims) k.state in
-    let told_n = c.claims-2.ensures ∙ ap (λ (s : LockState). s.claims) (c.take.ensures.state ∙ ap (λ (s : LockState). next s e) k.state) in
+    let at_m = c.deref-7.ensures.value ∙ g.noted c.requires.other in
+    let at_n = c.claims-3.ensures ∙ ap (λ (s : LockState). s.claims) g.state in
+    let told_m = c.deref-3.ensures.value ∙ g.noted c.requires.other in
+    let told_n = c.claims.ensures ∙ ap (λ (s : LockState). s.claims) g.state in
     let lengths = c.note_lengths.new.lengths in
     let runs = c.keep.new.runs in
     let same : length runs ≡ length a.runs.items = c.keep.ensures.len ∙ ap (λ (rs : List Run). length rs) c.deref_mut-3.ensures.value in
     let kept_runs : (with_items a.runs runs).items ≡ runs = refilled a.runs runs same in
-    let b : Covers = record { machine = c.take.new.machine; last = c.copy_claims.new.to; runs = with_items a.runs runs; lengths = lengths; asks = c.note_ask.new.asks; heads = with_items a.heads c.tell_heads.new.heads; next_heads = with_items a.next_heads c.tell_heads-2.new.heads; classes = c.tell_heads-2.new.classes; scratch = c.tell.new.scratch; ended = c.tell.new.ended } in
-    known a p k e comes b (c.take.ensures.state ∙ ap (λ (s : LockState). next s e) k.state)
+    let b : Following = record { last = a.last; runs = with_items a.runs runs; lengths = lengths; asks = c.note_ask.new.asks; heads = with_items a.heads c.tell_heads.new.heads; next_heads = with_items a.next_heads c.tell_heads-2.new.heads; classes = c.tell_heads-2.new.classes; scratch = c.tell.new.scratch; ended = c.tell.new.ended } in
+    known a p k e comes b
     (record {
-      last = c.copy_claims.ensures.capacity ∙ k.room.last;
+      last = k.room.last;
       seats = ap (λ (rs : List Run). length rs) kept_runs ∙ same ∙ k.room.seats;
       runs = subst (AllByRecursion HasRoom) (sym kept_runs) c.keep.ensures.room;
       scratch = c.tell.ensures.scratch;
@@ -227,36 +223,36 @@ returns c = λ p k comes.
 
 pub keep-requires-clause-stood : goal.keep-requires-clause-stood
 keep-requires-clause-stood c =
-    let p = c.requires.known.0 in
-    let k = c.requires.known.1 in
+    let p = c.requires.ahead.0 in
+    let k = c.requires.ahead.1.follows in
     let e = c.args.event.now in
-    let at_m = c.deref-7.ensures.value ∙ c.copy_claims.ensures.items ∙ c.claims.ensures ∙ ap (λ (s : LockState). s.claims) k.state in
-    let at_n = c.claims-4.ensures ∙ ap (λ (s : LockState). s.claims) (c.take.ensures.state ∙ ap (λ (s : LockState). next s e) k.state) in
-    subst (λ (z : Moment × Moment). AllByRecursion (StoodBy e z.0 z.1) z.1) (λ i. (sym at_m i, sym at_n i)) (stood_next c.args.self.now p k e c.requires.known.2 c.requires.other)
+    let at_m = c.deref-7.ensures.value ∙ c.requires.ahead.1.noted c.requires.other in
+    let at_n = c.claims-3.ensures ∙ ap (λ (s : LockState). s.claims) c.requires.ahead.1.state in
+    subst (λ (z : Moment × Moment). AllByRecursion (StoodBy e z.0 z.1) z.1) (λ i. (sym at_m i, sym at_n i)) (stood_next c.args.self.now p k e c.requires.ahead.1.comes c.requires.other)
 
 pub tell-requires-clause-quiet : goal.tell-requires-clause-quiet
 tell-requires-clause-quiet c =
-    let p = c.requires.known.0 in
-    let k = c.requires.known.1 in
+    let p = c.requires.ahead.0 in
+    let k = c.requires.ahead.1.follows in
     let e = c.args.event.now in
-    let at_m = c.deref-3.ensures.value ∙ c.copy_claims.ensures.items ∙ c.claims.ensures ∙ ap (λ (s : LockState). s.claims) k.state in
-    let at_n = c.claims-2.ensures ∙ ap (λ (s : LockState). s.claims) (c.take.ensures.state ∙ ap (λ (s : LockState). next s e) k.state) in
+    let at_m = c.deref-3.ensures.value ∙ c.requires.ahead.1.noted c.requires.other in
+    let at_n = c.claims.ensures ∙ ap (λ (s : LockState). s.claims) c.requires.ahead.1.state in
     let grants : c.deref-2.result.now ≡ (changes_between (state_of p) (next (state_of p) e)).grants
-    = c.deref-2.ensures.value ∙ ap (λ (l : ChangeLists). l.grants) (c.behind-self.view_is ∙ c.changes.ensures ∙ c.take.ensures.changes ∙ ap (λ (s : LockState). changes_between s (next s e)) k.state) in
+    = c.deref-2.ensures.value ∙ ap (λ (l : ChangeLists). l.grants) (c.behind-machine.view_is ∙ c.changes.ensures ∙ c.requires.ahead.1.changes) in
     subst (λ (z : ℕ × List GrantChange × Moment × Moment). AllByRecursion (GoesOn z.0 z.1 z.2 z.3) z.2) (λ i. (sym c.seat.ensures i, sym grants i, sym at_m i, sym at_n i))
-    (quiet_now c.args.self.now p k e c.requires.known.2 c.requires.other)
+    (quiet_now c.args.self.now p k e c.requires.ahead.1.comes c.requires.other)
 
 pub keep-requires-clause-last_rises : goal.keep-requires-clause-last_rises
 keep-requires-clause-last_rises c =
-    let p = c.requires.known.0 in
-    let k = c.requires.known.1 in
-    let at_m = c.deref-7.ensures.value ∙ c.copy_claims.ensures.items ∙ c.claims.ensures ∙ ap (λ (s : LockState). s.claims) k.state in
+    let p = c.requires.ahead.0 in
+    let k = c.requires.ahead.1.follows in
+    let at_m = c.deref-7.ensures.value ∙ c.requires.ahead.1.noted c.requires.other in
     subst (EachPair Rises) (sym at_m) (rising_now c.args.self.now p k)
 
 pub keep-requires-clause-next_rises : goal.keep-requires-clause-next_rises
 keep-requires-clause-next_rises c =
-    let p = c.requires.known.0 in
-    let k = c.requires.known.1 in
+    let p = c.requires.ahead.0 in
+    let k = c.requires.ahead.1.follows in
     let e = c.args.event.now in
-    let at_n = c.claims-4.ensures ∙ ap (λ (s : LockState). s.claims) (c.take.ensures.state ∙ ap (λ (s : LockState). next s e) k.state) in
-    subst (EachPair Rises) (sym at_n) (rising_next c.args.self.now p k e c.requires.known.2)
+    let at_n = c.claims-3.ensures ∙ ap (λ (s : LockState). s.claims) c.requires.ahead.1.state in
+    subst (EachPair Rises) (sym at_n) (rising_next c.args.self.now p k e c.requires.ahead.1.comes)

@@ -1,0 +1,51 @@
+-- What a follower knows of the events that it followed.
+use Rattle.std.specs.Prelude.{◌≡◌, ◌≤◌, ◌<◌, ◌*◌, ℕ, false, List, [], ◌++◌, length, slice_index, vec_capacity}
+use Rattle.std.specs.List.{AllByRecursion}
+use Rattle.rset.specs.declared.TheConstants.{SEATS}
+use Rattle.rclaim.specs.declared.event.Event.{Event}
+use Rattle.rmodel.specs.Changes.{changes_between}
+use Rattle.rmodel.specs.Steps.{AreAccepted, Comes, next}
+use Rattle.rplain.specs.Machine.{Standing}
+use Rattle.rcover.specs.History.{length_in, asks_since}
+use Rattle.rwaits.specs.declared.following.Following.{Following}
+use Rattle.rwaits.specs.Follow.{table_of, length_by, HasRoom, AreLong, AreOf}
+use Rattle.rwaits.specs.Past.{Past, start_of, state_of, moments_of, is_issue, AreLastEnded}
+use Rattle.rwaits.specs.Tracked.{AreTracked}
+
+-- a follower has its room
+pub record HaveRoom (a : Following) : Type 0 where
+  pub last : vec_capacity a.last ≡ 2 * SEATS
+  pub seats : length a.runs.items ≡ SEATS
+  pub runs : AllByRecursion HasRoom a.runs.items
+  pub scratch : HasRoom a.scratch
+  pub ended : vec_capacity a.ended ≡ 2 * SEATS
+  pub lengths : length a.lengths ≡ SEATS
+  pub asks : length a.asks ≡ SEATS
+  pub heads : length a.heads.items ≡ SEATS
+  pub next_heads : length a.next_heads.items ≡ SEATS
+  pub classes : vec_capacity a.classes ≡ 2 * SEATS
+
+-- a follower followed these events
+pub record Follows (a : Following) (p : Past) : Type 0 where
+  pub accepted : AreAccepted (start_of p) p.events
+  pub seats : p.seats ≤ SEATS
+  pub some_cap : 1 ≤ p.cap
+  pub cap : p.cap ≤ SEATS
+  -- what is kept of each wait is right, whatever events follow
+  pub tracked : AreTracked (moments_of p) (state_of p).claims (table_of a.runs.items)
+  pub long : (rest : List Event) → AllByRecursion (AreLong (length_in (p.events ++ rest))) a.runs.items
+  pub lengths : (rest : List Event) → AreOf (length_by a.lengths) (length_in (p.events ++ rest)) (state_of p).claims
+  pub asks : (seat : ℕ) → seat < SEATS → slice_index a.asks seat ≡ asks_since seat p.events
+  pub room : HaveRoom a
+  -- and so are the waits that the last event ended
+  pub none : p.events ≡ [] → a.ended.items ≡ []
+  pub ended : AreLastEnded p a.ended.items
+
+-- a machine took an event behind those that a follower followed
+pub record IsAhead (a : Following) (machine : Standing) (p : Past) (e : Event) : Type 0 where
+  pub follows : Follows a p
+  pub comes : Comes (state_of p) e
+  pub state : machine.state ≡ next (state_of p) e
+  pub changes : machine.last ≡ changes_between (state_of p) (next (state_of p) e)
+  -- the claims before it are noted, if it is no issue
+  pub noted : is_issue e ≡ false → a.last.items ≡ (state_of p).claims

@@ -1,0 +1,223 @@
+// A follower: the waits of a lock, followed event by event beside a machine that is there.
+ghost use Rattle.std.specs.Prelude.{◌≡◌, ◌≤◌, ◌<◌, ◌^◌, ◌*◌, ◌↔◌, [], true, false, ℕ, IfOk, IfErr, OnOk, OnErr, IsOk, Some, List, length, vec_capacity};
+ghost use Rattle.std.specs.List.{AllByRecursion};
+ghost use Rattle.rset.specs.declared.TheConstants.{SEATS};
+ghost use Rattle.rexpand.specs.Groups.{ReadGroups};
+ghost use Rattle.rclaim.specs.Events.{IsNormalEvent};
+ghost use Rattle.rclaim.specs.declared.event.Event.{Event};
+ghost use Rattle.rmodel.specs.Changes.{changes_between, AreActive};
+ghost use Rattle.rmodel.specs.Steps.{Fits, Accepts, Comes, Steps, next, refusal};
+ghost use Rattle.rwaits.specs.Follow.{HasRoom, IsEmpty};
+ghost use Rattle.rwaits.specs.Past.{Past, begun, is_issue, state_of, with_event, AreLastEnded};
+ghost use Rattle.rwaits.specs.Follows.{Follows, IsAhead};
+
+use crate::follow::{clear_run, keep};
+use crate::lines::{Class, Head, no_head, tell_heads};
+use crate::noted::{is_issue, note_ask, note_lengths};
+use crate::run::Run;
+use crate::section::Lengths;
+use crate::tell::tell;
+use rclaim::Event;
+use rcover::WaitEnd;
+use rmodel::{Claimed, Machine, Refused};
+use rplain::Plain;
+use rset::SEATS;
+use std::alloc::{AllocError, Global};
+
+// A place for each seat.
+const PLACES: usize = SEATS as usize;
+
+// Room for the claims of all seats.
+const CLAIMS: usize = 2 * PLACES;
+
+/// The waits of a lock, followed event by event beside a machine that its caller has: of each it keeps what its cover needs,
+/// and no list of events. All room is made when it is made.
+#[derive(Drop)]
+pub struct Following {
+    // The claims before the last event that was no issue.
+    last: Vec<Claimed>,
+    // What is kept of the wait of each seat.
+    runs: Vec<Run>,
+    // The lengths of the last request of each seat, and how many asks it made.
+    lengths: [Lengths; PLACES],
+    asks: [usize; PLACES],
+    // Room for the least claims of the lines of all writes, for each seat, before the last event and after it.
+    heads: Vec<Head>,
+    next_heads: Vec<Head>,
+    classes: Vec<Class>,
+    // Room for the sections of one wait.
+    scratch: Run,
+    ended: Vec<WaitEnd>,
+}
+
+/// A run that keeps nothing.
+fn new_run(alloc: Global) -> Result<Run, AllocError>
+    ensures room { IfOk result (λ r. HasRoom r) }
+    ensures none { IfOk result (λ r. IsEmpty r) }
+{
+    Ok(Run {
+        reads: Vec::with_capacity(alloc, PLACES)?,
+        writes: Vec::with_capacity(alloc, PLACES)?,
+    })
+}
+
+/// A run that keeps nothing, for each seat.
+fn new_runs(alloc: Global) -> Result<Vec<Run>, AllocError>
+    ensures len { IfOk result (λ v. length v.items ≡ SEATS) }
+    ensures room { IfOk result (λ v. AllByRecursion HasRoom v.items) }
+    ensures none { IfOk result (λ v. AllByRecursion IsEmpty v.items) }
+{
+    let mut runs = Vec::new(alloc);
+    for _ in 0..PLACES {
+        runs.push(new_run(alloc)?)?;
+    }
+    Ok(runs)
+}
+
+/// A head of no line, for each seat.
+fn new_heads(alloc: Global) -> Result<Vec<Head>, AllocError>
+    ensures { IfOk result (λ v. length v.items ≡ SEATS) }
+{
+    let mut heads = Vec::new(alloc);
+    for _ in 0..PLACES {
+        heads.push(no_head())?;
+    }
+    Ok(heads)
+}
+
+/// Makes a list a copy of these claims, in the room that it has.
+fn copy_claims(to: &mut Vec<Claimed>, from: &[Claimed])
+    requires { length from.now ≤ vec_capacity to.old }
+    ensures items { to.new.items ≡ from.now }
+    ensures capacity { vec_capacity to.new ≡ vec_capacity to.old }
+{
+    to.clear();
+    for x in from {
+        to.push_reserved(*x);
+    }
+}
+
+impl Following {
+    /// A follower that followed no event. Any machine that took none yet may be followed.
+    ///
+    /// # Errors
+    ///
+    /// Want of memory.
+    pub fn new(alloc: Global) -> Result<Following, AllocError>
+        ensures { IfOk result (λ made. (groups : ReadGroups) (seats cap : ℕ) → seats ≤ SEATS → 1 ≤ cap → cap ≤ SEATS → Follows made (begun groups seats cap)) }
+    {
+        Ok(Following {
+            last: Vec::with_capacity(alloc, CLAIMS)?,
+            runs: new_runs(alloc)?,
+            lengths: [Lengths { len: 0, later: 0 }; PLACES],
+            asks: [0; PLACES],
+            heads: new_heads(alloc)?,
+            next_heads: new_heads(alloc)?,
+            classes: Vec::with_capacity(alloc, CLAIMS)?,
+            scratch: new_run(alloc)?,
+            ended: Vec::with_capacity(alloc, CLAIMS)?,
+        })
+    }
+
+    /// Steps the machine by an event, and follows it. The machine stands behind the events that were followed before. No
+    /// memory is taken.
+    ///
+    /// # Errors
+    ///
+    /// The refusal of the machine. Then the machine stands as before, and the same events are followed.
+    pub fn step(&mut self, machine: &mut Plain, event: &Event) -> Result<(), Refused>
+        requires fits { Fits machine.old.state event.now }
+        requires known { (p : Past) × Follows self.old p × (machine.old.state ≡ state_of p) × (length p.events < 2 ^ 63) }
+        ensures accepted { IsOk result ↔ Accepts machine.old.state event.now }
+        ensures refused { IfErr result (λ cause. refusal machine.old.state event.now ≡ Some cause) }
+        ensures unchanged { OnErr result (machine.new.state ≡ machine.old.state) }
+        ensures untold { OnErr result (machine.new.last ≡ machine.old.last) }
+        ensures still { OnErr result ((p : Past) → Follows self.old p → Follows self.new p) }
+        ensures step { OnOk result (Steps machine.old.state event.now machine.new.state) }
+        ensures after { OnOk result (machine.new.state ≡ next machine.old.state event.now) }
+        ensures changes { OnOk result (machine.new.last ≡ changes_between machine.old.state machine.new.state) }
+        ensures active { OnOk result (AreActive machine.new.last.statuses) }
+        ensures normal { OnOk result (IsNormalEvent event.now) }
+        ensures followed { OnOk result ((p : Past) → Follows self.old p → machine.old.state ≡ state_of p → Follows self.new (with_event p event.now)) }
+    {
+        self.note(machine, event);
+        machine.step(*event)?;
+        self.follow(machine, event);
+        Ok(())
+    }
+
+    // Notes the claims before an event that is no issue.
+    fn note(&mut self, machine: &Plain, event: &Event)
+        requires known { (p : Past) × Follows self.old p × (machine.now.state ≡ state_of p) }
+        ensures still { (p : Past) → Follows self.old p → Follows self.new p }
+        ensures noted { is_issue event.now ≡ false → self.new.last.items ≡ machine.now.state.claims }
+    {
+        if !is_issue(event) {
+            copy_claims(&mut self.last, machine.claims());
+        }
+    }
+
+    // Follows an event that the machine took.
+    fn follow(&mut self, machine: &Plain, event: &Event)
+        requires { (p : Past) × IsAhead self.old machine.now p event.now × (length p.events < 2 ^ 63) }
+        ensures { (p : Past) → IsAhead self.old machine.now p event.now → Follows self.new (with_event p event.now) }
+    {
+        if is_issue(event) {
+            self.begin(machine, event);
+        } else {
+            self.advance(machine, event);
+        }
+    }
+
+    // Follows an issue: it ends no wait, and of its seat's wait nothing is kept yet. All other waits go on as they are.
+    fn begin(&mut self, machine: &Plain, event: &Event)
+        requires ahead { (p : Past) × IsAhead self.old machine.now p event.now × (length p.events < 2 ^ 63) }
+        requires issue { is_issue event.now ≡ true }
+        ensures { (p : Past) → IsAhead self.old machine.now p event.now → Follows self.new (with_event p event.now) }
+    {
+        clear_run(&mut self.runs, event.seat());
+        self.ended.clear();
+        note_lengths(&mut self.lengths, event);
+        note_ask(&mut self.asks, event);
+    }
+
+    // Follows an event that is no issue: each wait of before it is looked at, and each of after it.
+    fn advance(&mut self, machine: &Plain, event: &Event)
+        requires ahead { (p : Past) × IsAhead self.old machine.now p event.now × (length p.events < 2 ^ 63) }
+        requires other { is_issue event.now ≡ false }
+        ensures { (p : Past) → IsAhead self.old machine.now p event.now → Follows self.new (with_event p event.now) }
+    {
+        tell(
+            &mut self.ended,
+            &mut self.scratch,
+            &self.runs,
+            &self.lengths,
+            &self.asks,
+            event.seat(),
+            &machine.changes().grants,
+            &self.last,
+            machine.claims(),
+        );
+        note_lengths(&mut self.lengths, event);
+        note_ask(&mut self.asks, event);
+        tell_heads(&mut self.heads, &mut self.classes, &self.last);
+        tell_heads(&mut self.next_heads, &mut self.classes, machine.claims());
+        keep(
+            &mut self.runs,
+            event,
+            &self.lengths,
+            &self.heads,
+            &self.next_heads,
+            &self.last,
+            machine.claims(),
+        );
+    }
+
+    /// The waits with at least one moment that the last event ended, by rising stamp, with the numbers of their covers.
+    pub fn ended(&self) -> &[WaitEnd]
+        ensures none { (p : Past) → Follows self.now p → p.events ≡ [] → result.now ≡ [] }
+        ensures ended { (p : Past) → Follows self.now p → AreLastEnded p result.now }
+    {
+        &self.ended
+    }
+}
