@@ -3,6 +3,7 @@ pub mod Tracking
 pub mod Tables
 pub mod Rooms
 pub mod Noted
+pub mod Waiting
 pub mod Knowing
 pub mod Quiet
 pub mod Heads

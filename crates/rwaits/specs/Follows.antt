@@ -9,8 +9,9 @@ use Rattle.rplain.specs.Machine.{Standing}
 use Rattle.rcover.specs.History.{length_in, asks_since}
 use Rattle.rwaits.specs.declared.following.Following.{Following}
 use Rattle.rwaits.specs.Follow.{table_of, length_by, HasRoom, AreLong, AreOf}
-use Rattle.rwaits.specs.Past.{Past, start_of, state_of, moments_of, is_issue, AreLastEnded}
+use Rattle.rwaits.specs.Past.{Past, start_of, state_of, moments_of, AreLastEnded}
 use Rattle.rwaits.specs.Tracked.{AreTracked}
+use Rattle.rwaits.specs.Waiting.{HoldWaiting, ends_none}
 
 -- a follower has its room
 pub record HaveRoom (a : Following) : Type 0 where
@@ -36,6 +37,8 @@ pub record Follows (a : Following) (p : Past) : Type 0 where
   pub long : (rest : List Event) → AllByRecursion (AreLong (length_in (p.events ++ rest))) a.runs.items
   pub lengths : (rest : List Event) → AreOf (length_by a.lengths) (length_in (p.events ++ rest)) (state_of p).claims
   pub asks : (seat : ℕ) → seat < SEATS → slice_index a.asks seat ≡ asks_since seat p.events
+  -- no other seat waits than those that are noted
+  pub waiting : HoldWaiting a.waiting (state_of p).claims
   pub room : HaveRoom a
   -- and so are the waits that the last event ended
   pub none : p.events ≡ [] → a.ended.items ≡ []
@@ -47,5 +50,5 @@ pub record IsAhead (a : Following) (machine : Standing) (p : Past) (e : Event) :
   pub comes : Comes (state_of p) e
   pub state : machine.state ≡ next (state_of p) e
   pub changes : machine.last ≡ changes_between (state_of p) (next (state_of p) e)
-  -- the claims before it are noted, if it is no issue
-  pub noted : is_issue e ≡ false → a.last.items ≡ (state_of p).claims
+  -- the claims before it are noted, if it may end a wait
+  pub noted : ends_none a.waiting e ≡ false → a.last.items ≡ (state_of p).claims

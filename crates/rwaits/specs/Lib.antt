@@ -4,6 +4,7 @@ pub mod Tracked
 pub mod Follow
 pub mod Lines
 pub mod Past
+pub mod Waiting
 pub mod Follows
 pub mod Knows
 pub mod Quiet

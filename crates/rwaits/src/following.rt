@@ -8,20 +8,22 @@ ghost use Rattle.rclaim.specs.declared.event.Event.{Event};
 ghost use Rattle.rmodel.specs.Changes.{changes_between, AreActive};
 ghost use Rattle.rmodel.specs.Steps.{Fits, Accepts, Comes, Steps, next, refusal};
 ghost use Rattle.rwaits.specs.Follow.{HasRoom, IsEmpty};
-ghost use Rattle.rwaits.specs.Past.{Past, begun, is_issue, state_of, with_event, AreLastEnded};
+ghost use Rattle.rwaits.specs.Past.{Past, begun, state_of, with_event, AreLastEnded};
 ghost use Rattle.rwaits.specs.Follows.{Follows, IsAhead};
+ghost use Rattle.rwaits.specs.Waiting.{ends_none};
 
 use crate::follow::{clear_run, keep};
 use crate::lines::{Class, Head, no_head, tell_heads};
-use crate::noted::{is_issue, note_ask, note_lengths};
+use crate::noted::{note_ask, note_lengths};
 use crate::run::Run;
 use crate::section::Lengths;
 use crate::tell::tell;
+use crate::waiting::{ends_none, note_ended, note_seat};
 use rclaim::Event;
 use rcover::WaitEnd;
 use rmodel::{Claimed, Machine, Refused};
 use rplain::Plain;
-use rset::SEATS;
+use rset::{ResourceSet, SEATS};
 use std::alloc::{AllocError, Global};
 
 // A place for each seat.
@@ -34,7 +36,9 @@ const CLAIMS: usize = 2 * PLACES;
 /// and no list of events. All room is made when it is made.
 #[derive(Drop)]
 pub struct Following {
-    // The claims before the last event that was no issue.
+    // The seats that wait, with others maybe.
+    waiting: ResourceSet,
+    // The claims before the last event that might end a wait.
     last: Vec<Claimed>,
     // What is kept of the wait of each seat.
     runs: Vec<Run>,
@@ -107,6 +111,7 @@ impl Following {
         ensures { IfOk result (λ made. (groups : ReadGroups) (seats cap : ℕ) → seats ≤ SEATS → 1 ≤ cap → cap ≤ SEATS → Follows made (begun groups seats cap)) }
     {
         Ok(Following {
+            waiting: ResourceSet::empty(),
             last: Vec::with_capacity(alloc, CLAIMS)?,
             runs: new_runs(alloc)?,
             lengths: [Lengths { len: 0, later: 0 }; PLACES],
@@ -146,13 +151,13 @@ impl Following {
         Ok(())
     }
 
-    // Notes the claims before an event that is no issue.
+    // Notes the claims before an event that may end a wait.
     fn note(&mut self, machine: &Plain, event: &Event)
         requires known { (p : Past) × Follows self.old p × (machine.now.state ≡ state_of p) }
         ensures still { (p : Past) → Follows self.old p → Follows self.new p }
-        ensures noted { is_issue event.now ≡ false → self.new.last.items ≡ machine.now.state.claims }
+        ensures noted { ends_none self.new.waiting event.now ≡ false → self.new.last.items ≡ machine.now.state.claims }
     {
-        if !is_issue(event) {
+        if !ends_none(self.waiting, event) {
             copy_claims(&mut self.last, machine.claims());
         }
     }
@@ -162,29 +167,30 @@ impl Following {
         requires { (p : Past) × IsAhead self.old machine.now p event.now × (length p.events < 2 ^ 63) }
         ensures { (p : Past) → IsAhead self.old machine.now p event.now → Follows self.new (with_event p event.now) }
     {
-        if is_issue(event) {
-            self.begin(machine, event);
+        if ends_none(self.waiting, event) {
+            self.go_on(machine, event);
         } else {
             self.advance(machine, event);
         }
     }
 
-    // Follows an issue: it ends no wait, and of its seat's wait nothing is kept yet. All other waits go on as they are.
-    fn begin(&mut self, machine: &Plain, event: &Event)
+    // Follows an event that ends no wait. Of the wait of its seat nothing is kept yet, and all other waits go on as they are.
+    fn go_on(&mut self, machine: &Plain, event: &Event)
         requires ahead { (p : Past) × IsAhead self.old machine.now p event.now × (length p.events < 2 ^ 63) }
-        requires issue { is_issue event.now ≡ true }
+        requires calm { ends_none self.old.waiting event.now ≡ true }
         ensures { (p : Past) → IsAhead self.old machine.now p event.now → Follows self.new (with_event p event.now) }
     {
         clear_run(&mut self.runs, event.seat());
         self.ended.clear();
         note_lengths(&mut self.lengths, event);
         note_ask(&mut self.asks, event);
+        note_seat(&mut self.waiting, event.seat(), machine.claims());
     }
 
-    // Follows an event that is no issue: each wait of before it is looked at, and each of after it.
+    // Follows an event that may end a wait: each wait of before it is looked at, and each of after it.
     fn advance(&mut self, machine: &Plain, event: &Event)
         requires ahead { (p : Past) × IsAhead self.old machine.now p event.now × (length p.events < 2 ^ 63) }
-        requires other { is_issue event.now ≡ false }
+        requires other { ends_none self.old.waiting event.now ≡ false }
         ensures { (p : Past) → IsAhead self.old machine.now p event.now → Follows self.new (with_event p event.now) }
     {
         tell(
@@ -211,6 +217,8 @@ impl Following {
             &self.last,
             machine.claims(),
         );
+        note_seat(&mut self.waiting, event.seat(), machine.claims());
+        note_ended(&mut self.waiting, &self.ended, machine.claims());
     }
 
     /// The waits with at least one moment that the last event ended, by rising stamp, with the numbers of their covers.

@@ -13,6 +13,7 @@ mod run;
 mod section;
 mod show;
 mod tell;
+mod waiting;
 
 pub use covers::Covers;
 pub use following::Following;

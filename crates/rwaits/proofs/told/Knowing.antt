@@ -40,6 +40,7 @@ use Rattle.rwaits.specs.Lines.{head_of, TellHeads, HeadsTell}
 use Rattle.rwaits.specs.Follows.{HaveRoom, Follows}
 use Rattle.rwaits.specs.Past.{Past, begun, with_event, start_of, state_of, noted, is_issue, StoodBy}
 use Rattle.rwaits.specs.Tracked.{shown, told}
+use Rattle.rwaits.specs.Waiting.{HoldWaiting}
 use Rattle.rwaits.proofs.lists.Kept.{length_claims}
 use Rattle.rwaits.proofs.told.Noted.{lengths_next, lengths_stay, asks_more}
 use Rattle.rwaits.proofs.told.Rooms.{waits_apart, kept_each, all_next_few}
@@ -251,8 +252,8 @@ module _ (a : Following) (p : Past) (k : Follows a p) where
         → ((rest : List Event) → AllByRecursion (AreLong (length_in (es ++ e ∷ rest))) b.runs.items)
         → ((c : Claim) → length_by b.lengths c ≡ noted e (length_by a.lengths) c)
         → ((seat : ℕ) → seat < SEATS → slice_index b.asks seat ≡ count_ask seat (slice_index a.asks seat) e)
-        → b.ended.items ≡ told es m n table → Follows b (with_event p e)
-    known b room kept long lengths asks ended = record {
+        → HoldWaiting b.waiting n → b.ended.items ≡ told es m n table → Follows b (with_event p e)
+    known b room kept long lengths asks waiting ended = record {
       accepted = accepted_push o es e k.accepted comes;
       seats = k.seats;
       some_cap = k.some_cap;
@@ -263,6 +264,7 @@ module _ (a : Following) (p : Past) (k : Follows a p) where
       lengths = λ rest.
           subst (λ (z : List Event × LockState). AreOf (length_by b.lengths) (length_in z.0) z.1.claims) (λ i. (behind rest i, sym at_next i)) (lengths_come (length_by b.lengths) lengths rest);
       asks = λ seat h. asks seat h ∙ ap (λ n. count_ask seat n e) (k.asks seat h) ∙ sym (asks_more seat es e);
+      waiting = subst (λ (s : LockState). HoldWaiting b.waiting s.claims) (sym at_next) waiting;
       room = room;
       none = λ none. absurd (never_none none);
       ended = λ before last is.
@@ -292,6 +294,7 @@ known_first groups seats cap a most some few room long asks none = record {
   long = λ rest. long (length_in rest);
   lengths = λ rest. tt;
   asks = asks;
+  waiting = tt;
   room = room;
   none = λ _. none;
   ended = λ before last is. absurd (some_event before last is);

@@ -286,7 +286,20 @@ module _ (s : LockState) (seat : ℕ) (r : RequestFields) (reached : IsReached s
             ∙ sym (kept_new (table x.claim.seat) x new)
       ])
 
+  -- a claim of another seat was there, and waits as it did
+  pub old_as_before : (x : Claimed) → Among x n → x.claim.seat ≢ seat → Among x m × (may_wait n x ≡ may_wait m x)
+  old_as_before x there other = elim (among_append m ns x (subst (Among x) is there)) [
+    | inl old ↦ (old, ap (λ b. waits_first m x || b) (rise_stays x old))
+    | inr new ↦ absurd (other (of_seat x new).1)
+  ]
+
 -- an event that is an issue
+pub old_waits : (s : LockState) (e : Event) → IsReached s → Comes s e → is_issue e ≡ true → (x : Claimed) → Among x (next s e).claims → x.claim.seat ≢ seat_of e → Among x s.claims × (may_wait (next s e).claims x ≡ may_wait s.claims x)
+old_waits s (Issue seat r) reached comes issue x there other = old_as_before s seat r reached comes x there other
+old_waits s (Finish seat) reached comes issue x there other = contrary false issue refl
+old_waits s (event.Rise seat) reached comes issue x there other = contrary false issue refl
+old_waits s (event.Ask seat part) reached comes issue x there other = contrary false issue refl
+
 pub begun_kept : (s : LockState) (e : Event) → IsReached s → Comes s e → is_issue e ≡ true → (table table' : ℕ → Sections) → ((other : ℕ) → table' other ≡ with_entry table (seat_of e) no_sections other)
     → AllByRecursion (λ x. may_wait (next s e).claims x ≡ true → table' x.claim.seat ≡ kept_of s.claims (next s e).claims (table x.claim.seat) x) (next s e).claims
 begun_kept s (Issue seat r) reached comes issue table table' are = kept_all s seat r reached comes table table' are

@@ -62,13 +62,16 @@ module _ (s : LockState) (e : Event) (reached : IsReached s) (comes : Comes s e)
   stands_by test c y there same passes =
       any_among (λ z. is_claim c z.claim && test m z) m y there (and_from (is_claim c y.claim) (test m y) (ap (is_claim c) (sym same) ∙ is_itself c) passes)
 
-  first_stood : (x : Claimed) → Among x n → waits_first n x ≡ true → stands waits_first x.claim m ≡ true
-  first_stood x there on =
+  -- a first wait was one before it
+  pub first_was : (x : Claimed) → (there : Among x n) → waits_first n x ≡ true → waits_first m (before x there).0 ≡ true
+  first_was x there on =
       let was = before x there in
       let parts = and_parts (is_nothing (held_by x)) (not (is_rising_half x.claim)) on in
       let none = within_nothing (held_by was.0) (subst (λ g. is_within (held_by was.0) g ≡ true) (nothing_of (held_by x) parts.0) (grown_holds was.0 x was.2)) in
-      stands_by waits_first x.claim was.0 was.1 was.2.claim
-      (and_from (is_nothing (held_by was.0)) (not (is_rising_half was.0.claim)) (is_nothing_of (held_by was.0) none) (ap (λ d. not (is_rising_half d)) (sym was.2.claim) ∙ parts.1))
+      and_from (is_nothing (held_by was.0)) (not (is_rising_half was.0.claim)) (is_nothing_of (held_by was.0) none) (ap (λ d. not (is_rising_half d)) (sym was.2.claim) ∙ parts.1)
+
+  first_stood : (x : Claimed) → Among x n → waits_first n x ≡ true → stands waits_first x.claim m ≡ true
+  first_stood x there on = let was = before x there in stands_by waits_first x.claim was.0 was.1 was.2.claim (first_was x there on)
 
   pub rising_parts : (k : Moment) (x : Claimed) → waits_to_rise k x ≡ true → (is_rising_half x.claim ≡ true) × (has_read_claim k x.claim ≡ false) × (is_satisfied x ≡ false)
   rising_parts k x on =
@@ -85,8 +88,9 @@ module _ (s : LockState) (e : Event) (reached : IsReached s) (comes : Comes s e)
   not_given (event.Rise seat) comes old c x there is rises = rises
   not_given (event.Ask seat part) comes old c x there is rises = refl
 
-  rise_stood : (x : Claimed) → Among x n → waits_to_rise n x ≡ true → rises_at e x.claim.seat ≡ false → stands waits_to_rise x.claim m ≡ true
-  rise_stood x there on rises =
+  -- and so was the wait of an upgrade to rise, but for the one that rises
+  pub rise_was : (x : Claimed) → (there : Among x n) → waits_to_rise n x ≡ true → rises_at e x.claim.seat ≡ false → waits_to_rise m (before x there).0 ≡ true
+  rise_was x there on rises =
       let was = before x there in
       let parts = rising_parts n x on in
       let from = came s e reached comes x there in
@@ -101,9 +105,11 @@ module _ (s : LockState) (e : Event) (reached : IsReached s) (comes : Comes s e)
       let same : on.0.claim ≡ z.claim = on.1.given.claim ∙ on.1.by_rule.same ∙ to.still.claim in
       contrary ((on.0.claim.seat == x.claim.seat) && not on.0.claim.write_half) (ap (λ (d : Claim). (d.seat == x.claim.seat) && not d.write_half) same ∙ reads)
       (none_among (λ y. (y.claim.seat == x.claim.seat) && not y.claim.write_half) n on.0 parts.1 on.1.in_next))) in
-      stands_by waits_to_rise x.claim was.0 was.1 was.2.claim
-      (and_from (is_rising_half was.0.claim && not (has_read_claim m was.0.claim)) (not (is_satisfied was.0))
-      (and_from (is_rising_half was.0.claim) (not (has_read_claim m was.0.claim)) (ap is_rising_half (sym was.2.claim) ∙ parts.0) (ap (λ d. not (has_read_claim m d)) (sym was.2.claim) ∙ ap not none)) (ap not unsat))
+      and_from (is_rising_half was.0.claim && not (has_read_claim m was.0.claim)) (not (is_satisfied was.0))
+      (and_from (is_rising_half was.0.claim) (not (has_read_claim m was.0.claim)) (ap is_rising_half (sym was.2.claim) ∙ parts.0) (ap (λ d. not (has_read_claim m d)) (sym was.2.claim) ∙ ap not none)) (ap not unsat)
+
+  rise_stood : (x : Claimed) → Among x n → waits_to_rise n x ≡ true → rises_at e x.claim.seat ≡ false → stands waits_to_rise x.claim m ≡ true
+  rise_stood x there on rises = let was = before x there in stands_by waits_to_rise x.claim was.0 was.1 was.2.claim (rise_was x there on rises)
 
   -- the read half of the upgrade that rises was there
   half_there : (e : Event) → Comes s e → (seat : ℕ) → rises_at e seat ≡ true → list_any (λ x. (x.claim.seat == seat) && is_read_half x.claim) m ≡ true

@@ -23,8 +23,11 @@ use Rattle.rmodel.specs.Changes.{changes_between}
 use Rattle.rwaits.specs.Past.{state_of, StoodBy}
 use Rattle.rwaits.specs.Quiet.{GoesOn}
 use Rattle.rwaits.specs.Tracked.{shown, told}
-use Rattle.rwaits.proofs.told.Knowing.{claims_few, seats_now, shown_few, asks_now, lengths_now, long_now, event_seat, seats_next, apart_next, few_next, lengths_stay_on, lengths_come, refilled, refilled_heads, known, seats_at, rising_now, one_each_now, seats_next_at, seats_both, claims_few_next, rising_next, one_each_next, heads_tell, stood_next, quiet_now}
+use Rattle.rwaits.proofs.told.Knowing.{reached, claims_few, seats_now, shown_few, asks_now, lengths_now, long_now, event_seat, seats_next, apart_next, few_next, lengths_stay_on, lengths_come, refilled, refilled_heads, known, seats_at, rising_now, one_each_now, seats_next_at, seats_both, claims_few_next, rising_next, one_each_next, heads_tell, stood_next, quiet_now}
 use Rattle.rwaits.proofs.told.Noted.{asks_at_most}
+use Rattle.rset.specs.Sets.{Set}
+use Rattle.rwaits.specs.Waiting.{HoldWaiting, with_seat}
+use Rattle.rwaits.proofs.told.Waiting.{plain_of, waiting_next}
 use Rattle.rwaits.proofs.following.Following.advance.Goals as goal
 
 pub tell-requires-clause-seats : goal.tell-requires-clause-seats
@@ -191,7 +194,7 @@ returns c = λ p g.
     let runs = c.keep.new.runs in
     let same : length runs ≡ length a.runs.items = c.keep.ensures.len ∙ ap (λ (rs : List Run). length rs) c.deref_mut-3.ensures.value in
     let kept_runs : (with_items a.runs runs).items ≡ runs = refilled a.runs runs same in
-    let b : Following = record { last = a.last; runs = with_items a.runs runs; lengths = lengths; asks = c.note_ask.new.asks; heads = with_items a.heads c.tell_heads.new.heads; next_heads = with_items a.next_heads c.tell_heads-2.new.heads; classes = c.tell_heads-2.new.classes; scratch = c.tell.new.scratch; ended = c.tell.new.ended } in
+    let b : Following = record { waiting = c.note_ended.new.waiting; last = a.last; runs = with_items a.runs runs; lengths = lengths; asks = c.note_ask.new.asks; heads = with_items a.heads c.tell_heads.new.heads; next_heads = with_items a.next_heads c.tell_heads-2.new.heads; classes = c.tell_heads-2.new.classes; scratch = c.tell.new.scratch; ended = c.tell.new.ended } in
     known a p k e comes b
     (record {
       last = k.room.last;
@@ -215,6 +218,7 @@ returns c = λ p g.
     (subst (λ (rs : List Run). AllByRecursion (AreLong (length_in (es ++ e ∷ rest))) rs) (sym c.deref_mut-3.ensures.value) (k.long (e ∷ rest)))))
     c.note_lengths.ensures.value
     (λ seat h. c.note_ask.ensures.value seat (subst (λ l. seat < l) (sym k.room.asks) h))
+    (subst (λ (n : Moment). HoldWaiting c.note_ended.new.waiting n) (c.claims-5.ensures ∙ ap (λ (t : LockState). t.claims) g.state) c.note_ended.ensures)
     (c.tell.ensures.told es
     (subst (λ (m : Moment). AllByRecursion (λ x. slice_index a.asks x.claim.seat ≡ asks_since x.claim.seat es) m) (sym told_m) (asks_now a p k))
     (subst (λ (m : Moment). AreOf (length_by a.lengths) (length_in es) m) (sym told_m) (lengths_now a p k))
@@ -228,7 +232,7 @@ keep-requires-clause-stood c =
     let e = c.args.event.now in
     let at_m = c.deref-7.ensures.value ∙ c.requires.ahead.1.noted c.requires.other in
     let at_n = c.claims-3.ensures ∙ ap (λ (s : LockState). s.claims) c.requires.ahead.1.state in
-    subst (λ (z : Moment × Moment). AllByRecursion (StoodBy e z.0 z.1) z.1) (λ i. (sym at_m i, sym at_n i)) (stood_next c.args.self.now p k e c.requires.ahead.1.comes c.requires.other)
+    subst (λ (z : Moment × Moment). AllByRecursion (StoodBy e z.0 z.1) z.1) (λ i. (sym at_m i, sym at_n i)) (stood_next c.args.self.now p k e c.requires.ahead.1.comes (plain_of c.args.self.now.waiting c.args.event.now c.requires.other))
 
 pub tell-requires-clause-quiet : goal.tell-requires-clause-quiet
 tell-requires-clause-quiet c =
@@ -240,7 +244,7 @@ tell-requires-clause-quiet c =
     let grants : c.deref-2.result.now ≡ (changes_between (state_of p) (next (state_of p) e)).grants
     = c.deref-2.ensures.value ∙ ap (λ (l : ChangeLists). l.grants) (c.behind-machine.view_is ∙ c.changes.ensures ∙ c.requires.ahead.1.changes) in
     subst (λ (z : ℕ × List GrantChange × Moment × Moment). AllByRecursion (GoesOn z.0 z.1 z.2 z.3) z.2) (λ i. (sym c.seat.ensures i, sym grants i, sym at_m i, sym at_n i))
-    (quiet_now c.args.self.now p k e c.requires.ahead.1.comes c.requires.other)
+    (quiet_now c.args.self.now p k e c.requires.ahead.1.comes (plain_of c.args.self.now.waiting c.args.event.now c.requires.other))
 
 pub keep-requires-clause-last_rises : goal.keep-requires-clause-last_rises
 keep-requires-clause-last_rises c =
@@ -256,3 +260,16 @@ keep-requires-clause-next_rises c =
     let e = c.args.event.now in
     let at_n = c.claims-3.ensures ∙ ap (λ (s : LockState). s.claims) c.requires.ahead.1.state in
     subst (EachPair Rises) (sym at_n) (rising_next c.args.self.now p k e c.requires.ahead.1.comes)
+
+pub note_ended-requires : goal.note_ended-requires
+note_ended-requires c =
+    let p = c.requires.ahead.0 in
+    let k = c.requires.ahead.1.follows in
+    let e = c.args.event.now in
+    let at_n : c.claims-4.result.now ≡ (next (state_of p) e).claims = c.claims-4.ensures ∙ ap (λ (t : LockState). t.claims) c.requires.ahead.1.state in
+    subst (λ (z : Set × Moment). HoldWaiting z.0 z.1)
+    (λ i. (sym (c.note_seat.ensures ∙ (λ j. with_seat c.args.self.now.waiting (at_n j) (c.seat-2.ensures j))) i, sym (c.claims-5.ensures ∙ ap (λ (t : LockState). t.claims) c.requires.ahead.1.state) i))
+    (waiting_next (state_of p) e (reached c.args.self.now p k) c.requires.ahead.1.comes c.args.self.now.waiting k.waiting)
+
+pub note_seat-requires : goal.note_seat-requires
+note_seat-requires c = subst (λ l. l < SEATS) (sym c.seat-2.ensures) (event_seat c.args.self.now c.requires.ahead.0 c.requires.ahead.1.follows c.args.event.now c.requires.ahead.1.comes)

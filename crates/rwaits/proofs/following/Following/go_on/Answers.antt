@@ -1,17 +1,23 @@
 use Rattle.std.proofs.Common.{◌≡◌, ℕ, ◌<◌, List, ◌∷◌, ◌++◌, length, sym, ap, subst, ◌∙◌, arith}
 use Rattle.std.specs.List.{AllByRecursion}
 use Rattle.std.specs.Vec.{with_items}
+use Rattle.rset.specs.declared.TheConstants.{SEATS}
 use Rattle.rclaim.specs.Events.{seat_of}
+use Rattle.rmodel.specs.State.{LockState}
+use Rattle.rmodel.specs.Steps.{next}
 use Rattle.rcover.specs.History.{length_in}
+use Rattle.rcover.specs.Moments.{Moment}
 use Rattle.rwaits.specs.declared.following.Following.{Following}
 use Rattle.rwaits.specs.declared.run.Run.{Run}
 use Rattle.rwaits.specs.Follow.{table_of, HasRoom, AreLong, with_entry}
 use Rattle.rwaits.specs.Past.{state_of}
+use Rattle.rwaits.specs.Waiting.{HoldWaiting, with_seat}
+use Rattle.rset.specs.Sets.{Set}
 use Rattle.rwaits.specs.Tracked.{no_sections}
 use Rattle.rwaits.proofs.told.Knowing.{reached, event_seat, refilled, known}
 use Rattle.rwaits.proofs.told.Noted.{asks_at_most}
-use Rattle.rwaits.proofs.told.Quiet.{begun_kept, begun_told}
-use Rattle.rwaits.proofs.following.Following.begin.Goals as goal
+use Rattle.rwaits.proofs.told.Waiting.{calm_all, calm_none, waiting_next}
+use Rattle.rwaits.proofs.following.Following.go_on.Goals as goal
 
 pub clear_run-requires-clause-seat : goal.clear_run-requires-clause-seat
 clear_run-requires-clause-seat c =
@@ -49,7 +55,11 @@ returns c = λ p g.
     let runs = c.clear_run.new.runs in
     let same : length runs ≡ length a.runs.items = c.clear_run.ensures.len ∙ ap (λ (rs : List Run). length rs) c.deref_mut.ensures.value in
     let kept_runs : (with_items a.runs runs).items ≡ runs = refilled a.runs runs same in
-    let b : Following = record { last = a.last; runs = with_items a.runs runs; lengths = c.note_lengths.new.lengths; asks = c.note_ask.new.asks; heads = a.heads; next_heads = a.next_heads; classes = a.classes; scratch = a.scratch; ended = c.clear.new.self } in
+    let b : Following = record { waiting = c.note_seat.new.waiting; last = a.last; runs = with_items a.runs runs; lengths = c.note_lengths.new.lengths; asks = c.note_ask.new.asks; heads = a.heads; next_heads = a.next_heads; classes = a.classes; scratch = a.scratch; ended = c.clear.new.self } in
+    let cleared : (other : ℕ) → table_of b.runs.items other ≡ with_entry table (seat_of e) no_sections other
+    = λ other.
+    ap (λ (rs : List Run). table_of rs other) kept_runs ∙ c.clear_run.ensures.kept other
+    ∙ (λ i. with_entry (table_of (c.deref_mut.ensures.value i)) (c.seat.ensures i) no_sections other) in
     known a p k e comes b
     (record {
       last = k.room.last;
@@ -63,13 +73,16 @@ returns c = λ p g.
       next_heads = k.room.next_heads;
       classes = k.room.classes;
     })
-    (begun_kept (state_of p) e (reached a p k) comes c.requires.issue table (table_of b.runs.items)
-    (λ other.
-    ap (λ (rs : List Run). table_of rs other) kept_runs ∙ c.clear_run.ensures.kept other
-    ∙ (λ i. with_entry (table_of (c.deref_mut.ensures.value i)) (c.seat.ensures i) no_sections other)))
+    (calm_all (state_of p) e (reached a p k) comes a.waiting k.waiting c.requires.calm table (table_of b.runs.items) cleared)
     (λ rest.
     subst (AllByRecursion (AreLong (length_in (es ++ e ∷ rest)))) (sym kept_runs)
     (c.clear_run.ensures.lengths (length_in (es ++ e ∷ rest)) (subst (λ (rs : List Run). AllByRecursion (AreLong (length_in (es ++ e ∷ rest))) rs) (sym c.deref_mut.ensures.value) (k.long (e ∷ rest)))))
     c.note_lengths.ensures.value
     (λ seat h. c.note_ask.ensures.value seat (subst (λ l. seat < l) (sym k.room.asks) h))
-    (c.clear.ensures.items ∙ sym (begun_told (state_of p) e (reached a p k) comes c.requires.issue es table))
+    (subst (λ (w : Set). HoldWaiting w (next (state_of p) e).claims)
+    (sym (c.note_seat.ensures ∙ (λ i. with_seat a.waiting ((c.claims.ensures ∙ ap (λ (t : LockState). t.claims) g.state) i) (c.seat-2.ensures i))))
+    (waiting_next (state_of p) e (reached a p k) comes a.waiting k.waiting))
+    (c.clear.ensures.items ∙ sym (calm_none (state_of p) e (reached a p k) comes a.waiting k.waiting c.requires.calm es table))
+
+pub note_seat-requires : goal.note_seat-requires
+note_seat-requires c = subst (λ l. l < SEATS) (sym c.seat-2.ensures) (event_seat c.args.self.now c.requires.ahead.0 c.requires.ahead.1.follows c.args.event.now c.requires.ahead.1.comes)

@@ -1,0 +1,30 @@
+-- Which seats wait.
+use Rattle.std.specs.Prelude.{◌≡◌, ◌==◌, ℕ, Bool, true, nat_lt, ◌&&◌, ◌||◌, if◌then◌else◌}
+use Rattle.std.specs.List.{list_any, AllByRecursion}
+use Rattle.std.specs.FinSet.{contains, empty, insert, is_subset, len, remove}
+use Rattle.rset.specs.Sets.{Set}
+use Rattle.rclaim.specs.declared.event.Event.{Event}
+use Rattle.rmodel.specs.declared.claimed.Claimed.{Claimed}
+use Rattle.rcover.specs.Moments.{Moment}
+use Rattle.rwaits.specs.Follow.{may_wait}
+use Rattle.rwaits.specs.Past.{is_issue}
+
+-- a claim is in a wait, or asks for something
+abbrev pub some_wait : Moment → Claimed → Bool
+some_wait n x = may_wait n x || nat_lt 0 (len x.asked)
+
+-- some claim of a seat is so
+abbrev pub seat_waits : Moment → ℕ → Bool
+seat_waits n seat = list_any (λ x. (x.claim.seat == seat) && some_wait n x) n
+
+-- the seats of all claims that wait are among these
+abbrev pub HoldWaiting : Set → Moment → Type 0
+HoldWaiting seats n = AllByRecursion (λ x. some_wait n x ≡ true → contains seats x.claim.seat ≡ true) n
+
+-- seats, with one of which it is told whether it waits
+abbrev pub with_seat : Set → Moment → ℕ → Set
+with_seat seats n seat = if seat_waits n seat then insert seats seat else remove seats seat
+
+-- an event ends no wait: it is an issue, or no seat waits
+abbrev pub ends_none : Set → Event → Bool
+ends_none seats e = is_issue e || is_subset seats empty
