@@ -9,6 +9,7 @@ use Rattle.rplain.specs.Machine.{Standing}
 use Rattle.rcover.specs.History.{length_in, asks_since}
 use Rattle.rwaits.specs.declared.following.Following.{Following}
 use Rattle.rwaits.specs.Follow.{table_of, length_by, HasRoom, AreLong, AreOf}
+use Rattle.rwaits.specs.Heads.{HasPlaces, TellsNow}
 use Rattle.rwaits.specs.Past.{Past, start_of, state_of, moments_of, AreLastEnded}
 use Rattle.rwaits.specs.Tracked.{AreTracked}
 use Rattle.rwaits.specs.Waiting.{HoldWaiting, ends_none}
@@ -22,9 +23,7 @@ pub record HaveRoom (a : Following) : Type 0 where
   pub ended : vec_capacity a.ended ≡ 2 * SEATS
   pub lengths : length a.lengths ≡ SEATS
   pub asks : length a.asks ≡ SEATS
-  pub heads : length a.heads.items ≡ SEATS
-  pub next_heads : length a.next_heads.items ≡ SEATS
-  pub classes : vec_capacity a.classes ≡ 2 * SEATS
+  pub heads : HasPlaces a.heads
 
 -- a follower followed these events
 pub record Follows (a : Following) (p : Past) : Type 0 where
@@ -39,6 +38,8 @@ pub record Follows (a : Following) (p : Past) : Type 0 where
   pub asks : (seat : ℕ) → seat < SEATS → slice_index a.asks seat ≡ asks_since seat p.events
   -- no other seat waits than those that are noted
   pub waiting : HoldWaiting a.waiting (state_of p).claims
+  -- the least claims of the lines of all writes, if they are told
+  pub heads : TellsNow a.heads (state_of p).claims
   pub room : HaveRoom a
   -- and so are the waits that the last event ended
   pub none : p.events ≡ [] → a.ended.items ≡ []
@@ -50,5 +51,7 @@ pub record IsAhead (a : Following) (machine : Standing) (p : Past) (e : Event) :
   pub comes : Comes (state_of p) e
   pub state : machine.state ≡ next (state_of p) e
   pub changes : machine.last ≡ changes_between (state_of p) (next (state_of p) e)
-  -- the claims before it are noted, if it may end a wait
+  -- so many claims there were before it
+  pub there : a.there ≡ length (state_of p).claims
+  -- and they are noted, if it may end a wait
   pub noted : ends_none a.waiting e ≡ false → a.last.items ≡ (state_of p).claims

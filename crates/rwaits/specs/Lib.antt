@@ -3,6 +3,7 @@ pub mod Shown
 pub mod Tracked
 pub mod Follow
 pub mod Lines
+pub mod Heads
 pub mod Past
 pub mod Waiting
 pub mod Follows

@@ -51,6 +51,11 @@ head_of m c = record { claim = least_of c m; holds = holds_at (least_of c m) m }
 abbrev pub TellHeads : List Head → Moment → Type 0
 TellHeads hs m = AllByRecursion (λ x. x.claim.write_half ≡ true → slice_get hs x.claim.seat ≡ Some (head_of m x.claim)) m
 
+-- heads for each seat, and classes, are those of the writes at a moment
+pub record IsTold (hs : List Head) (ks : List Class) (m : Moment) : Type 0 where
+  pub heads : TellHeads hs m
+  pub classes : ks ≡ classes_of m
+
 -- a head for the seat of a write, and else those that there were
 abbrev pub heads_with : List Head → List Class → Claimed → ℕ → Option Head
 heads_with hs ks x seat = if x.claim.write_half then (if seat == x.claim.seat then Some (head_in ks x) else slice_get hs seat) else slice_get hs seat

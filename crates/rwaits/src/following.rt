@@ -13,8 +13,8 @@ ghost use Rattle.rwaits.specs.Follows.{Follows, IsAhead};
 ghost use Rattle.rwaits.specs.Waiting.{ends_none};
 
 use crate::follow::{clear_run, keep};
-use crate::lines::{Class, Head, no_head, tell_heads};
-use crate::noted::{note_ask, note_lengths};
+use crate::heads::Heads;
+use crate::noted::{is_issue, note_ask, note_lengths};
 use crate::run::Run;
 use crate::section::Lengths;
 use crate::tell::tell;
@@ -40,15 +40,15 @@ pub struct Following {
     waiting: ResourceSet,
     // The claims before the last event that might end a wait.
     last: Vec<Claimed>,
+    // How many claims there were before the last event.
+    there: usize,
     // What is kept of the wait of each seat.
     runs: Vec<Run>,
     // The lengths of the last request of each seat, and how many asks it made.
     lengths: [Lengths; PLACES],
     asks: [usize; PLACES],
-    // Room for the least claims of the lines of all writes, for each seat, before the last event and after it.
-    heads: Vec<Head>,
-    next_heads: Vec<Head>,
-    classes: Vec<Class>,
+    // The least claims of the lines of all writes.
+    heads: Heads,
     // Room for the sections of one wait.
     scratch: Run,
     ended: Vec<WaitEnd>,
@@ -78,17 +78,6 @@ fn new_runs(alloc: Global) -> Result<Vec<Run>, AllocError>
     Ok(runs)
 }
 
-/// A head of no line, for each seat.
-fn new_heads(alloc: Global) -> Result<Vec<Head>, AllocError>
-    ensures { IfOk result (λ v. length v.items ≡ SEATS) }
-{
-    let mut heads = Vec::new(alloc);
-    for _ in 0..PLACES {
-        heads.push(no_head())?;
-    }
-    Ok(heads)
-}
-
 /// Makes a list a copy of these claims, in the room that it has.
 fn copy_claims(to: &mut Vec<Claimed>, from: &[Claimed])
     requires { length from.now ≤ vec_capacity to.old }
@@ -113,12 +102,11 @@ impl Following {
         Ok(Following {
             waiting: ResourceSet::empty(),
             last: Vec::with_capacity(alloc, CLAIMS)?,
+            there: 0,
             runs: new_runs(alloc)?,
             lengths: [Lengths { len: 0, later: 0 }; PLACES],
             asks: [0; PLACES],
-            heads: new_heads(alloc)?,
-            next_heads: new_heads(alloc)?,
-            classes: Vec::with_capacity(alloc, CLAIMS)?,
+            heads: Heads::new(alloc)?,
             scratch: new_run(alloc)?,
             ended: Vec::with_capacity(alloc, CLAIMS)?,
         })
@@ -151,12 +139,14 @@ impl Following {
         Ok(())
     }
 
-    // Notes the claims before an event that may end a wait.
+    // Notes how many claims there are before an event, and which, if it may end a wait.
     fn note(&mut self, machine: &Plain, event: &Event)
         requires known { (p : Past) × Follows self.old p × (machine.now.state ≡ state_of p) }
         ensures still { (p : Past) → Follows self.old p → Follows self.new p }
+        ensures there { self.new.there ≡ length machine.now.state.claims }
         ensures noted { ends_none self.new.waiting event.now ≡ false → self.new.last.items ≡ machine.now.state.claims }
     {
+        self.there = machine.claims().len();
         if !ends_none(self.waiting, event) {
             copy_claims(&mut self.last, machine.claims());
         }
@@ -185,6 +175,8 @@ impl Following {
         note_lengths(&mut self.lengths, event);
         note_ask(&mut self.asks, event);
         note_seat(&mut self.waiting, event.seat(), machine.claims());
+        self.heads
+            .pass(is_issue(event), self.there, machine.claims());
     }
 
     // Follows an event that may end a wait: each wait of before it is looked at, and each of after it.
@@ -206,17 +198,17 @@ impl Following {
         );
         note_lengths(&mut self.lengths, event);
         note_ask(&mut self.asks, event);
-        tell_heads(&mut self.heads, &mut self.classes, &self.last);
-        tell_heads(&mut self.next_heads, &mut self.classes, machine.claims());
+        self.heads.tell_both(&self.last, machine.claims());
         keep(
             &mut self.runs,
             event,
             &self.lengths,
-            &self.heads,
-            &self.next_heads,
+            &self.heads.now,
+            &self.heads.next,
             &self.last,
             machine.claims(),
         );
+        self.heads.turn();
         note_seat(&mut self.waiting, event.seat(), machine.claims());
         note_ended(&mut self.waiting, &self.ended, machine.claims());
     }

@@ -7,6 +7,7 @@
 mod covers;
 mod follow;
 mod following;
+mod heads;
 mod lines;
 mod noted;
 mod run;

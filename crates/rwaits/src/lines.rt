@@ -1,9 +1,10 @@
 // The least claims of the lines of all writes, found from the front in one pass.
-ghost use Rattle.std.specs.Prelude.{◌≡◌, ◌≤◌, ◌<◌, ◌+◌, ℕ, Some, List, length, position, slice_get, vec_capacity};
+ghost use Rattle.std.specs.Prelude.{◌≡◌, ◌≤◌, ◌<◌, ◌+◌, ◌++◌, ℕ, Some, List, take, length, position, slice_get, vec_capacity};
 ghost use Rattle.std.specs.List.{AllByRecursion};
 ghost use Rattle.rset.specs.Sets.{meets};
 ghost use Rattle.rmodel.specs.WellFormed.{EachPair, Rises, Distinct};
-ghost use Rattle.rwaits.specs.Lines.{own_head, joined, head_in, with_write, TellHeads, heads_with};
+ghost use Rattle.rwaits.specs.Lines.{own_head, joined, head_in, with_write, classes_of, TellHeads, IsTold, heads_with};
+ghost use Rattle.rcover.specs.Moments.{Moment};
 
 use rclaim::{Claim, Kind};
 use rmodel::Claimed;
@@ -100,18 +101,50 @@ fn tell_head(heads: &mut [Head], classes: &mut Vec<Class>, x: &Claimed)
     }
 }
 
-/// Tells of each write at a moment the least claim of its line, and whether it is satisfied. `classes` is room.
+/// Tells of each of these writes the least claim of its line, and whether it is satisfied. `classes` are those of the writes
+/// before them.
+fn tell_each(heads: &mut [Head], classes: &mut Vec<Class>, rest: &[Claimed])
+    requires room { length classes.old.items + length rest.now ≤ vec_capacity classes.old }
+    requires seats { AllByRecursion (λ x. x.claim.seat < length heads.old) rest.now }
+    ensures told { (before : Moment) → EachPair Rises (before ++ rest.now) → EachPair Distinct (before ++ rest.now) → classes.old.items ≡ classes_of before → TellHeads heads.old before → IsTold heads.new classes.new.items (before ++ rest.now) }
+    ensures len { length heads.new ≡ length heads.old }
+    ensures capacity { vec_capacity classes.new ≡ vec_capacity classes.old }
+{
+    for x in rest {
+        tell_head(heads, classes, x);
+    }
+}
+
+/// Tells of each write at a moment the least claim of its line, and whether it is satisfied.
 pub(crate) fn tell_heads(heads: &mut [Head], classes: &mut Vec<Class>, moment: &[Claimed])
     requires room { length moment.now ≤ vec_capacity classes.old }
     requires seats { AllByRecursion (λ x. x.claim.seat < length heads.old) moment.now }
     requires rising { EachPair Rises moment.now }
     requires one_each { EachPair Distinct moment.now }
-    ensures heads { TellHeads heads.new moment.now }
+    ensures told { IsTold heads.new classes.new.items moment.now }
     ensures len { length heads.new ≡ length heads.old }
     ensures capacity { vec_capacity classes.new ≡ vec_capacity classes.old }
 {
     classes.clear();
-    for x in moment {
-        tell_head(heads, classes, x);
-    }
+    tell_each(heads, classes, moment);
+}
+
+/// The same of a moment where the claims from a place on are new, and of those before them it is told.
+pub(crate) fn tell_new(
+    heads: &mut [Head],
+    classes: &mut Vec<Class>,
+    moment: &[Claimed],
+    there: usize,
+)
+    requires there { there ≤ length moment.now }
+    requires told { IsTold heads.old classes.old.items (take there moment.now) }
+    requires room { length moment.now ≤ vec_capacity classes.old }
+    requires seats { AllByRecursion (λ x. x.claim.seat < length heads.old) moment.now }
+    requires rising { EachPair Rises moment.now }
+    requires one_each { EachPair Distinct moment.now }
+    ensures told { IsTold heads.new classes.new.items moment.now }
+    ensures len { length heads.new ≡ length heads.old }
+    ensures capacity { vec_capacity classes.new ≡ vec_capacity classes.old }
+{
+    tell_each(heads, classes, &moment[there..]);
 }

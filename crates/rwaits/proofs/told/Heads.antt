@@ -308,6 +308,26 @@ told_push hs hs' xs ys x rising distinct are told =
     stay [] apart told = tt
     stay (z ∷ zs) apart told = ((λ write. same z apart.0 write ∙ told.0 write), stay zs apart.1 told.1)
 
+pairs_front : (R : Claimed → Claimed → Type 0) (xs ys : Moment) → EachPair R (xs ++ ys) → EachPair R xs
+pairs_front R [] ys pairs = tt
+pairs_front R (x ∷ xs) ys pairs = (all_from (R x) xs (λ z there. all_at (R x) (xs ++ ys) z pairs.0 (in_append xs ys z there)), pairs_front R xs ys pairs.1)
+
+-- what is told of claims is so too where others stand behind them
+pub told_widen : (hs : List Head) (xs ys : Moment) → EachPair Rises (xs ++ ys) → Told hs xs xs → Told hs (xs ++ ys) xs
+told_widen hs xs ys rising told = go [] xs refl told
+  where
+    same : (us vs : Moment) (x : Claimed) → us ++ x ∷ vs ≡ xs → x.claim.write_half ≡ true → head_of xs x.claim ≡ head_of (xs ++ ys) x.claim
+    same us vs x is write =
+        let longer : us ++ x ∷ (vs ++ ys) ≡ xs ++ ys = sym (append_assoc us (x ∷ vs) ys) ∙ ap (λ zs. zs ++ ys) is in
+        ap (λ (zs : Moment). head_of zs x.claim) (sym is)
+        ∙ sym (head_told us vs x (subst (EachPair Rises) (sym is) (pairs_front Rises xs ys rising)) write)
+        ∙ head_told us (vs ++ ys) x (subst (EachPair Rises) (sym longer) rising) write
+        ∙ ap (λ (zs : Moment). head_of zs x.claim) longer
+
+    go : (us vs : Moment) → us ++ vs ≡ xs → Told hs xs vs → Told hs (xs ++ ys) vs
+    go us [] is told = tt
+    go us (x ∷ vs) is told = ((λ write. told.0 write ∙ ap Some (same us vs x is write)), go (us ++ x ∷ []) vs (append_assoc us (x ∷ []) vs ∙ is) told.1)
+
 -- ---- the code of classes
 
 abbrev pub shares : Claimed → Class → Bool
@@ -363,3 +383,11 @@ few_joined ks x = at x.claim.write_half
     at : (b : Bool) → length (cond b (joined ks x) ks) ≤ length ks + 1
     at true = few ks
     at false = omega arith
+
+-- there are no more classes than claims
+pub classes_few : (xs : Moment) → length (classes_of xs) ≤ length xs
+classes_few xs = let few = go [] xs in omega arith
+  where
+    go : (ks : List Class) (xs : Moment) → length (fold with_write ks xs) ≤ length ks + length xs
+    go ks [] = omega arith
+    go ks (x ∷ xs) = let rest = go (with_write ks x) xs in let few = few_joined ks x in omega arith

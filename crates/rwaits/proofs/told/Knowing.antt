@@ -41,6 +41,7 @@ use Rattle.rwaits.specs.Follows.{HaveRoom, Follows}
 use Rattle.rwaits.specs.Past.{Past, begun, with_event, start_of, state_of, noted, is_issue, StoodBy}
 use Rattle.rwaits.specs.Tracked.{shown, told}
 use Rattle.rwaits.specs.Waiting.{HoldWaiting}
+use Rattle.rwaits.specs.Heads.{IsMoment, TellsNow}
 use Rattle.rwaits.proofs.lists.Kept.{length_claims}
 use Rattle.rwaits.proofs.told.Noted.{lengths_next, lengths_stay, asks_more}
 use Rattle.rwaits.proofs.told.Rooms.{waits_apart, kept_each, all_next_few}
@@ -130,6 +131,9 @@ module _ (a : Following) (p : Past) (k : Follows a p) where
   pub one_each_now : EachPair Distinct m
   one_each_now = reached.sound.one_each
 
+  pub is_moment_now : IsMoment m
+  is_moment_now = record { few = claims_few; seats = seats_at SEATS refl; rising = rising_now; one_each = one_each_now }
+
   above : (b : Sections) → AreAtMost p.cap b → AreAtMost SEATS b
   above b few = let r = few.reads in let w = few.writes in let most = k.cap in record { reads = omega arith; writes = omega arith }
 
@@ -200,6 +204,9 @@ module _ (a : Following) (p : Past) (k : Follows a p) where
     pub one_each_next : EachPair Distinct n
     one_each_next = reached_on.sound.one_each
 
+    pub is_moment_next : IsMoment n
+    is_moment_next = record { few = claims_few_next; seats = seats_next_at SEATS refl; rising = rising_next; one_each = one_each_next }
+
     -- a wait stood before the event, but for that of the upgrade that rises
     pub stood_next : is_issue e ≡ false → AllByRecursion (StoodBy e m n) n
     stood_next old =
@@ -252,8 +259,8 @@ module _ (a : Following) (p : Past) (k : Follows a p) where
         → ((rest : List Event) → AllByRecursion (AreLong (length_in (es ++ e ∷ rest))) b.runs.items)
         → ((c : Claim) → length_by b.lengths c ≡ noted e (length_by a.lengths) c)
         → ((seat : ℕ) → seat < SEATS → slice_index b.asks seat ≡ count_ask seat (slice_index a.asks seat) e)
-        → HoldWaiting b.waiting n → b.ended.items ≡ told es m n table → Follows b (with_event p e)
-    known b room kept long lengths asks waiting ended = record {
+        → HoldWaiting b.waiting n → TellsNow b.heads n → b.ended.items ≡ told es m n table → Follows b (with_event p e)
+    known b room kept long lengths asks waiting heads ended = record {
       accepted = accepted_push o es e k.accepted comes;
       seats = k.seats;
       some_cap = k.some_cap;
@@ -265,6 +272,7 @@ module _ (a : Following) (p : Past) (k : Follows a p) where
           subst (λ (z : List Event × LockState). AreOf (length_by b.lengths) (length_in z.0) z.1.claims) (λ i. (behind rest i, sym at_next i)) (lengths_come (length_by b.lengths) lengths rest);
       asks = λ seat h. asks seat h ∙ ap (λ n. count_ask seat n e) (k.asks seat h) ∙ sym (asks_more seat es e);
       waiting = subst (λ (s : LockState). HoldWaiting b.waiting s.claims) (sym at_next) waiting;
+      heads = subst (λ (s : LockState). TellsNow b.heads s.claims) (sym at_next) heads;
       room = room;
       none = λ none. absurd (never_none none);
       ended = λ before last is.
@@ -283,9 +291,9 @@ empty_long [] none len = tt
 empty_long (r ∷ rs) none len =
     (record { reads = empty_claims len r.reads.items (ap (λ (b : Sections). b.reads) none.0); writes = empty_claims len r.writes.items (ap (λ (b : Sections). b.writes) none.0) }, empty_long rs none.1 len)
 
-pub known_first : (groups : ReadGroups) (seats cap : ℕ) (a : Following) → seats ≤ SEATS → 1 ≤ cap → cap ≤ SEATS → HaveRoom a
+pub known_first : (groups : ReadGroups) (seats cap : ℕ) (a : Following) → seats ≤ SEATS → 1 ≤ cap → cap ≤ SEATS → HaveRoom a → TellsNow a.heads []
     → ((len : Claim → ℕ) → AllByRecursion (AreLong len) a.runs.items) → ((seat : ℕ) → seat < SEATS → slice_index a.asks seat ≡ 0) → a.ended.items ≡ [] → Follows a (begun groups seats cap)
-known_first groups seats cap a most some few room long asks none = record {
+known_first groups seats cap a most some few room heads long asks none = record {
   accepted = tt;
   seats = most;
   some_cap = some;
@@ -295,6 +303,7 @@ known_first groups seats cap a most some few room long asks none = record {
   lengths = λ rest. tt;
   asks = asks;
   waiting = tt;
+  heads = heads;
   room = room;
   none = λ _. none;
   ended = λ before last is. absurd (some_event before last is);

@@ -1,6 +1,7 @@
 -- An issue ends no wait and leaves what is kept of others as it is.
-use Rattle.std.proofs.Common.{◌≡◌, ◌≢◌, ℕ, ◌<◌, ◌≤◌, ◌==◌, Bool, true, false, not, ◌&&◌, ◌||◌, cond, Option, Some, None, List, [], ◌∷◌, ◌++◌, append-nil, append_assoc, find, map, refl, sym, ap, subst, ◌∙◌, arith, inl, inr}
+use Rattle.std.proofs.Common.{◌≡◌, ◌≢◌, ℕ, ◌<◌, ◌≤◌, ◌==◌, Bool, true, false, not, ◌&&◌, ◌||◌, cond, Option, Some, None, List, [], ◌∷◌, ◌++◌, append-nil, append_assoc, find, length, length-append, map, take, refl, sym, ap, subst, ◌∙◌, arith, inl, inr}
 use Rattle.std.proofs.lemmas.Bool.{and_parts, and_from, eq-eqb, eqb-true}
+use Rattle.std.proofs.lemmas.List.{take-append-le, take_all}
 use Rattle.std.specs.List.{list_any, filter_map, cons_option, AllByRecursion}
 use Rattle.std.specs.Option.{IfSome, option_map, option_to_list}
 use Rattle.rclaim.specs.Events.{seat_of}
@@ -293,7 +294,19 @@ module _ (s : LockState) (seat : ℕ) (r : RequestFields) (reached : IsReached s
     | inr new ↦ absurd (other (of_seat x new).1)
   ]
 
+  -- the claims that were there stand before the new ones
+  pub first_there : (take (length m) n ≡ m) × (length m ≤ length n)
+  first_there =
+      let long = ap (λ (zs : Moment). length zs) is ∙ length-append m ns in
+      (ap (λ (zs : Moment). take (length m) zs) is ∙ take-append-le (length m) m ns (omega arith) ∙ take_all (length m) m (omega arith), omega arith)
+
 -- an event that is an issue
+pub there_before : (s : LockState) (e : Event) → IsReached s → Comes s e → is_issue e ≡ true → (take (length s.claims) (next s e).claims ≡ s.claims) × (length s.claims ≤ length (next s e).claims)
+there_before s (Issue seat r) reached comes issue = first_there s seat r reached comes
+there_before s (Finish seat) reached comes issue = contrary false issue refl
+there_before s (event.Rise seat) reached comes issue = contrary false issue refl
+there_before s (event.Ask seat part) reached comes issue = contrary false issue refl
+
 pub old_waits : (s : LockState) (e : Event) → IsReached s → Comes s e → is_issue e ≡ true → (x : Claimed) → Among x (next s e).claims → x.claim.seat ≢ seat_of e → Among x s.claims × (may_wait (next s e).claims x ≡ may_wait s.claims x)
 old_waits s (Issue seat r) reached comes issue x there other = old_as_before s seat r reached comes x there other
 old_waits s (Finish seat) reached comes issue x there other = contrary false issue refl

@@ -23,9 +23,10 @@ use Rattle.rmodel.specs.Changes.{changes_between}
 use Rattle.rwaits.specs.Past.{state_of, StoodBy}
 use Rattle.rwaits.specs.Quiet.{GoesOn}
 use Rattle.rwaits.specs.Tracked.{shown, told}
-use Rattle.rwaits.proofs.told.Knowing.{reached, claims_few, seats_now, shown_few, asks_now, lengths_now, long_now, event_seat, seats_next, apart_next, few_next, lengths_stay_on, lengths_come, refilled, refilled_heads, known, seats_at, rising_now, one_each_now, seats_next_at, seats_both, claims_few_next, rising_next, one_each_next, heads_tell, stood_next, quiet_now}
+use Rattle.rwaits.proofs.told.Knowing.{reached, claims_few, seats_now, shown_few, asks_now, lengths_now, long_now, event_seat, seats_next, apart_next, few_next, lengths_stay_on, lengths_come, refilled, is_moment_now, is_moment_next, known, seats_at, rising_now, one_each_now, seats_next_at, seats_both, claims_few_next, rising_next, one_each_next, heads_tell, stood_next, quiet_now}
 use Rattle.rwaits.proofs.told.Noted.{asks_at_most}
 use Rattle.rset.specs.Sets.{Set}
+use Rattle.rwaits.specs.Heads.{IsMoment, TellsNow}
 use Rattle.rwaits.specs.Waiting.{HoldWaiting, with_seat}
 use Rattle.rwaits.proofs.told.Waiting.{plain_of, waiting_next}
 use Rattle.rwaits.proofs.following.Following.advance.Goals as goal
@@ -61,67 +62,26 @@ note_ask-requires-clause-few c =
     let most = c.requires.ahead.2 in
     omega arith
 
-pub tell_heads-requires-clause-room : goal.tell_heads-requires-clause-room
-tell_heads-requires-clause-room c =
+pub tell_both-requires-clause-last : goal.tell_both-requires-clause-last
+tell_both-requires-clause-last c =
     let p = c.requires.ahead.0 in
     let k = c.requires.ahead.1.follows in
-    let at_m = c.deref-4.ensures.value ∙ c.requires.ahead.1.noted c.requires.other in
-    subst (λ (z : Moment × ℕ). length z.0 ≤ z.1) (λ i. (sym at_m i, sym k.room.classes i)) (claims_few c.args.self.now p k)
+    subst IsMoment (sym (c.deref-4.ensures.value ∙ c.requires.ahead.1.noted c.requires.other)) (is_moment_now c.args.self.now p k)
 
-pub tell_heads-requires-clause-seats : goal.tell_heads-requires-clause-seats
-tell_heads-requires-clause-seats c =
+pub tell_both-requires-clause-next : goal.tell_both-requires-clause-next
+tell_both-requires-clause-next c =
     let p = c.requires.ahead.0 in
     let k = c.requires.ahead.1.follows in
-    let at_m = c.deref-4.ensures.value ∙ c.requires.ahead.1.noted c.requires.other in
-    subst (λ (m : Moment). AllByRecursion (λ x. x.claim.seat < length c.deref_mut.result.now) m) (sym at_m)
-    (seats_at c.args.self.now p k (length c.deref_mut.result.now) (ap (λ (hs : List Head). length hs) c.deref_mut.ensures.value ∙ k.room.heads))
+    subst IsMoment (sym (c.claims-2.ensures ∙ ap (λ (s : LockState). s.claims) c.requires.ahead.1.state)) (is_moment_next c.args.self.now p k c.args.event.now c.requires.ahead.1.comes)
 
-pub tell_heads-requires-clause-rising : goal.tell_heads-requires-clause-rising
-tell_heads-requires-clause-rising c =
-    let p = c.requires.ahead.0 in
-    let k = c.requires.ahead.1.follows in
-    let at_m = c.deref-4.ensures.value ∙ c.requires.ahead.1.noted c.requires.other in
-    subst (EachPair Rises) (sym at_m) (rising_now c.args.self.now p k)
+pub tell_both-requires-clause-room : goal.tell_both-requires-clause-room
+tell_both-requires-clause-room c = c.requires.ahead.1.follows.room.heads
 
-pub tell_heads-requires-clause-one_each : goal.tell_heads-requires-clause-one_each
-tell_heads-requires-clause-one_each c =
-    let p = c.requires.ahead.0 in
-    let k = c.requires.ahead.1.follows in
-    let at_m = c.deref-4.ensures.value ∙ c.requires.ahead.1.noted c.requires.other in
-    subst (EachPair Distinct) (sym at_m) (one_each_now c.args.self.now p k)
+pub tell_both-requires-clause-told : goal.tell_both-requires-clause-told
+tell_both-requires-clause-told c = subst (TellsNow c.args.self.now.heads) (sym (c.deref-4.ensures.value ∙ c.requires.ahead.1.noted c.requires.other)) c.requires.ahead.1.follows.heads
 
-pub tell_heads-requires-2-clause-room : goal.tell_heads-requires-2-clause-room
-tell_heads-requires-2-clause-room c =
-    let p = c.requires.ahead.0 in
-    let k = c.requires.ahead.1.follows in
-    let e = c.args.event.now in
-    let at_n = c.claims-2.ensures ∙ ap (λ (s : LockState). s.claims) c.requires.ahead.1.state in
-    subst (λ (z : Moment × ℕ). length z.0 ≤ z.1) (λ i. (sym at_n i, sym (c.tell_heads.ensures.capacity ∙ k.room.classes) i)) (claims_few_next c.args.self.now p k e c.requires.ahead.1.comes)
-
-pub tell_heads-requires-2-clause-seats : goal.tell_heads-requires-2-clause-seats
-tell_heads-requires-2-clause-seats c =
-    let p = c.requires.ahead.0 in
-    let k = c.requires.ahead.1.follows in
-    let e = c.args.event.now in
-    let at_n = c.claims-2.ensures ∙ ap (λ (s : LockState). s.claims) c.requires.ahead.1.state in
-    subst (λ (n : Moment). AllByRecursion (λ x. x.claim.seat < length c.deref_mut-2.result.now) n) (sym at_n)
-    (seats_next_at c.args.self.now p k e c.requires.ahead.1.comes (length c.deref_mut-2.result.now) (ap (λ (hs : List Head). length hs) c.deref_mut-2.ensures.value ∙ k.room.next_heads))
-
-pub tell_heads-requires-2-clause-rising : goal.tell_heads-requires-2-clause-rising
-tell_heads-requires-2-clause-rising c =
-    let p = c.requires.ahead.0 in
-    let k = c.requires.ahead.1.follows in
-    let e = c.args.event.now in
-    let at_n = c.claims-2.ensures ∙ ap (λ (s : LockState). s.claims) c.requires.ahead.1.state in
-    subst (EachPair Rises) (sym at_n) (rising_next c.args.self.now p k e c.requires.ahead.1.comes)
-
-pub tell_heads-requires-2-clause-one_each : goal.tell_heads-requires-2-clause-one_each
-tell_heads-requires-2-clause-one_each c =
-    let p = c.requires.ahead.0 in
-    let k = c.requires.ahead.1.follows in
-    let e = c.args.event.now in
-    let at_n = c.claims-2.ensures ∙ ap (λ (s : LockState). s.claims) c.requires.ahead.1.state in
-    subst (EachPair Distinct) (sym at_n) (one_each_next c.args.self.now p k e c.requires.ahead.1.comes)
+pub turn-requires : goal.turn-requires
+turn-requires c = c.tell_both.ensures.room
 
 pub keep-requires-clause-head : goal.keep-requires-clause-head
 keep-requires-clause-head c =
@@ -129,14 +89,10 @@ keep-requires-clause-head c =
     let k = c.requires.ahead.1.follows in
     let e = c.args.event.now in
     let at_n = c.claims-3.ensures ∙ ap (λ (s : LockState). s.claims) c.requires.ahead.1.state in
-    let hs = c.deref-5.result.now in
-    let hs' = c.deref-6.result.now in
-    let told : c.deref-5.result.now ≡ c.tell_heads.new.heads = c.deref-5.ensures.value ∙ refilled_heads c.args.self.now.heads c.tell_heads.new.heads (c.tell_heads.ensures.len ∙ ap (λ (l : List Head). length l) c.deref_mut.ensures.value) in
-    let told' : c.deref-6.result.now ≡ c.tell_heads-2.new.heads = c.deref-6.ensures.value ∙ refilled_heads c.args.self.now.next_heads c.tell_heads-2.new.heads (c.tell_heads-2.ensures.len ∙ ap (λ (l : List Head). length l) c.deref_mut-2.ensures.value) in
     subst (λ (n : Moment). AllByRecursion (λ x. (x.claim.seat < length c.deref-5.result.now) × (x.claim.seat < length c.deref-6.result.now)) n) (sym at_n)
     (seats_both c.args.self.now p k e c.requires.ahead.1.comes (length c.deref-5.result.now) (length c.deref-6.result.now)
-    (ap (λ (l : List Head). length l) told ∙ c.tell_heads.ensures.len ∙ ap (λ (l : List Head). length l) c.deref_mut.ensures.value ∙ k.room.heads)
-    (ap (λ (l : List Head). length l) told' ∙ c.tell_heads-2.ensures.len ∙ ap (λ (l : List Head). length l) c.deref_mut-2.ensures.value ∙ k.room.next_heads))
+    (ap (λ (l : List Head). length l) c.deref-5.ensures.value ∙ c.tell_both.ensures.room.now)
+    (ap (λ (l : List Head). length l) c.deref-6.ensures.value ∙ c.tell_both.ensures.room.next))
 
 pub keep-requires-clause-heads : goal.keep-requires-clause-heads
 keep-requires-clause-heads c =
@@ -145,13 +101,13 @@ keep-requires-clause-heads c =
     let e = c.args.event.now in
     let at_m = c.requires.ahead.1.noted c.requires.other in
     let state = c.requires.ahead.1.state in
-    let told : c.deref-5.result.now ≡ c.tell_heads.new.heads = c.deref-5.ensures.value ∙ refilled_heads c.args.self.now.heads c.tell_heads.new.heads (c.tell_heads.ensures.len ∙ ap (λ (l : List Head). length l) c.deref_mut.ensures.value) in
-    let told' : c.deref-6.result.now ≡ c.tell_heads-2.new.heads = c.deref-6.ensures.value ∙ refilled_heads c.args.self.now.next_heads c.tell_heads-2.new.heads (c.tell_heads-2.ensures.len ∙ ap (λ (l : List Head). length l) c.deref_mut-2.ensures.value) in
+    let hs = c.tell_both.new.self.now.items in
+    let hs' = c.tell_both.new.self.next.items in
     subst (λ (z : List Head × List Head × Moment × Moment). AllByRecursion (HeadsTell z.0 z.1 z.2 z.3) z.3)
-    (λ i. (sym told i, sym told' i, sym (c.deref-7.ensures.value ∙ at_m) i, sym (c.claims-3.ensures ∙ ap (λ (s : LockState). s.claims) state) i))
-    (heads_tell c.args.self.now p k e c.requires.ahead.1.comes c.tell_heads.new.heads c.tell_heads-2.new.heads
-    (subst (TellHeads c.tell_heads.new.heads) (c.deref-4.ensures.value ∙ at_m) c.tell_heads.ensures.heads)
-    (subst (TellHeads c.tell_heads-2.new.heads) (c.claims-2.ensures ∙ ap (λ (s : LockState). s.claims) state) c.tell_heads-2.ensures.heads))
+    (λ i. (sym c.deref-5.ensures.value i, sym c.deref-6.ensures.value i, sym (c.deref-7.ensures.value ∙ at_m) i, sym (c.claims-3.ensures ∙ ap (λ (s : LockState). s.claims) state) i))
+    (heads_tell c.args.self.now p k e c.requires.ahead.1.comes hs hs'
+    (subst (TellHeads hs) (c.deref-4.ensures.value ∙ at_m) c.tell_both.ensures.now)
+    (subst (TellHeads hs') (c.claims-2.ensures ∙ ap (λ (s : LockState). s.claims) state) c.tell_both.ensures.next.heads))
 
 pub keep-requires-clause-seats : goal.keep-requires-clause-seats
 keep-requires-clause-seats c =
@@ -159,7 +115,7 @@ keep-requires-clause-seats c =
     let k = c.requires.ahead.1.follows in
     let e = c.args.event.now in
     let at_n = c.claims-3.ensures ∙ ap (λ (s : LockState). s.claims) c.requires.ahead.1.state in
-    subst (λ (z : List Run × Moment). AllByRecursion (λ x. x.claim.seat < length z.0) z.1) (λ i. (sym c.deref_mut-3.ensures.value i, sym at_n i)) (seats_next c.args.self.now p k e c.requires.ahead.1.comes)
+    subst (λ (z : List Run × Moment). AllByRecursion (λ x. x.claim.seat < length z.0) z.1) (λ i. (sym c.deref_mut.ensures.value i, sym at_n i)) (seats_next c.args.self.now p k e c.requires.ahead.1.comes)
 
 pub keep-requires-clause-apart : goal.keep-requires-clause-apart
 keep-requires-clause-apart c =
@@ -177,7 +133,7 @@ keep-requires-clause-few c =
     let at_m = c.deref-7.ensures.value ∙ c.requires.ahead.1.noted c.requires.other in
     let at_n = c.claims-3.ensures ∙ ap (λ (s : LockState). s.claims) c.requires.ahead.1.state in
     subst (λ (z : List Run × Moment × Moment). AllByRecursion (λ x. may_wait z.2 x ≡ true → AreAtMost SEATS (kept_of z.1 z.2 (table_of z.0 x.claim.seat) x)) z.2)
-    (λ i. (sym c.deref_mut-3.ensures.value i, sym at_m i, sym at_n i)) (few_next c.args.self.now p k e c.requires.ahead.1.comes)
+    (λ i. (sym c.deref_mut.ensures.value i, sym at_m i, sym at_n i)) (few_next c.args.self.now p k e c.requires.ahead.1.comes)
 
 pub returns : goal.returns
 returns c = λ p g.
@@ -192,9 +148,9 @@ returns c = λ p g.
     let told_n = c.claims.ensures ∙ ap (λ (s : LockState). s.claims) g.state in
     let lengths = c.note_lengths.new.lengths in
     let runs = c.keep.new.runs in
-    let same : length runs ≡ length a.runs.items = c.keep.ensures.len ∙ ap (λ (rs : List Run). length rs) c.deref_mut-3.ensures.value in
+    let same : length runs ≡ length a.runs.items = c.keep.ensures.len ∙ ap (λ (rs : List Run). length rs) c.deref_mut.ensures.value in
     let kept_runs : (with_items a.runs runs).items ≡ runs = refilled a.runs runs same in
-    let b : Following = record { waiting = c.note_ended.new.waiting; last = a.last; runs = with_items a.runs runs; lengths = lengths; asks = c.note_ask.new.asks; heads = with_items a.heads c.tell_heads.new.heads; next_heads = with_items a.next_heads c.tell_heads-2.new.heads; classes = c.tell_heads-2.new.classes; scratch = c.tell.new.scratch; ended = c.tell.new.ended } in
+    let b : Following = record { waiting = c.note_ended.new.waiting; last = a.last; there = a.there; runs = with_items a.runs runs; lengths = lengths; asks = c.note_ask.new.asks; heads = c.turn.new.self; scratch = c.tell.new.scratch; ended = c.tell.new.ended } in
     known a p k e comes b
     (record {
       last = k.room.last;
@@ -204,21 +160,20 @@ returns c = λ p g.
       ended = c.tell.ensures.capacity ∙ k.room.ended;
       lengths = c.note_lengths.ensures.len ∙ k.room.lengths;
       asks = c.note_ask.ensures.len ∙ k.room.asks;
-      heads = (let long = c.tell_heads.ensures.len ∙ ap (λ (l : List Head). length l) c.deref_mut.ensures.value in ap (λ (l : List Head). length l) (refilled_heads a.heads c.tell_heads.new.heads long) ∙ long ∙ k.room.heads);
-      next_heads = (let long = c.tell_heads-2.ensures.len ∙ ap (λ (l : List Head). length l) c.deref_mut-2.ensures.value in ap (λ (l : List Head). length l) (refilled_heads a.next_heads c.tell_heads-2.new.heads long) ∙ long ∙ k.room.next_heads);
-      classes = c.tell_heads-2.ensures.capacity ∙ c.tell_heads.ensures.capacity ∙ k.room.classes;
+      heads = c.turn.ensures.room;
     })
     (subst (λ (z : List Run × Moment × Moment × List Run). AllByRecursion (λ x. may_wait z.2 x ≡ true → table_of z.3 x.claim.seat ≡ kept_of z.1 z.2 (table_of z.0 x.claim.seat) x) z.2)
-    (λ i. (c.deref_mut-3.ensures.value i, at_m i, at_n i, sym kept_runs i)) c.keep.ensures.kept)
+    (λ i. (c.deref_mut.ensures.value i, at_m i, at_n i, sym kept_runs i)) c.keep.ensures.kept)
     (λ rest.
     subst (AllByRecursion (AreLong (length_in (es ++ e ∷ rest)))) (sym kept_runs)
     (c.keep.ensures.lengths (length_in (es ++ e ∷ rest))
     (subst (λ (m : Moment). AreOf (length_by lengths) (length_in (es ++ e ∷ rest)) m) (sym at_m) (lengths_stay_on a p k e comes (length_by lengths) c.note_lengths.ensures.value rest))
     (subst (λ (n : Moment). AreOf (length_by lengths) (length_in (es ++ e ∷ rest)) n) (sym at_n) (lengths_come a p k e comes (length_by lengths) c.note_lengths.ensures.value rest))
-    (subst (λ (rs : List Run). AllByRecursion (AreLong (length_in (es ++ e ∷ rest))) rs) (sym c.deref_mut-3.ensures.value) (k.long (e ∷ rest)))))
+    (subst (λ (rs : List Run). AllByRecursion (AreLong (length_in (es ++ e ∷ rest))) rs) (sym c.deref_mut.ensures.value) (k.long (e ∷ rest)))))
     c.note_lengths.ensures.value
     (λ seat h. c.note_ask.ensures.value seat (subst (λ l. seat < l) (sym k.room.asks) h))
     (subst (λ (n : Moment). HoldWaiting c.note_ended.new.waiting n) (c.claims-5.ensures ∙ ap (λ (t : LockState). t.claims) g.state) c.note_ended.ensures)
+    (subst (TellsNow c.turn.new.self) (c.claims-2.ensures ∙ ap (λ (t : LockState). t.claims) g.state) (c.turn.ensures.told c.claims-2.result.now c.tell_both.ensures.next))
     (c.tell.ensures.told es
     (subst (λ (m : Moment). AllByRecursion (λ x. slice_index a.asks x.claim.seat ≡ asks_since x.claim.seat es) m) (sym told_m) (asks_now a p k))
     (subst (λ (m : Moment). AreOf (length_by a.lengths) (length_in es) m) (sym told_m) (lengths_now a p k))

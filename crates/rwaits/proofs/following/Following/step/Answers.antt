@@ -1,4 +1,4 @@
-use Rattle.std.proofs.Common.{◌≡◌, refl, sym, ap, subst, ◌∙◌}
+use Rattle.std.proofs.Common.{◌≡◌, length, refl, sym, ap, subst, ◌∙◌}
 use Rattle.rmodel.specs.Changes.{changes_between}
 use Rattle.std.specs.Result.{IsOk}
 use Rattle.rmodel.specs.State.{LockState}
@@ -16,5 +16,6 @@ returns-clause-followed c = λ p k is. c.follow.ensures p (ahead p k is)
       comes = subst (λ (s : LockState). Comes s c.args.event.now) is (record { fits = c.requires.fits; normal = c.in_ok-step.ensures.normal; accepted = c.step.ensures.accepted.0 (subst (λ r. IsOk r) (sym c.in_ok-step.was) refl) });
       state = c.in_ok-step.ensures.after ∙ ap (λ (s : LockState). next s c.args.event.now) is;
       changes = c.in_ok-step.ensures.changes ∙ (λ i. changes_between (is i) ((c.in_ok-step.ensures.after ∙ ap (λ (s : LockState). next s c.args.event.now) is) i));
+      there = c.note.ensures.there ∙ ap (λ (s : LockState). length s.claims) is;
       noted = λ old. c.note.ensures.noted old ∙ ap (λ (s : LockState). s.claims) is;
     }

@@ -1,5 +1,5 @@
 use Rattle.std.proofs.Common.{◌≡◌, length}
-use Rattle.rwaits.proofs.following.new_heads.Given as goal
+use Rattle.rwaits.proofs.heads.new_heads.Given as goal
 
 abbrev pub invariant-loop : goal.invariant-loop
 invariant-loop l = length l.heads.items ≡ l.counter

@@ -1,0 +1,25 @@
+-- The least claims of lines, kept from event to event.
+use Rattle.std.specs.Prelude.{◌≡◌, ◌≤◌, ◌<◌, ◌*◌, true, length, vec_capacity}
+use Rattle.std.specs.List.{AllByRecursion}
+use Rattle.rset.specs.declared.TheConstants.{SEATS}
+use Rattle.rmodel.specs.WellFormed.{EachPair, Rises, Distinct}
+use Rattle.rcover.specs.Moments.{Moment}
+use Rattle.rwaits.specs.declared.heads.Heads.{Heads}
+use Rattle.rwaits.specs.Lines.{IsTold}
+
+-- heads have a place for each seat
+pub record HasPlaces (h : Heads) : Type 0 where
+  pub now : length h.now.items ≡ SEATS
+  pub next : length h.next.items ≡ SEATS
+  pub classes : vec_capacity h.classes ≡ 2 * SEATS
+
+-- if they are told, they are those of the claims at a moment
+abbrev pub TellsNow : Heads → Moment → Type 0
+TellsNow h m = h.told ≡ true → IsTold h.now.items h.classes.items m
+
+-- claims are such as those of a state
+pub record IsMoment (m : Moment) : Type 0 where
+  pub few : length m ≤ 2 * SEATS
+  pub seats : AllByRecursion (λ x. x.claim.seat < SEATS) m
+  pub rising : EachPair Rises m
+  pub one_each : EachPair Distinct m
