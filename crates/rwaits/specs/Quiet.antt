@@ -1,21 +1,20 @@
 -- Claims of whose wait an event that is no issue ends none.
-use Rattle.std.specs.Prelude.{◌≡◌, ◌==◌, ℕ, Bool, true, not, ◌&&◌, List}
+use Rattle.std.specs.Prelude.{◌≡◌, ◌==◌, ℕ, Bool, true, not, ◌&&◌, List, []}
 use Rattle.std.specs.List.{list_any}
-use Rattle.std.specs.FinSet.{len}
 use Rattle.rclaim.specs.declared.changes.GrantChange.{GrantChange}
 use Rattle.rmodel.specs.declared.claimed.Claimed.{Claimed}
 use Rattle.rbound.specs.declared.which.Which.{Which}
 use Rattle.rcover.specs.Ended.{waits_in}
 use Rattle.rcover.specs.Moments.{Moment}
-use Rattle.rcover.specs.Told.{stands}
+use Rattle.rcover.specs.Told.{waits_for_ask, stands}
 
 -- some grant is of this seat
 abbrev pub has_grant : List GrantChange → ℕ → Bool
 has_grant gs seat = list_any (λ g. g.seat == seat) gs
 
--- a claim is not of the seat of an event, asks for nothing, and nothing is granted to its seat
+-- a claim is not of the seat of an event, no ask of it is pending, and nothing is granted to its seat
 abbrev pub is_quiet : ℕ → List GrantChange → Claimed → Bool
-is_quiet seat gs x = not (x.claim.seat == seat) && ((len x.asked == 0) && not (has_grant gs x.claim.seat))
+is_quiet seat gs x = not (x.claim.seat == seat) && (not (waits_for_ask [] x) && not (has_grant gs x.claim.seat))
 
 -- then its wait goes on
 abbrev pub GoesOn : ℕ → List GrantChange → Moment → Moment → Claimed → Type 0

@@ -4,8 +4,10 @@ use Rattle.std.specs.List.{list_any, AllByRecursion}
 use Rattle.std.specs.FinSet.{contains, empty, insert, is_subset, len, remove}
 use Rattle.rset.specs.Sets.{Set}
 use Rattle.rclaim.specs.declared.event.Event.{Event}
+use Rattle.rclaim.specs.declared.event.Event.TheVariants.{Issue, Finish, Rise, Ask}
 use Rattle.rmodel.specs.declared.claimed.Claimed.{Claimed}
 use Rattle.rcover.specs.Moments.{Moment}
+use Rattle.rcover.specs.Told.{waits_to_rise}
 use Rattle.rwaits.specs.Follow.{may_wait}
 use Rattle.rwaits.specs.Past.{is_issue}
 
@@ -24,6 +26,25 @@ HoldWaiting seats n = AllByRecursion (λ x. some_wait n x ≡ true → contains 
 -- seats, with one of which it is told whether it waits
 abbrev pub with_seat : Set → Moment → ℕ → Set
 with_seat seats n seat = if seat_waits n seat then insert seats seat else remove seats seat
+
+-- the seats of all upgrades that wait to rise are among these
+abbrev pub HoldRising : Set → Moment → Type 0
+HoldRising seats n = AllByRecursion (λ x. waits_to_rise n x ≡ true → contains seats x.claim.seat ≡ true) n
+
+-- an upgrade of a seat does so
+abbrev pub seat_rises : Moment → ℕ → Bool
+seat_rises n seat = list_any (λ x. (x.claim.seat == seat) && waits_to_rise n x) n
+
+-- seats, with one of which it is told whether its upgrade waits to rise
+abbrev pub with_risen : Set → Moment → ℕ → Set
+with_risen seats n seat = if seat_rises n seat then insert seats seat else remove seats seat
+
+-- seats, with that of an upgrade that rises
+abbrev pub risen_by : Set → Event → Set
+risen_by seats (Issue seat r) = seats
+risen_by seats (Finish seat) = seats
+risen_by seats (Rise seat) = insert seats seat
+risen_by seats (Ask seat part) = seats
 
 -- an event ends no wait: it is an issue, or no seat waits
 abbrev pub ends_none : Set → Event → Bool

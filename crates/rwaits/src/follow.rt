@@ -7,7 +7,9 @@ ghost use Rattle.rmodel.specs.WellFormed.{EachPair, Rises};
 ghost use Rattle.rcover.specs.Ended.{waits_in};
 ghost use Rattle.rwaits.specs.Follow.{table_of, length_by, HasRoom, AreLong, AreOf, WaitApart, may_wait, kept_of, with_entry, kept_with};
 ghost use Rattle.rcover.specs.Lists.{AreAtMost};
-ghost use Rattle.rcover.specs.Told.{stands};
+ghost use Rattle.std.specs.FinSet.{contains};
+ghost use Rattle.rcover.specs.Told.{waits_to_rise, stands};
+ghost use Rattle.rwaits.specs.Waiting.{some_wait, HoldWaiting, HoldRising};
 ghost use Rattle.rwaits.specs.Lines.{HeadsTell};
 ghost use Rattle.rwaits.specs.Past.{rises_at, StoodBy};
 ghost use Rattle.rwaits.specs.Tracked.{kept_by, no_sections};
@@ -20,6 +22,7 @@ use rbound::Which;
 use rclaim::Event;
 use rcover::{waits_first, waits_to_rise};
 use rmodel::Claimed;
+use rset::ResourceSet;
 
 /// Keeps of one wait what is due at the next moment.
 fn keep_wait(
@@ -62,6 +65,8 @@ fn keep_wait(
 /// Keeps of the wait of a claim at the next moment what is due there, if it waits.
 fn keep_at(
     runs: &mut [Run],
+    waiting: ResourceSet,
+    rising: ResourceSet,
     event: &Event,
     lengths: &[Lengths],
     heads: &[Head],
@@ -70,6 +75,9 @@ fn keep_at(
     last: &[Claimed],
     next: &[Claimed],
 )
+    requires low { x.now.claim.seat < SEATS }
+    requires waiting { some_wait next.now x.now ≡ true → contains waiting x.now.claim.seat ≡ true }
+    requires rising { waits_to_rise next.now x.now ≡ true → contains rising x.now.claim.seat ≡ true }
     requires seat { x.now.claim.seat < length runs.old }
     requires head { (x.now.claim.seat < length heads.now) × (x.now.claim.seat < length next_heads.now) }
     requires heads { HeadsTell heads.now next_heads.now last.now next.now x.now }
@@ -83,6 +91,9 @@ fn keep_at(
     ensures len { length runs.new ≡ length runs.old }
     ensures lengths { (len : Claim → ℕ) → AreOf (length_by lengths.now) len last.now → length_by lengths.now x.now.claim ≡ len x.now.claim → AllByRecursion (AreLong len) runs.old → AllByRecursion (AreLong len) runs.new }
 {
+    if !waiting.has(x.claim.seat) {
+        return;
+    }
     if waits_first(x) {
         keep_wait(
             runs,
@@ -95,6 +106,9 @@ fn keep_at(
             last,
             next,
         );
+        return;
+    }
+    if !rising.has(x.claim.seat) {
         return;
     }
     if waits_to_rise(next, x) {
@@ -112,9 +126,11 @@ fn keep_at(
     }
 }
 
-/// Keeps of all waits what is due at the next moment.
+/// Keeps of all waits what is due at the next moment. No seats wait but these, and no upgrades wait to rise but those of these.
 pub(crate) fn keep(
     runs: &mut [Run],
+    waiting: ResourceSet,
+    rising: ResourceSet,
     event: &Event,
     lengths: &[Lengths],
     heads: &[Head],
@@ -122,6 +138,9 @@ pub(crate) fn keep(
     last: &[Claimed],
     next: &[Claimed],
 )
+    requires low { AllByRecursion (λ x. x.claim.seat < SEATS) next.now }
+    requires waiting { HoldWaiting waiting next.now }
+    requires rising { HoldRising rising next.now }
     requires seats { AllByRecursion (λ x. x.claim.seat < length runs.old) next.now }
     requires head { AllByRecursion (λ x. (x.claim.seat < length heads.now) × (x.claim.seat < length next_heads.now)) next.now }
     requires heads { AllByRecursion (HeadsTell heads.now next_heads.now last.now next.now) next.now }
@@ -137,7 +156,9 @@ pub(crate) fn keep(
     ensures lengths { (len : Claim → ℕ) → AreOf (length_by lengths.now) len last.now → AreOf (length_by lengths.now) len next.now → AllByRecursion (AreLong len) runs.old → AllByRecursion (AreLong len) runs.new }
 {
     for x in next {
-        keep_at(runs, event, lengths, heads, next_heads, x, last, next);
+        keep_at(
+            runs, waiting, rising, event, lengths, heads, next_heads, x, last, next,
+        );
     }
 }
 

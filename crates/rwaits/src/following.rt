@@ -18,7 +18,7 @@ use crate::noted::{is_issue, note_ask, note_lengths};
 use crate::run::Run;
 use crate::section::Lengths;
 use crate::tell::tell;
-use crate::waiting::{ends_none, note_ended, note_seat};
+use crate::waiting::{ends_none, note_ended, note_rise, note_risen, note_seat};
 use rclaim::Event;
 use rcover::WaitEnd;
 use rmodel::{Claimed, Machine, Refused};
@@ -38,6 +38,8 @@ const CLAIMS: usize = 2 * PLACES;
 pub struct Following {
     // The seats that wait, with others maybe.
     waiting: ResourceSet,
+    // The seats of the upgrades that wait to rise, with others maybe.
+    rising: ResourceSet,
     // The claims before the last event that might end a wait.
     last: Vec<Claimed>,
     // How many claims there were before the last event.
@@ -101,6 +103,7 @@ impl Following {
     {
         Ok(Following {
             waiting: ResourceSet::empty(),
+            rising: ResourceSet::empty(),
             last: Vec::with_capacity(alloc, CLAIMS)?,
             there: 0,
             runs: new_runs(alloc)?,
@@ -175,6 +178,7 @@ impl Following {
         note_lengths(&mut self.lengths, event);
         note_ask(&mut self.asks, event);
         note_seat(&mut self.waiting, event.seat(), machine.claims());
+        note_risen(&mut self.rising, event.seat(), machine.claims());
         self.heads
             .pass(is_issue(event), self.there, machine.claims());
     }
@@ -191,6 +195,7 @@ impl Following {
             &self.runs,
             &self.lengths,
             &self.asks,
+            self.waiting,
             event.seat(),
             &machine.changes().grants,
             &self.last,
@@ -198,9 +203,14 @@ impl Following {
         );
         note_lengths(&mut self.lengths, event);
         note_ask(&mut self.asks, event);
+        note_seat(&mut self.waiting, event.seat(), machine.claims());
+        note_ended(&mut self.waiting, &self.ended, machine.claims());
+        note_rise(&mut self.rising, event);
         self.heads.tell_both(&self.last, machine.claims());
         keep(
             &mut self.runs,
+            self.waiting,
+            self.rising,
             event,
             &self.lengths,
             &self.heads.now,
@@ -209,8 +219,6 @@ impl Following {
             machine.claims(),
         );
         self.heads.turn();
-        note_seat(&mut self.waiting, event.seat(), machine.claims());
-        note_ended(&mut self.waiting, &self.ended, machine.claims());
     }
 
     /// The waits with at least one moment that the last event ended, by rising stamp, with the numbers of their covers.

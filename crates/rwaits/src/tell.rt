@@ -1,5 +1,5 @@
 // The waits that a moment ends, told from what is kept of them.
-ghost use Rattle.std.specs.Prelude.{◌≡◌, ◌≤◌, ◌<◌, ◌++◌, ◌+◌, true, ℕ, List, IfSome, length, slice_index, vec_capacity};
+ghost use Rattle.std.specs.Prelude.{◌≡◌, ◌≤◌, ◌<◌, ◌++◌, ◌+◌, true, ℕ, List, [], IfSome, length, slice_index, vec_capacity};
 ghost use Rattle.std.specs.List.{AllByRecursion, filter_map};
 ghost use Rattle.std.specs.Option.{option_to_list};
 ghost use Rattle.rclaim.specs.declared.claim.Claim.{Claim};
@@ -10,6 +10,9 @@ ghost use Rattle.rcover.specs.Ended.{wait_of, waits_in};
 ghost use Rattle.rcover.specs.History.{asks_since, length_in};
 ghost use Rattle.rwaits.specs.Follow.{table_of, kept_in, length_by, HasRoom, AreLong, AreOf};
 ghost use Rattle.rcover.specs.Lists.{AreAtMost};
+ghost use Rattle.std.specs.FinSet.{contains};
+ghost use Rattle.rcover.specs.Told.{waits_for_ask};
+ghost use Rattle.rwaits.specs.Waiting.{some_wait, HoldWaiting};
 ghost use Rattle.rwaits.specs.Quiet.{has_grant, is_quiet, GoesOn};
 ghost use Rattle.rwaits.specs.Tracked.{shown, told_of, told_if, told};
 
@@ -20,6 +23,7 @@ use rbound::Which;
 use rclaim::GrantChange;
 use rcover::{WaitEnd, stands, waits_first, waits_for_ask, waits_to_rise};
 use rmodel::Claimed;
+use rset::ResourceSet;
 
 /// The wait in which a claim is, if it is in one. So many asks of its seat came since its last issue.
 fn wait_by(asks: usize, moment: &[Claimed], x: &Claimed) -> Option<Which>
@@ -44,14 +48,21 @@ fn has_grant(grants: &[GrantChange], seat: u8) -> bool
     grants.iter().any(|g| g.seat == seat)
 }
 
-/// Whether a claim is not of this seat, asks for nothing, and nothing is granted to its seat.
+/// Whether an ask of the request of a claim is pending.
+fn asks(x: &Claimed) -> bool
+    ensures { result ≡ waits_for_ask [] x.now }
+{
+    waits_for_ask(x)
+}
+
+/// Whether a claim is not of this seat, no ask of it is pending, and nothing is granted to its seat.
 fn is_quiet(seat: u8, grants: &[GrantChange], x: &Claimed) -> bool
     ensures { result ≡ is_quiet seat grants.now x.now }
 {
     if x.claim.seat == seat {
         return false;
     }
-    if x.asked.len() > 0 {
+    if asks(x) {
         return false;
     }
     !has_grant(grants, x.claim.seat)
@@ -64,12 +75,15 @@ fn tell_wait(
     run: &Run,
     lengths: &[Lengths],
     asks: usize,
+    waiting: ResourceSet,
     seat: u8,
     grants: &[GrantChange],
     x: &Claimed,
     last: &[Claimed],
     next: &[Claimed],
 )
+    requires low { x.now.claim.seat < SEATS }
+    requires waiting { some_wait last.now x.now ≡ true → contains waiting x.now.claim.seat ≡ true }
     requires quiet { GoesOn seat grants.now last.now next.now x.now }
     requires room { length ended.old.items < vec_capacity ended.old }
     requires scratch { HasRoom scratch.old }
@@ -80,6 +94,9 @@ fn tell_wait(
     ensures told { (es : List Event) → asks ≡ asks_since x.now.claim.seat es → AreOf (length_by lengths.now) (length_in es) last.now → length_by lengths.now x.now.claim ≡ length_in es x.now.claim → AreLong (length_in es) run.now
         → ended.new.items ≡ ended.old.items ++ option_to_list (told_of (length_in es) last.now next.now (kept_in run.now) x.now (wait_of es last.now x.now)) }
 {
+    if !waiting.has(x.claim.seat) {
+        return;
+    }
     if is_quiet(seat, grants, x) {
         return;
     }
@@ -93,18 +110,22 @@ fn tell_wait(
     ended.push_reserved(end_of(scratch, which, &x.claim));
 }
 
-/// The waits of claims at the last moment that the next one ends, by an event of this seat with these grants. `scratch` is room.
+/// The waits of claims at the last moment that the next one ends, by an event of this seat with these grants. No seats wait
+/// but these. `scratch` is room.
 pub(crate) fn tell(
     ended: &mut Vec<WaitEnd>,
     scratch: &mut Run,
     runs: &[Run],
     lengths: &[Lengths],
     asks: &[usize],
+    waiting: ResourceSet,
     seat: u8,
     grants: &[GrantChange],
     last: &[Claimed],
     next: &[Claimed],
 )
+    requires low { AllByRecursion (λ x. x.claim.seat < SEATS) last.now }
+    requires waiting { HoldWaiting waiting last.now }
     requires quiet { AllByRecursion (GoesOn seat grants.now last.now next.now) last.now }
     requires room { length last.now ≤ vec_capacity ended.old }
     requires scratch { HasRoom scratch.old }
@@ -119,7 +140,7 @@ pub(crate) fn tell(
     for x in last {
         let at = x.claim.seat as usize;
         tell_wait(
-            ended, scratch, &runs[at], lengths, asks[at], seat, grants, x, last, next,
+            ended, scratch, &runs[at], lengths, asks[at], waiting, seat, grants, x, last, next,
         );
     }
 }

@@ -2,7 +2,8 @@
 ghost use Rattle.std.specs.Prelude.{◌≡◌, ◌<◌, ◌&&◌, ◌||◌, nat_lt};
 ghost use Rattle.rset.specs.declared.TheConstants.{SEATS};
 ghost use Rattle.rwaits.specs.Follow.{may_wait};
-ghost use Rattle.rwaits.specs.Waiting.{some_wait, seat_waits, HoldWaiting, with_seat, ends_none};
+ghost use Rattle.rwaits.specs.Waiting.{some_wait, seat_waits, HoldWaiting, with_seat, seat_rises, with_risen, risen_by, ends_none};
+ghost use Rattle.rclaim.specs.Events.{seat_of};
 
 use crate::noted::is_issue;
 use rclaim::Event;
@@ -50,6 +51,37 @@ pub(crate) fn note_seat(waiting: &mut ResourceSet, seat: u8, moment: &[Claimed])
     } else {
         waiting.without(seat)
     };
+}
+
+/// Whether an upgrade of a seat waits to rise.
+fn seat_rises(moment: &[Claimed], seat: u8) -> bool
+    ensures { result ≡ seat_rises moment.now seat }
+{
+    moment
+        .iter()
+        .any(|x| x.claim.seat == seat && waits_to_rise(moment, x))
+}
+
+/// Notes of a seat whether its upgrade waits to rise at a moment.
+pub(crate) fn note_risen(rising: &mut ResourceSet, seat: u8, moment: &[Claimed])
+    requires { seat < SEATS }
+    ensures { rising.new ≡ with_risen rising.old moment.now seat }
+{
+    *rising = if seat_rises(moment, seat) {
+        rising.with(seat)
+    } else {
+        rising.without(seat)
+    };
+}
+
+/// Notes the seat of an upgrade that rises by an event.
+pub(crate) fn note_rise(rising: &mut ResourceSet, event: &Event)
+    requires { seat_of event.now < SEATS }
+    ensures { rising.new ≡ risen_by rising.old event.now }
+{
+    if let Event::Rise { seat } = event {
+        *rising = rising.with(*seat);
+    }
 }
 
 /// Notes of the seat of a wait that ended whether it waits still.

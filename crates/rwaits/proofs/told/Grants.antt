@@ -25,12 +25,13 @@ use Rattle.rmodel.proofs.reaching.Growing.{IsGrown, grown}
 use Rattle.rmodel.proofs.reaching.HeldBySeat.{nothing_of, is_nothing_of, within_nothing, held_of_plain, held_of_unsatisfied}
 use Rattle.rmodel.proofs.reaching.OneOfSeat.{not_nested}
 use Rattle.rmodel.proofs.reaching.Soundness.{read_of_half}
+use Rattle.rmodel.proofs.settling.Keeping.{not_false}
 use Rattle.rmodel.proofs.settling.OneSettlement.{both_cases}
 use Rattle.rbound.specs.declared.which.Which.{Which}
 use Rattle.rbound.specs.declared.which.Which.TheVariants.{First, Rise, Ask}
 use Rattle.rcover.specs.Ended.{waits_in}
 use Rattle.rcover.specs.Moments.{Moment, is_claim}
-use Rattle.rcover.specs.Told.{is_rising_half, waits_first, has_read_claim, waits_to_rise, stands}
+use Rattle.rcover.specs.Told.{is_rising_half, waits_first, has_read_claim, waits_to_rise, waits_for_ask, stands}
 use Rattle.rcover.proofs.runs.Moments.{is_itself}
 use Rattle.rwaits.specs.Past.{is_issue}
 use Rattle.rwaits.specs.Quiet.{has_grant, is_quiet}
@@ -84,10 +85,10 @@ module _ (s : LockState) (e : Event) (reached : IsReached s) (comes : Comes s e)
   abbrev n : Moment
   n = (next s e).claims
 
-  parts : (not (x.claim.seat == seat_of e) ≡ true) × ((len x.asked == 0) ≡ true) × (not (has_grant (changes_between s (next s e)).grants x.claim.seat) ≡ true)
+  parts : (not (x.claim.seat == seat_of e) ≡ true) × (not (waits_for_ask [] x) ≡ true) × (not (has_grant (changes_between s (next s e)).grants x.claim.seat) ≡ true)
   parts =
-      let a = and_parts (not (x.claim.seat == seat_of e)) ((len x.asked == 0) && not (has_grant (changes_between s (next s e)).grants x.claim.seat)) quiet in
-      let b = and_parts (len x.asked == 0) (not (has_grant (changes_between s (next s e)).grants x.claim.seat)) a.1 in
+      let a = and_parts (not (x.claim.seat == seat_of e)) ((not (waits_for_ask [] x)) && not (has_grant (changes_between s (next s e)).grants x.claim.seat)) quiet in
+      let b = and_parts (not (waits_for_ask [] x)) (not (has_grant (changes_between s (next s e)).grants x.claim.seat)) a.1 in
       (a.0, b.0, b.1)
 
   elsewhere : x.claim.seat ≢ seat_of e
@@ -172,11 +173,8 @@ module _ (s : LockState) (e : Event) (reached : IsReached s) (comes : Comes s e)
       let p = and_parts (is_nothing (held_by x)) (not (is_rising_half x.claim)) first in
       and_from (is_nothing (held_by on.0)) (not (is_rising_half on.0.claim)) (is_nothing_of (held_by on.0) (holds_none (nothing_of (held_by x) p.0))) (ap (λ d. not (is_rising_half d)) on.2.claim ∙ p.1)
 
-  asks_none : nat_lt 0 (len x.asked) ≡ false
-  asks_none = let none = eqb-true (len x.asked) 0 parts.1 in ap (nat_lt 0) none
-
   -- its wait goes on
   pub goes_on : (w : Which) → waits_in w m x ≡ true → stands (waits_in w) x.claim n ≡ true
   goes_on First waits = stands_by waits_first (first_goes waits)
   goes_on Rise waits = stands_by waits_to_rise (rise_goes waits)
-  goes_on (Ask k) waits = contrary (nat_lt 0 (len x.asked)) (and_parts (not (is_nothing (held_by x))) (nat_lt 0 (len x.asked)) waits).1 asks_none
+  goes_on (Ask k) waits = contrary (waits_for_ask [] x) waits (not_false (waits_for_ask [] x) parts.1)

@@ -40,7 +40,7 @@ use Rattle.rwaits.specs.Lines.{head_of, TellHeads, HeadsTell}
 use Rattle.rwaits.specs.Follows.{HaveRoom, Follows}
 use Rattle.rwaits.specs.Past.{Past, begun, with_event, start_of, state_of, noted, is_issue, StoodBy}
 use Rattle.rwaits.specs.Tracked.{shown, told}
-use Rattle.rwaits.specs.Waiting.{HoldWaiting}
+use Rattle.rwaits.specs.Waiting.{HoldRising, HoldWaiting}
 use Rattle.rwaits.specs.Heads.{IsMoment, TellsNow}
 use Rattle.rwaits.proofs.lists.Kept.{length_claims}
 use Rattle.rwaits.proofs.told.Noted.{lengths_next, lengths_stay, asks_more}
@@ -259,8 +259,8 @@ module _ (a : Following) (p : Past) (k : Follows a p) where
         → ((rest : List Event) → AllByRecursion (AreLong (length_in (es ++ e ∷ rest))) b.runs.items)
         → ((c : Claim) → length_by b.lengths c ≡ noted e (length_by a.lengths) c)
         → ((seat : ℕ) → seat < SEATS → slice_index b.asks seat ≡ count_ask seat (slice_index a.asks seat) e)
-        → HoldWaiting b.waiting n → TellsNow b.heads n → b.ended.items ≡ told es m n table → Follows b (with_event p e)
-    known b room kept long lengths asks waiting heads ended = record {
+        → HoldWaiting b.waiting n → HoldRising b.rising n → TellsNow b.heads n → b.ended.items ≡ told es m n table → Follows b (with_event p e)
+    known b room kept long lengths asks waiting rising heads ended = record {
       accepted = accepted_push o es e k.accepted comes;
       seats = k.seats;
       some_cap = k.some_cap;
@@ -272,6 +272,7 @@ module _ (a : Following) (p : Past) (k : Follows a p) where
           subst (λ (z : List Event × LockState). AreOf (length_by b.lengths) (length_in z.0) z.1.claims) (λ i. (behind rest i, sym at_next i)) (lengths_come (length_by b.lengths) lengths rest);
       asks = λ seat h. asks seat h ∙ ap (λ n. count_ask seat n e) (k.asks seat h) ∙ sym (asks_more seat es e);
       waiting = subst (λ (s : LockState). HoldWaiting b.waiting s.claims) (sym at_next) waiting;
+      rising = subst (λ (s : LockState). HoldRising b.rising s.claims) (sym at_next) rising;
       heads = subst (λ (s : LockState). TellsNow b.heads s.claims) (sym at_next) heads;
       room = room;
       none = λ none. absurd (never_none none);
@@ -303,6 +304,7 @@ known_first groups seats cap a most some few room heads long asks none = record 
   lengths = λ rest. tt;
   asks = asks;
   waiting = tt;
+  rising = tt;
   heads = heads;
   room = room;
   none = λ _. none;

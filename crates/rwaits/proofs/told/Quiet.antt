@@ -294,6 +294,9 @@ module _ (s : LockState) (seat : ℕ) (r : RequestFields) (reached : IsReached s
     | inr new ↦ absurd (other (of_seat x new).1)
   ]
 
+  pub old_rises_as : (x : Claimed) → Among x n → x.claim.seat ≢ seat → Among x m × (waits_to_rise n x ≡ waits_to_rise m x)
+  old_rises_as x there other = let old = (old_as_before x there other).0 in (old, rise_stays x old)
+
   -- the claims that were there stand before the new ones
   pub first_there : (take (length m) n ≡ m) × (length m ≤ length n)
   first_there =
@@ -306,6 +309,12 @@ there_before s (Issue seat r) reached comes issue = first_there s seat r reached
 there_before s (Finish seat) reached comes issue = contrary false issue refl
 there_before s (event.Rise seat) reached comes issue = contrary false issue refl
 there_before s (event.Ask seat part) reached comes issue = contrary false issue refl
+
+pub old_rises : (s : LockState) (e : Event) → IsReached s → Comes s e → is_issue e ≡ true → (x : Claimed) → Among x (next s e).claims → x.claim.seat ≢ seat_of e → Among x s.claims × (waits_to_rise (next s e).claims x ≡ waits_to_rise s.claims x)
+old_rises s (Issue seat r) reached comes issue x there other = old_rises_as s seat r reached comes x there other
+old_rises s (Finish seat) reached comes issue x there other = contrary false issue refl
+old_rises s (event.Rise seat) reached comes issue x there other = contrary false issue refl
+old_rises s (event.Ask seat part) reached comes issue x there other = contrary false issue refl
 
 pub old_waits : (s : LockState) (e : Event) → IsReached s → Comes s e → is_issue e ≡ true → (x : Claimed) → Among x (next s e).claims → x.claim.seat ≢ seat_of e → Among x s.claims × (may_wait (next s e).claims x ≡ may_wait s.claims x)
 old_waits s (Issue seat r) reached comes issue x there other = old_as_before s seat r reached comes x there other

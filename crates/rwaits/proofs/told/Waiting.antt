@@ -38,8 +38,8 @@ use Rattle.rcover.proofs.told.Few.{waits_told}
 use Rattle.rwaits.specs.Follow.{may_wait, kept_of, with_entry}
 use Rattle.rwaits.specs.Past.{is_issue, rises_at}
 use Rattle.rwaits.specs.Tracked.{gone_on, no_sections, shown, told, told_if}
-use Rattle.rwaits.specs.Waiting.{some_wait, seat_waits, HoldWaiting, with_seat, ends_none}
-use Rattle.rwaits.proofs.told.Quiet.{begun_kept, begun_told, old_waits}
+use Rattle.rwaits.specs.Waiting.{some_wait, HoldWaiting, with_seat, HoldRising, with_risen, risen_by, ends_none}
+use Rattle.rwaits.proofs.told.Quiet.{begun_kept, begun_told, old_rises, old_waits}
 use Rattle.rwaits.proofs.told.Stood.{before, first_was, rise_was}
 
 or_left : (a b : Bool) → a ≡ true → (a || b) ≡ true
@@ -52,22 +52,56 @@ or_right false b h = h
 
 -- ---- which seats wait
 
--- where the seats of all claims of other seats are held, one seat more is told of
-pub noted_seat : (seats : Set) (n : Moment) (seat : ℕ) → ((x : Claimed) → Among x n → x.claim.seat ≢ seat → some_wait n x ≡ true → contains seats x.claim.seat ≡ true) → HoldWaiting (with_seat seats n seat) n
-noted_seat seats n seat others =
-    all_from (λ x. some_wait n x ≡ true → contains (with_seat seats n seat) x.claim.seat ≡ true) n
-    (λ x there waits. both_cases (x.claim.seat == seat)
-    (λ own.
-    let some : seat_waits n seat ≡ true = any_among (λ y. (y.claim.seat == seat) && some_wait n y) n x there (and_from (x.claim.seat == seat) (some_wait n x) own waits) in
-    ap (λ b. contains (cond b (insert seats seat) (remove seats seat)) x.claim.seat) some
-    ∙ contains_insert seats seat x.claim.seat ∙ or_left (x.claim.seat == seat) (contains seats x.claim.seat) own)
-    (λ other.
-    let held = others x there (λ same. contrary (x.claim.seat == seat) (eq-eqb x.claim.seat seat same) other) waits in
-    at (seat_waits n seat) x.claim.seat held other))
-  where
-    at : (b : Bool) (l : ℕ) → contains seats l ≡ true → (l == seat) ≡ false → contains (cond b (insert seats seat) (remove seats seat)) l ≡ true
-    at true l held other = contains_insert seats seat l ∙ or_right (l == seat) (contains seats l) held
-    at false l held other = contains_remove seats seat l ∙ (λ i. not (other i) && held i)
+first_is : (m : Moment) (x : Claimed) → waits_first m x ≡ true → some_wait m x ≡ true
+first_is m x on = or_left (may_wait m x) (nat_lt 0 (len x.asked)) (or_left (waits_first m x) (waits_to_rise m x) on)
+
+rise_is : (m : Moment) (x : Claimed) → waits_to_rise m x ≡ true → some_wait m x ≡ true
+rise_is m x on = or_left (may_wait m x) (nat_lt 0 (len x.asked)) (or_right (waits_first m x) (waits_to_rise m x) on)
+
+-- a claim in any wait waits
+pub waits_is : (m : Moment) (w : Which) (x : Claimed) → waits_in w m x ≡ true → some_wait m x ≡ true
+waits_is m First x on = first_is m x on
+waits_is m Rise x on = rise_is m x on
+waits_is m (Ask k) x on = or_right (may_wait m x) (nat_lt 0 (len x.asked)) (and_parts _ (nat_lt 0 (len x.asked)) on).1
+
+-- a claim whose seat is not held does not wait
+module _ (n : Moment) (x : Claimed) (seats : Set) where
+  not_by : (test : Bool) → (test ≡ true → contains seats x.claim.seat ≡ true) → contains seats x.claim.seat ≡ false → test ≡ false
+  not_by test is off = false_from test (λ on. contrary (contains seats x.claim.seat) (is on) off)
+
+  pub not_first : (some_wait n x ≡ true → contains seats x.claim.seat ≡ true) → contains seats x.claim.seat ≡ false → waits_first n x ≡ false
+  not_first is off = not_by (waits_first n x) (λ on. is (first_is n x on)) off
+
+  pub not_rise : (some_wait n x ≡ true → contains seats x.claim.seat ≡ true) → contains seats x.claim.seat ≡ false → waits_to_rise n x ≡ false
+  not_rise is off = not_by (waits_to_rise n x) (λ on. is (rise_is n x on)) off
+
+  pub not_risen : (waits_to_rise n x ≡ true → contains seats x.claim.seat ≡ true) → contains seats x.claim.seat ≡ false → waits_to_rise n x ≡ false
+  not_risen is off = not_by (waits_to_rise n x) is off
+
+-- where the seats of all claims of other seats that pass a test are held, one seat more is told of
+module _ (test : Moment → Claimed → Bool) (seats : Set) (n : Moment) (seat : ℕ) where
+  abbrev passes : Bool
+  passes = list_any (λ x. (x.claim.seat == seat) && test n x) n
+
+  noted_by : ((x : Claimed) → Among x n → x.claim.seat ≢ seat → test n x ≡ true → contains seats x.claim.seat ≡ true)
+      → AllByRecursion (λ x. test n x ≡ true → contains (cond passes (insert seats seat) (remove seats seat)) x.claim.seat ≡ true) n
+  noted_by others =
+      all_from (λ x. test n x ≡ true → contains (cond passes (insert seats seat) (remove seats seat)) x.claim.seat ≡ true) n
+      (λ x there on. both_cases (x.claim.seat == seat)
+      (λ own.
+      let some : passes ≡ true = any_among (λ y. (y.claim.seat == seat) && test n y) n x there (and_from (x.claim.seat == seat) (test n x) own on) in
+      ap (λ b. contains (cond b (insert seats seat) (remove seats seat)) x.claim.seat) some
+      ∙ contains_insert seats seat x.claim.seat ∙ or_left (x.claim.seat == seat) (contains seats x.claim.seat) own)
+      (λ other.
+      let held = others x there (λ same. contrary (x.claim.seat == seat) (eq-eqb x.claim.seat seat same) other) on in
+      at passes x.claim.seat held other))
+    where
+      at : (b : Bool) (l : ℕ) → contains seats l ≡ true → (l == seat) ≡ false → contains (cond b (insert seats seat) (remove seats seat)) l ≡ true
+      at true l held other = contains_insert seats seat l ∙ or_right (l == seat) (contains seats l) held
+      at false l held other = contains_remove seats seat l ∙ (λ i. not (other i) && held i)
+
+noted_seat : (seats : Set) (n : Moment) (seat : ℕ) → ((x : Claimed) → Among x n → x.claim.seat ≢ seat → some_wait n x ≡ true → contains seats x.claim.seat ≡ true) → HoldWaiting (with_seat seats n seat) n
+noted_seat seats n seat others = noted_by some_wait seats n seat others
 
 -- and so it is where all are held
 pub noted_still : (seats : Set) (n : Moment) (seat : ℕ) → HoldWaiting seats n → HoldWaiting (with_seat seats n seat) n
@@ -152,6 +186,42 @@ module _ (s : LockState) (e : Event) (reached : IsReached s) (comes : Comes s e)
   pub waiting_next : (seats : Set) → HoldWaiting seats m → HoldWaiting (with_seat seats n (seat_of e)) n
   waiting_next seats hold = noted_seat seats n (seat_of e) (waited_before seats hold)
 
+  -- the seats of the upgrades that wait to rise did so before
+  risen_before : (seats : Set) → HoldRising seats m → (x : Claimed) → Among x n → rises_at e x.claim.seat ≡ false → (is_issue e ≡ true → x.claim.seat ≢ seat_of e) → waits_to_rise n x ≡ true → contains seats x.claim.seat ≡ true
+  risen_before seats hold x there not_it other on =
+      both_cases (is_issue e)
+      (λ issue.
+      let old = old_rises s e reached comes issue x there (other issue) in
+      all_at (λ y. waits_to_rise m y ≡ true → contains seats y.claim.seat ≡ true) m x hold old.0 (sym old.1 ∙ on))
+      (λ plain.
+      let was = before s e reached comes plain x there in
+      ap (λ (d : Claim). contains seats d.seat) was.2.claim
+      ∙ all_at (λ y. waits_to_rise m y ≡ true → contains seats y.claim.seat ≡ true) m was.0 hold was.1 (rise_was s e reached comes plain x there on not_it))
+
+  -- behind any event, once the seat of the event is looked at
+  pub rising_next : (seats : Set) → HoldRising seats m → HoldRising (with_risen seats n (seat_of e)) n
+  rising_next seats hold = noted_by waits_to_rise seats n (seat_of e) (λ x there other on. risen_before seats hold x there (rises_not e x.claim.seat other) (λ issue. other) on)
+
+  -- behind an event that is no issue, nothing need be looked at
+  pub rising_on : (seats : Set) → HoldRising seats m → is_issue e ≡ false → HoldRising (risen_by seats e) n
+  rising_on seats hold plain =
+      all_from (λ x. waits_to_rise n x ≡ true → contains (risen_by seats e) x.claim.seat ≡ true) n
+      (λ x there on. both_cases (rises_at e x.claim.seat)
+      (λ rises. in_it e x.claim.seat rises)
+      (λ not_it. held_on e x.claim.seat (risen_before seats hold x there not_it (λ issue. contrary (is_issue e) issue plain) on)))
+    where
+      in_it : (e : Event) (l : ℕ) → rises_at e l ≡ true → contains (risen_by seats e) l ≡ true
+      in_it (Issue t r) l on = contrary false on refl
+      in_it (Finish t) l on = contrary false on refl
+      in_it (event.Rise t) l on = contains_insert seats t l ∙ or_left (l == t) (contains seats l) (eq-eqb l t (sym (eqb-true t l on)))
+      in_it (event.Ask t part) l on = contrary false on refl
+
+      held_on : (e : Event) (l : ℕ) → contains seats l ≡ true → contains (risen_by seats e) l ≡ true
+      held_on (Issue t r) l held = held
+      held_on (Finish t) l held = held
+      held_on (event.Rise t) l held = contains_insert seats t l ∙ or_right (l == t) (contains seats l) held
+      held_on (event.Ask t part) l held = held
+
   -- ---- where no seat waits
 
   module _ (seats : Set) (hold : HoldWaiting seats m) (none : is_subset seats empty ≡ true) where
@@ -166,15 +236,9 @@ module _ (s : LockState) (e : Event) (reached : IsReached s) (comes : Comes s e)
         none_from (λ x. is_claim c x.claim && test m x) m
         (λ x there. false_from (is_claim c x.claim && test m x) (λ on. absurd (waits_not x there (is x (and_parts (is_claim c x.claim) (test m x) on).1))))
 
-    first_is : (x : Claimed) → waits_first m x ≡ true → some_wait m x ≡ true
-    first_is x on = or_left (may_wait m x) (nat_lt 0 (len x.asked)) (or_left (waits_first m x) (waits_to_rise m x) on)
-
-    rise_is : (x : Claimed) → waits_to_rise m x ≡ true → some_wait m x ≡ true
-    rise_is x on = or_left (may_wait m x) (nat_lt 0 (len x.asked)) (or_right (waits_first m x) (waits_to_rise m x) on)
-
     kept_none : (a : Sections) (x : Claimed) → kept_of m n a x ≡ no_sections
     kept_none a x =
-        (λ i. cond (waits_first n x) (cond (stood_not waits_first first_is x.claim i) (gone_on x.claim a m n) no_sections) (cond (stood_not waits_to_rise rise_is x.claim i) (gone_on x.claim a m n) no_sections)) ∙ at (waits_first n x)
+        (λ i. cond (waits_first n x) (cond (stood_not waits_first (first_is m) x.claim i) (gone_on x.claim a m n) no_sections) (cond (stood_not waits_to_rise (rise_is m) x.claim i) (gone_on x.claim a m n) no_sections)) ∙ at (waits_first n x)
       where
         at : (b : Bool) → cond b no_sections no_sections ≡ no_sections
         at true = refl
@@ -187,17 +251,12 @@ module _ (s : LockState) (e : Event) (reached : IsReached s) (comes : Comes s e)
         (λ own. are x.claim.seat ∙ ap (λ b. cond b no_sections (table x.claim.seat)) own ∙ sym (kept_none (table x.claim.seat) x))
         (λ other. absurd (held_not x.claim.seat (may_before seats hold x there (λ same. contrary (x.claim.seat == seat_of e) (eq-eqb x.claim.seat (seat_of e) same) other) waits))))
 
-    waits_is : (w : Which) (x : Claimed) → waits_in w m x ≡ true → some_wait m x ≡ true
-    waits_is First x on = first_is x on
-    waits_is Rise x on = rise_is x on
-    waits_is (Ask k) x on = or_right (may_wait m x) (nat_lt 0 (len x.asked)) (and_parts _ (nat_lt 0 (len x.asked)) on).1
-
     pub calm_told : (es : List Event) (table : ℕ → Sections) → told es m n table ≡ []
     calm_told es table = all_none m (λ x there. there)
       where
         of_one : (x : Claimed) → Among x m → (o : Option Which) → wait_of es m x ≡ o → told_if (length_in es) m n table x o ≡ None
         of_one x there None told_so = refl
-        of_one x there (Some w) told_so = absurd (waits_not x there (waits_is w x (waits_told es m x w told_so)))
+        of_one x there (Some w) told_so = absurd (waits_not x there (waits_is m w x (waits_told es m x w told_so)))
 
         all_none : (xs : Moment) → ((x : Claimed) → Among x xs → Among x m) → filter_map (λ x. told_if (length_in es) m n table x (wait_of es m x)) xs ≡ []
         all_none [] within = refl

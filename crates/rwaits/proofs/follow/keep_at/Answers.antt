@@ -1,11 +1,27 @@
-use Rattle.std.proofs.Common.{◌||◌, cond, sym, ap, subst, ◌∙◌}
+use Rattle.std.proofs.Common.{◌≡◌, Bool, true, false, ◌||◌, cond, sym, ap, subst, ◌∙◌}
 use Rattle.rset.specs.declared.TheConstants.{SEATS}
 use Rattle.rwaits.specs.Follow.{table_of}
 use Rattle.rcover.specs.Told.{waits_first, waits_to_rise}
 use Rattle.rcover.specs.Lists.{AreAtMost}
 use Rattle.rwaits.specs.Tracked.{kept_by}
 use Rattle.rwaits.proofs.told.Tables.{first_kept, none_kept}
+use Rattle.std.specs.FinSet.{contains}
+use Rattle.rwaits.proofs.told.Waiting.{not_first, not_rise, not_risen}
 use Rattle.rwaits.proofs.follow.keep_at.Goals as goal
+
+pub returns-then-not-has-clause-kept : goal.returns-then-not-has-clause-kept
+returns-then-not-has-clause-kept c = λ seat.
+    let n = c.args.next.now in
+    let x = c.args.x.now in
+    let off : contains c.args.waiting x.claim.seat ≡ false = sym c.has.ensures ∙ c.if-not-has.true in
+    none_kept c.args.last.now n (table_of c.args.runs.now) x (not_first n x c.args.waiting c.requires.waiting off) (not_rise n x c.args.waiting c.requires.waiting off) seat
+
+pub returns-then-not-has-2-clause-kept : goal.returns-then-not-has-2-clause-kept
+returns-then-not-has-2-clause-kept c = λ seat.
+    let n = c.args.next.now in
+    let x = c.args.x.now in
+    let off : contains c.args.rising x.claim.seat ≡ false = sym c.has-2.ensures ∙ c.if-not-has-2.true in
+    none_kept c.args.last.now n (table_of c.args.runs.now) x (sym (c.waits_first.ensures n) ∙ c.if-waits_first.false) (not_risen n x c.args.rising c.requires.rising off) seat
 
 pub keep_wait-requires-clause-few : goal.keep_wait-requires-clause-few
 keep_wait-requires-clause-few c =

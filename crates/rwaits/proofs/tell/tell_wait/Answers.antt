@@ -1,4 +1,4 @@
-use Rattle.std.proofs.Common.{◌≡◌, true, cond, Some, None, [], ◌∷◌, ◌++◌, sym, ap, subst, ◌∙◌, List, append-nil, refl, ℕ, Option}
+use Rattle.std.proofs.Common.{◌≡◌, Bool, true, false, cond, Some, None, [], ◌∷◌, ◌++◌, sym, ap, subst, ◌∙◌, List, append-nil, refl, ℕ, Option}
 use Rattle.std.specs.Option.{IfSome, option_to_list}
 use Rattle.rclaim.specs.declared.claim.Claim.{Claim}
 use Rattle.rclaim.specs.declared.event.Event.{Event}
@@ -13,6 +13,8 @@ use Rattle.rcover.specs.History.{length_in}
 use Rattle.rcover.specs.Within.{numbers_of}
 use Rattle.rwaits.specs.Follow.{kept_in}
 use Rattle.rwaits.specs.Tracked.{shown, told_of}
+use Rattle.std.specs.FinSet.{contains}
+use Rattle.rwaits.proofs.told.Waiting.{waits_is}
 use Rattle.rwaits.proofs.tell.tell_wait.Goals as goal
 
 pub show-requires-clause-few : goal.show-requires-clause-few
@@ -44,3 +46,15 @@ pub returns-then-is_quiet-clause-told : goal.returns-then-is_quiet-clause-told
 returns-then-is_quiet-clause-told c = λ es asks are own have.
     let before = c.args.ended.now.items in
     sym (ap (λ o. before ++ option_to_list o) (quiet_told es c.args.last.now c.args.next.now (kept_in c.args.run.now) c.args.x.now (length_in es) (c.requires.quiet (sym c.is_quiet.ensures ∙ c.if-is_quiet.true))) ∙ append-nil before)
+
+pub returns-then-not-has-clause-told : goal.returns-then-not-has-clause-told
+returns-then-not-has-clause-told c = λ es asks are own have.
+    let before = c.args.ended.now.items in
+    let m = c.args.last.now in
+    let x = c.args.x.now in
+    sym (ap (λ o. before ++ option_to_list o) (quiet_told es m c.args.next.now (kept_in c.args.run.now) x (length_in es)
+    (λ w on. absurd (not_held (contains c.args.waiting x.claim.seat) (c.requires.waiting (waits_is m w x on)) (sym c.has.ensures ∙ c.if-not-has.true)))) ∙ append-nil before)
+  where
+    not_held : (b : Bool) → b ≡ true → b ≡ false → ⊥
+    not_held true on off = cc
+    not_held false on off = cc

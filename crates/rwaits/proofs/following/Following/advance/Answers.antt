@@ -27,8 +27,8 @@ use Rattle.rwaits.proofs.told.Knowing.{reached, claims_few, seats_now, shown_few
 use Rattle.rwaits.proofs.told.Noted.{asks_at_most}
 use Rattle.rset.specs.Sets.{Set}
 use Rattle.rwaits.specs.Heads.{IsMoment, TellsNow}
-use Rattle.rwaits.specs.Waiting.{HoldWaiting, with_seat}
-use Rattle.rwaits.proofs.told.Waiting.{plain_of, waiting_next}
+use Rattle.rwaits.specs.Waiting.{HoldRising, HoldWaiting, with_seat}
+use Rattle.rwaits.proofs.told.Waiting.{plain_of, rising_on, waiting_next}
 use Rattle.rwaits.proofs.following.Following.advance.Goals as goal
 
 pub tell-requires-clause-seats : goal.tell-requires-clause-seats
@@ -66,19 +66,19 @@ pub tell_both-requires-clause-last : goal.tell_both-requires-clause-last
 tell_both-requires-clause-last c =
     let p = c.requires.ahead.0 in
     let k = c.requires.ahead.1.follows in
-    subst IsMoment (sym (c.deref-4.ensures.value ∙ c.requires.ahead.1.noted c.requires.other)) (is_moment_now c.args.self.now p k)
+    subst IsMoment (sym (c.deref-5.ensures.value ∙ c.requires.ahead.1.noted c.requires.other)) (is_moment_now c.args.self.now p k)
 
 pub tell_both-requires-clause-next : goal.tell_both-requires-clause-next
 tell_both-requires-clause-next c =
     let p = c.requires.ahead.0 in
     let k = c.requires.ahead.1.follows in
-    subst IsMoment (sym (c.claims-2.ensures ∙ ap (λ (s : LockState). s.claims) c.requires.ahead.1.state)) (is_moment_next c.args.self.now p k c.args.event.now c.requires.ahead.1.comes)
+    subst IsMoment (sym (c.claims-4.ensures ∙ ap (λ (s : LockState). s.claims) c.requires.ahead.1.state)) (is_moment_next c.args.self.now p k c.args.event.now c.requires.ahead.1.comes)
 
 pub tell_both-requires-clause-room : goal.tell_both-requires-clause-room
 tell_both-requires-clause-room c = c.requires.ahead.1.follows.room.heads
 
 pub tell_both-requires-clause-told : goal.tell_both-requires-clause-told
-tell_both-requires-clause-told c = subst (TellsNow c.args.self.now.heads) (sym (c.deref-4.ensures.value ∙ c.requires.ahead.1.noted c.requires.other)) c.requires.ahead.1.follows.heads
+tell_both-requires-clause-told c = subst (TellsNow c.args.self.now.heads) (sym (c.deref-5.ensures.value ∙ c.requires.ahead.1.noted c.requires.other)) c.requires.ahead.1.follows.heads
 
 pub turn-requires : goal.turn-requires
 turn-requires c = c.tell_both.ensures.room
@@ -88,11 +88,11 @@ keep-requires-clause-head c =
     let p = c.requires.ahead.0 in
     let k = c.requires.ahead.1.follows in
     let e = c.args.event.now in
-    let at_n = c.claims-3.ensures ∙ ap (λ (s : LockState). s.claims) c.requires.ahead.1.state in
-    subst (λ (n : Moment). AllByRecursion (λ x. (x.claim.seat < length c.deref-5.result.now) × (x.claim.seat < length c.deref-6.result.now)) n) (sym at_n)
-    (seats_both c.args.self.now p k e c.requires.ahead.1.comes (length c.deref-5.result.now) (length c.deref-6.result.now)
-    (ap (λ (l : List Head). length l) c.deref-5.ensures.value ∙ c.tell_both.ensures.room.now)
-    (ap (λ (l : List Head). length l) c.deref-6.ensures.value ∙ c.tell_both.ensures.room.next))
+    let at_n = c.claims-5.ensures ∙ ap (λ (s : LockState). s.claims) c.requires.ahead.1.state in
+    subst (λ (n : Moment). AllByRecursion (λ x. (x.claim.seat < length c.deref-6.result.now) × (x.claim.seat < length c.deref-7.result.now)) n) (sym at_n)
+    (seats_both c.args.self.now p k e c.requires.ahead.1.comes (length c.deref-6.result.now) (length c.deref-7.result.now)
+    (ap (λ (l : List Head). length l) c.deref-6.ensures.value ∙ c.tell_both.ensures.room.now)
+    (ap (λ (l : List Head). length l) c.deref-7.ensures.value ∙ c.tell_both.ensures.room.next))
 
 pub keep-requires-clause-heads : goal.keep-requires-clause-heads
 keep-requires-clause-heads c =
@@ -104,17 +104,17 @@ keep-requires-clause-heads c =
     let hs = c.tell_both.new.self.now.items in
     let hs' = c.tell_both.new.self.next.items in
     subst (λ (z : List Head × List Head × Moment × Moment). AllByRecursion (HeadsTell z.0 z.1 z.2 z.3) z.3)
-    (λ i. (sym c.deref-5.ensures.value i, sym c.deref-6.ensures.value i, sym (c.deref-7.ensures.value ∙ at_m) i, sym (c.claims-3.ensures ∙ ap (λ (s : LockState). s.claims) state) i))
+    (λ i. (sym c.deref-6.ensures.value i, sym c.deref-7.ensures.value i, sym (c.deref-8.ensures.value ∙ at_m) i, sym (c.claims-5.ensures ∙ ap (λ (s : LockState). s.claims) state) i))
     (heads_tell c.args.self.now p k e c.requires.ahead.1.comes hs hs'
-    (subst (TellHeads hs) (c.deref-4.ensures.value ∙ at_m) c.tell_both.ensures.now)
-    (subst (TellHeads hs') (c.claims-2.ensures ∙ ap (λ (s : LockState). s.claims) state) c.tell_both.ensures.next.heads))
+    (subst (TellHeads hs) (c.deref-5.ensures.value ∙ at_m) c.tell_both.ensures.now)
+    (subst (TellHeads hs') (c.claims-4.ensures ∙ ap (λ (s : LockState). s.claims) state) c.tell_both.ensures.next.heads))
 
 pub keep-requires-clause-seats : goal.keep-requires-clause-seats
 keep-requires-clause-seats c =
     let p = c.requires.ahead.0 in
     let k = c.requires.ahead.1.follows in
     let e = c.args.event.now in
-    let at_n = c.claims-3.ensures ∙ ap (λ (s : LockState). s.claims) c.requires.ahead.1.state in
+    let at_n = c.claims-5.ensures ∙ ap (λ (s : LockState). s.claims) c.requires.ahead.1.state in
     subst (λ (z : List Run × Moment). AllByRecursion (λ x. x.claim.seat < length z.0) z.1) (λ i. (sym c.deref_mut.ensures.value i, sym at_n i)) (seats_next c.args.self.now p k e c.requires.ahead.1.comes)
 
 pub keep-requires-clause-apart : goal.keep-requires-clause-apart
@@ -122,7 +122,7 @@ keep-requires-clause-apart c =
     let p = c.requires.ahead.0 in
     let k = c.requires.ahead.1.follows in
     let e = c.args.event.now in
-    let at_n = c.claims-3.ensures ∙ ap (λ (s : LockState). s.claims) c.requires.ahead.1.state in
+    let at_n = c.claims-5.ensures ∙ ap (λ (s : LockState). s.claims) c.requires.ahead.1.state in
     subst (λ (n : Moment). EachPair (WaitApart n) n) (sym at_n) (apart_next c.args.self.now p k e c.requires.ahead.1.comes)
 
 pub keep-requires-clause-few : goal.keep-requires-clause-few
@@ -130,8 +130,8 @@ keep-requires-clause-few c =
     let p = c.requires.ahead.0 in
     let k = c.requires.ahead.1.follows in
     let e = c.args.event.now in
-    let at_m = c.deref-7.ensures.value ∙ c.requires.ahead.1.noted c.requires.other in
-    let at_n = c.claims-3.ensures ∙ ap (λ (s : LockState). s.claims) c.requires.ahead.1.state in
+    let at_m = c.deref-8.ensures.value ∙ c.requires.ahead.1.noted c.requires.other in
+    let at_n = c.claims-5.ensures ∙ ap (λ (s : LockState). s.claims) c.requires.ahead.1.state in
     subst (λ (z : List Run × Moment × Moment). AllByRecursion (λ x. may_wait z.2 x ≡ true → AreAtMost SEATS (kept_of z.1 z.2 (table_of z.0 x.claim.seat) x)) z.2)
     (λ i. (sym c.deref_mut.ensures.value i, sym at_m i, sym at_n i)) (few_next c.args.self.now p k e c.requires.ahead.1.comes)
 
@@ -142,15 +142,15 @@ returns c = λ p g.
     let a = c.args.self.now in
     let e = c.args.event.now in
     let es = p.events in
-    let at_m = c.deref-7.ensures.value ∙ g.noted c.requires.other in
-    let at_n = c.claims-3.ensures ∙ ap (λ (s : LockState). s.claims) g.state in
+    let at_m = c.deref-8.ensures.value ∙ g.noted c.requires.other in
+    let at_n = c.claims-5.ensures ∙ ap (λ (s : LockState). s.claims) g.state in
     let told_m = c.deref-3.ensures.value ∙ g.noted c.requires.other in
     let told_n = c.claims.ensures ∙ ap (λ (s : LockState). s.claims) g.state in
     let lengths = c.note_lengths.new.lengths in
     let runs = c.keep.new.runs in
     let same : length runs ≡ length a.runs.items = c.keep.ensures.len ∙ ap (λ (rs : List Run). length rs) c.deref_mut.ensures.value in
     let kept_runs : (with_items a.runs runs).items ≡ runs = refilled a.runs runs same in
-    let b : Following = record { waiting = c.note_ended.new.waiting; last = a.last; there = a.there; runs = with_items a.runs runs; lengths = lengths; asks = c.note_ask.new.asks; heads = c.turn.new.self; scratch = c.tell.new.scratch; ended = c.tell.new.ended } in
+    let b : Following = record { waiting = c.note_ended.new.waiting; rising = c.note_rise.new.rising; last = a.last; there = a.there; runs = with_items a.runs runs; lengths = lengths; asks = c.note_ask.new.asks; heads = c.turn.new.self; scratch = c.tell.new.scratch; ended = c.tell.new.ended } in
     known a p k e comes b
     (record {
       last = k.room.last;
@@ -172,8 +172,9 @@ returns c = λ p g.
     (subst (λ (rs : List Run). AllByRecursion (AreLong (length_in (es ++ e ∷ rest))) rs) (sym c.deref_mut.ensures.value) (k.long (e ∷ rest)))))
     c.note_lengths.ensures.value
     (λ seat h. c.note_ask.ensures.value seat (subst (λ l. seat < l) (sym k.room.asks) h))
-    (subst (λ (n : Moment). HoldWaiting c.note_ended.new.waiting n) (c.claims-5.ensures ∙ ap (λ (t : LockState). t.claims) g.state) c.note_ended.ensures)
-    (subst (TellsNow c.turn.new.self) (c.claims-2.ensures ∙ ap (λ (t : LockState). t.claims) g.state) (c.turn.ensures.told c.claims-2.result.now c.tell_both.ensures.next))
+    (subst (λ (n : Moment). HoldWaiting c.note_ended.new.waiting n) (c.claims-3.ensures ∙ ap (λ (t : LockState). t.claims) g.state) c.note_ended.ensures)
+    (subst (λ (w : Set). HoldRising w (next (state_of p) e).claims) (sym c.note_rise.ensures) (rising_on (state_of p) e (reached a p k) comes a.rising k.rising (plain_of a.waiting e c.requires.other)))
+    (subst (TellsNow c.turn.new.self) (c.claims-4.ensures ∙ ap (λ (t : LockState). t.claims) g.state) (c.turn.ensures.told c.claims-4.result.now c.tell_both.ensures.next))
     (c.tell.ensures.told es
     (subst (λ (m : Moment). AllByRecursion (λ x. slice_index a.asks x.claim.seat ≡ asks_since x.claim.seat es) m) (sym told_m) (asks_now a p k))
     (subst (λ (m : Moment). AreOf (length_by a.lengths) (length_in es) m) (sym told_m) (lengths_now a p k))
@@ -185,8 +186,8 @@ keep-requires-clause-stood c =
     let p = c.requires.ahead.0 in
     let k = c.requires.ahead.1.follows in
     let e = c.args.event.now in
-    let at_m = c.deref-7.ensures.value ∙ c.requires.ahead.1.noted c.requires.other in
-    let at_n = c.claims-3.ensures ∙ ap (λ (s : LockState). s.claims) c.requires.ahead.1.state in
+    let at_m = c.deref-8.ensures.value ∙ c.requires.ahead.1.noted c.requires.other in
+    let at_n = c.claims-5.ensures ∙ ap (λ (s : LockState). s.claims) c.requires.ahead.1.state in
     subst (λ (z : Moment × Moment). AllByRecursion (StoodBy e z.0 z.1) z.1) (λ i. (sym at_m i, sym at_n i)) (stood_next c.args.self.now p k e c.requires.ahead.1.comes (plain_of c.args.self.now.waiting c.args.event.now c.requires.other))
 
 pub tell-requires-clause-quiet : goal.tell-requires-clause-quiet
@@ -205,7 +206,7 @@ pub keep-requires-clause-last_rises : goal.keep-requires-clause-last_rises
 keep-requires-clause-last_rises c =
     let p = c.requires.ahead.0 in
     let k = c.requires.ahead.1.follows in
-    let at_m = c.deref-7.ensures.value ∙ c.requires.ahead.1.noted c.requires.other in
+    let at_m = c.deref-8.ensures.value ∙ c.requires.ahead.1.noted c.requires.other in
     subst (EachPair Rises) (sym at_m) (rising_now c.args.self.now p k)
 
 pub keep-requires-clause-next_rises : goal.keep-requires-clause-next_rises
@@ -213,7 +214,7 @@ keep-requires-clause-next_rises c =
     let p = c.requires.ahead.0 in
     let k = c.requires.ahead.1.follows in
     let e = c.args.event.now in
-    let at_n = c.claims-3.ensures ∙ ap (λ (s : LockState). s.claims) c.requires.ahead.1.state in
+    let at_n = c.claims-5.ensures ∙ ap (λ (s : LockState). s.claims) c.requires.ahead.1.state in
     subst (EachPair Rises) (sym at_n) (rising_next c.args.self.now p k e c.requires.ahead.1.comes)
 
 pub note_ended-requires : goal.note_ended-requires
@@ -221,10 +222,38 @@ note_ended-requires c =
     let p = c.requires.ahead.0 in
     let k = c.requires.ahead.1.follows in
     let e = c.args.event.now in
-    let at_n : c.claims-4.result.now ≡ (next (state_of p) e).claims = c.claims-4.ensures ∙ ap (λ (t : LockState). t.claims) c.requires.ahead.1.state in
+    let at_n : c.claims-2.result.now ≡ (next (state_of p) e).claims = c.claims-2.ensures ∙ ap (λ (t : LockState). t.claims) c.requires.ahead.1.state in
     subst (λ (z : Set × Moment). HoldWaiting z.0 z.1)
-    (λ i. (sym (c.note_seat.ensures ∙ (λ j. with_seat c.args.self.now.waiting (at_n j) (c.seat-2.ensures j))) i, sym (c.claims-5.ensures ∙ ap (λ (t : LockState). t.claims) c.requires.ahead.1.state) i))
+    (λ i. (sym (c.note_seat.ensures ∙ (λ j. with_seat c.args.self.now.waiting (at_n j) (c.seat-2.ensures j))) i, sym (c.claims-3.ensures ∙ ap (λ (t : LockState). t.claims) c.requires.ahead.1.state) i))
     (waiting_next (state_of p) e (reached c.args.self.now p k) c.requires.ahead.1.comes c.args.self.now.waiting k.waiting)
 
 pub note_seat-requires : goal.note_seat-requires
 note_seat-requires c = subst (λ l. l < SEATS) (sym c.seat-2.ensures) (event_seat c.args.self.now c.requires.ahead.0 c.requires.ahead.1.follows c.args.event.now c.requires.ahead.1.comes)
+
+pub note_rise-requires : goal.note_rise-requires
+note_rise-requires c = event_seat c.args.self.now c.requires.ahead.0 c.requires.ahead.1.follows c.args.event.now c.requires.ahead.1.comes
+
+pub tell-requires-clause-low : goal.tell-requires-clause-low
+tell-requires-clause-low c =
+    subst (λ (m : Moment). AllByRecursion (λ x. x.claim.seat < SEATS) m) (sym (c.deref-3.ensures.value ∙ c.requires.ahead.1.noted c.requires.other)) (is_moment_now c.args.self.now c.requires.ahead.0 c.requires.ahead.1.follows).seats
+
+pub tell-requires-clause-waiting : goal.tell-requires-clause-waiting
+tell-requires-clause-waiting c =
+    subst (λ (m : Moment). HoldWaiting c.args.self.now.waiting m) (sym (c.deref-3.ensures.value ∙ c.requires.ahead.1.noted c.requires.other)) c.requires.ahead.1.follows.waiting
+
+pub keep-requires-clause-low : goal.keep-requires-clause-low
+keep-requires-clause-low c =
+    subst (λ (m : Moment). AllByRecursion (λ x. x.claim.seat < SEATS) m) (sym (c.claims-5.ensures ∙ ap (λ (s : LockState). s.claims) c.requires.ahead.1.state))
+    (is_moment_next c.args.self.now c.requires.ahead.0 c.requires.ahead.1.follows c.args.event.now c.requires.ahead.1.comes).seats
+
+pub keep-requires-clause-waiting : goal.keep-requires-clause-waiting
+keep-requires-clause-waiting c = subst (λ (n : Moment). HoldWaiting c.note_ended.new.waiting n) (c.claims-3.ensures ∙ sym c.claims-5.ensures) c.note_ended.ensures
+
+pub keep-requires-clause-rising : goal.keep-requires-clause-rising
+keep-requires-clause-rising c =
+    let p = c.requires.ahead.0 in
+    let g = c.requires.ahead.1 in
+    let e = c.args.event.now in
+    let a = c.args.self.now in
+    subst (λ (z : Set × Moment). HoldRising z.0 z.1) (λ i. (sym c.note_rise.ensures i, sym (c.claims-5.ensures ∙ ap (λ (s : LockState). s.claims) g.state) i))
+    (rising_on (state_of p) e (reached a p g.follows) g.comes a.rising g.follows.rising (plain_of a.waiting e c.requires.other))

@@ -12,13 +12,13 @@ use Rattle.rwaits.specs.declared.run.Run.{Run}
 use Rattle.rwaits.specs.Follow.{table_of, HasRoom, AreLong, with_entry}
 use Rattle.rwaits.specs.Past.{state_of}
 use Rattle.rwaits.specs.Heads.{IsMoment, TellsNow}
-use Rattle.rwaits.specs.Waiting.{HoldWaiting, with_seat}
+use Rattle.rwaits.specs.Waiting.{HoldRising, HoldWaiting, with_risen, with_seat}
 use Rattle.rwaits.proofs.told.Quiet.{there_before}
 use Rattle.rset.specs.Sets.{Set}
 use Rattle.rwaits.specs.Tracked.{no_sections}
 use Rattle.rwaits.proofs.told.Knowing.{reached, event_seat, is_moment_next, refilled, known}
 use Rattle.rwaits.proofs.told.Noted.{asks_at_most}
-use Rattle.rwaits.proofs.told.Waiting.{calm_all, calm_none, waiting_next}
+use Rattle.rwaits.proofs.told.Waiting.{calm_all, calm_none, rising_next, waiting_next}
 use Rattle.rwaits.proofs.following.Following.go_on.Goals as goal
 
 pub clear_run-requires-clause-seat : goal.clear_run-requires-clause-seat
@@ -57,7 +57,7 @@ returns c = λ p g.
     let runs = c.clear_run.new.runs in
     let same : length runs ≡ length a.runs.items = c.clear_run.ensures.len ∙ ap (λ (rs : List Run). length rs) c.deref_mut.ensures.value in
     let kept_runs : (with_items a.runs runs).items ≡ runs = refilled a.runs runs same in
-    let b : Following = record { waiting = c.note_seat.new.waiting; last = a.last; there = a.there; runs = with_items a.runs runs; lengths = c.note_lengths.new.lengths; asks = c.note_ask.new.asks; heads = c.pass.new.self; scratch = a.scratch; ended = c.clear.new.self } in
+    let b : Following = record { waiting = c.note_seat.new.waiting; rising = c.note_risen.new.rising; last = a.last; there = a.there; runs = with_items a.runs runs; lengths = c.note_lengths.new.lengths; asks = c.note_ask.new.asks; heads = c.pass.new.self; scratch = a.scratch; ended = c.clear.new.self } in
     let cleared : (other : ℕ) → table_of b.runs.items other ≡ with_entry table (seat_of e) no_sections other
     = λ other.
     ap (λ (rs : List Run). table_of rs other) kept_runs ∙ c.clear_run.ensures.kept other
@@ -82,7 +82,10 @@ returns c = λ p g.
     (subst (λ (w : Set). HoldWaiting w (next (state_of p) e).claims)
     (sym (c.note_seat.ensures ∙ (λ i. with_seat a.waiting ((c.claims.ensures ∙ ap (λ (t : LockState). t.claims) g.state) i) (c.seat-2.ensures i))))
     (waiting_next (state_of p) e (reached a p k) comes a.waiting k.waiting))
-    (subst (TellsNow c.pass.new.self) (c.claims-2.ensures ∙ ap (λ (t : LockState). t.claims) g.state) c.pass.ensures.told)
+    (subst (λ (w : Set). HoldRising w (next (state_of p) e).claims)
+    (sym (c.note_risen.ensures ∙ (λ i. with_risen a.rising ((c.claims-2.ensures ∙ ap (λ (t : LockState). t.claims) g.state) i) (c.seat-3.ensures i))))
+    (rising_next (state_of p) e (reached a p k) comes a.rising k.rising))
+    (subst (TellsNow c.pass.new.self) (c.claims-3.ensures ∙ ap (λ (t : LockState). t.claims) g.state) c.pass.ensures.told)
     (c.clear.ensures.items ∙ sym (calm_none (state_of p) e (reached a p k) comes a.waiting k.waiting c.requires.calm es table))
 
 pub note_seat-requires : goal.note_seat-requires
@@ -92,7 +95,7 @@ pub pass-requires-clause-moment : goal.pass-requires-clause-moment
 pass-requires-clause-moment c =
     let p = c.requires.ahead.0 in
     let k = c.requires.ahead.1.follows in
-    subst IsMoment (sym (c.claims-2.ensures ∙ ap (λ (s : LockState). s.claims) c.requires.ahead.1.state)) (is_moment_next c.args.self.now p k c.args.event.now c.requires.ahead.1.comes)
+    subst IsMoment (sym (c.claims-3.ensures ∙ ap (λ (s : LockState). s.claims) c.requires.ahead.1.state)) (is_moment_next c.args.self.now p k c.args.event.now c.requires.ahead.1.comes)
 
 pub pass-requires-clause-room : goal.pass-requires-clause-room
 pass-requires-clause-room c = c.requires.ahead.1.follows.room.heads
@@ -104,7 +107,10 @@ pass-requires-clause-told c = λ brought.
     let k = g.follows in
     let e = c.args.event.now in
     let was = there_before (state_of p) e (reached c.args.self.now p k) g.comes (sym c.is_issue.ensures ∙ brought) in
-    let at_n = c.claims-2.ensures ∙ ap (λ (s : LockState). s.claims) g.state in (
+    let at_n = c.claims-3.ensures ∙ ap (λ (s : LockState). s.claims) g.state in (
       subst (λ (z : ℕ × Moment). z.0 ≤ length z.1) (λ i. (sym g.there i, sym at_n i)) was.1,
       subst (TellsNow c.args.self.now.heads) (sym ((λ i. take (g.there i) (at_n i)) ∙ was.0)) k.heads,
     )
+
+pub note_risen-requires : goal.note_risen-requires
+note_risen-requires c = subst (λ l. l < SEATS) (sym c.seat-3.ensures) (event_seat c.args.self.now c.requires.ahead.0 c.requires.ahead.1.follows c.args.event.now c.requires.ahead.1.comes)
