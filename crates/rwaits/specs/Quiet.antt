@@ -1,11 +1,14 @@
 -- Claims of whose wait an event that is no issue ends none.
-use Rattle.std.specs.Prelude.{◌≡◌, ◌==◌, ℕ, Bool, true, not, ◌&&◌, List, []}
+use Rattle.std.specs.Prelude.{◌≡◌, ◌==◌, ℕ, Bool, true, false, not, ◌&&◌, List, []}
 use Rattle.std.specs.List.{list_any}
 use Rattle.rclaim.specs.declared.changes.GrantChange.{GrantChange}
+use Rattle.rclaim.specs.declared.changes.StatusChange.{StatusChange}
+use Rattle.rclaim.specs.declared.claim.Claim.{Claim}
+use Rattle.rmodel.specs.Claims.{satisfied_by}
 use Rattle.rmodel.specs.declared.claimed.Claimed.{Claimed}
 use Rattle.rbound.specs.declared.which.Which.{Which}
 use Rattle.rcover.specs.Ended.{waits_in}
-use Rattle.rcover.specs.Moments.{Moment}
+use Rattle.rcover.specs.Moments.{Moment, holds_at}
 use Rattle.rcover.specs.Told.{waits_for_ask, stands}
 
 -- some grant is of this seat
@@ -19,3 +22,11 @@ is_quiet seat gs x = not (x.claim.seat == seat) && (not (waits_for_ask [] x) && 
 -- then its wait goes on
 abbrev pub GoesOn : ℕ → List GrantChange → Moment → Moment → Claimed → Type 0
 GoesOn seat gs m n x = is_quiet seat gs x ≡ true → (w : Which) → waits_in w m x ≡ true → stands (waits_in w) x.claim n ≡ true
+
+-- some write is told to be satisfied
+abbrev pub tells_write : List StatusChange → Bool
+tells_write cs = list_any (λ c. c.write_half && satisfied_by c.status) cs
+
+-- from m to n no write becomes satisfied
+abbrev pub NoWriteComes : Moment → Moment → Type 0
+NoWriteComes m n = (v : Claim) → v.write_half ≡ true → holds_at v m ≡ false → holds_at v n ≡ false

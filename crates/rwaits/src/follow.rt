@@ -1,5 +1,5 @@
 // What is kept of the waits of all seats.
-ghost use Rattle.std.specs.Prelude.{◌≡◌, ◌≤◌, ◌<◌, true, not, ℕ, length};
+ghost use Rattle.std.specs.Prelude.{◌≡◌, ◌≤◌, ◌<◌, true, false, not, ℕ, length};
 ghost use Rattle.std.specs.List.{AllByRecursion};
 ghost use Rattle.rclaim.specs.declared.claim.Claim.{Claim};
 ghost use Rattle.rset.specs.declared.TheConstants.{SEATS};
@@ -12,6 +12,7 @@ ghost use Rattle.rcover.specs.Told.{waits_to_rise, stands};
 ghost use Rattle.rwaits.specs.Waiting.{some_wait, HoldWaiting, HoldRising};
 ghost use Rattle.rwaits.specs.Lines.{HeadsTell};
 ghost use Rattle.rwaits.specs.Past.{rises_at, StoodBy};
+ghost use Rattle.rwaits.specs.Quiet.{NoWriteComes};
 ghost use Rattle.rwaits.specs.Tracked.{kept_by, no_sections};
 
 use crate::lines::Head;
@@ -29,6 +30,7 @@ fn keep_wait(
     runs: &mut [Run],
     which: Which,
     event: &Event,
+    comes: bool,
     lengths: &[Lengths],
     heads: &[Head],
     next_heads: &[Head],
@@ -38,6 +40,7 @@ fn keep_wait(
 )
     requires seat { x.now.claim.seat < length runs.old }
     requires head { (x.now.claim.seat < length heads.now) × (x.now.claim.seat < length next_heads.now) }
+    requires comes { comes ≡ false → NoWriteComes last.now next.now }
     requires last_rises { EachPair Rises last.now }
     requires next_rises { EachPair Rises next.now }
     requires waits { waits_in which next.now x.now ≡ true }
@@ -53,6 +56,7 @@ fn keep_wait(
     keep_by(
         &mut runs[x.claim.seat as usize],
         has_stood(event, x.claim.seat),
+        comes,
         lengths,
         &x.claim,
         &heads[x.claim.seat as usize],
@@ -68,6 +72,7 @@ fn keep_at(
     waiting: ResourceSet,
     rising: ResourceSet,
     event: &Event,
+    comes: bool,
     lengths: &[Lengths],
     heads: &[Head],
     next_heads: &[Head],
@@ -81,6 +86,7 @@ fn keep_at(
     requires seat { x.now.claim.seat < length runs.old }
     requires head { (x.now.claim.seat < length heads.now) × (x.now.claim.seat < length next_heads.now) }
     requires heads { HeadsTell heads.now next_heads.now last.now next.now x.now }
+    requires comes { comes ≡ false → NoWriteComes last.now next.now }
     requires last_rises { EachPair Rises last.now }
     requires next_rises { EachPair Rises next.now }
     requires stood { StoodBy event.now last.now next.now x.now }
@@ -99,6 +105,7 @@ fn keep_at(
             runs,
             Which::First,
             event,
+            comes,
             lengths,
             heads,
             next_heads,
@@ -116,6 +123,7 @@ fn keep_at(
             runs,
             Which::Rise,
             event,
+            comes,
             lengths,
             heads,
             next_heads,
@@ -132,6 +140,7 @@ pub(crate) fn keep(
     waiting: ResourceSet,
     rising: ResourceSet,
     event: &Event,
+    comes: bool,
     lengths: &[Lengths],
     heads: &[Head],
     next_heads: &[Head],
@@ -144,6 +153,7 @@ pub(crate) fn keep(
     requires seats { AllByRecursion (λ x. x.claim.seat < length runs.old) next.now }
     requires head { AllByRecursion (λ x. (x.claim.seat < length heads.now) × (x.claim.seat < length next_heads.now)) next.now }
     requires heads { AllByRecursion (HeadsTell heads.now next_heads.now last.now next.now) next.now }
+    requires comes { comes ≡ false → NoWriteComes last.now next.now }
     requires last_rises { EachPair Rises last.now }
     requires next_rises { EachPair Rises next.now }
     requires stood { AllByRecursion (StoodBy event.now last.now next.now) next.now }
@@ -157,7 +167,7 @@ pub(crate) fn keep(
 {
     for x in next {
         keep_at(
-            runs, waiting, rising, event, lengths, heads, next_heads, x, last, next,
+            runs, waiting, rising, event, comes, lengths, heads, next_heads, x, last, next,
         );
     }
 }

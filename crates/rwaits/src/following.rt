@@ -14,7 +14,7 @@ ghost use Rattle.rwaits.specs.Waiting.{ends_none};
 
 use crate::follow::{clear_run, keep};
 use crate::heads::Heads;
-use crate::noted::{is_issue, note_ask, note_lengths};
+use crate::noted::{is_issue, note_ask, note_lengths, tells_write};
 use crate::run::Run;
 use crate::section::Lengths;
 use crate::tell::tell;
@@ -212,6 +212,7 @@ impl Following {
             self.waiting,
             self.rising,
             event,
+            tells_write(&machine.changes().statuses),
             &self.lengths,
             &self.heads.now,
             &self.heads.next,

@@ -4,10 +4,11 @@ ghost use Rattle.rclaim.specs.Events.{seat_of};
 ghost use Rattle.rclaim.specs.declared.claim.Claim.{Claim};
 ghost use Rattle.rcover.specs.History.{count_ask};
 ghost use Rattle.rwaits.specs.Follow.{length_by};
+ghost use Rattle.rwaits.specs.Quiet.{tells_write};
 ghost use Rattle.rwaits.specs.Past.{is_issue, noted, rises_at};
 
 use crate::section::Lengths;
-use rclaim::Event;
+use rclaim::{Event, Status, StatusChange};
 
 /// Whether an event is an issue.
 pub(crate) fn is_issue(event: &Event) -> bool
@@ -56,4 +57,13 @@ pub(crate) fn note_ask(asks: &mut [usize], event: &Event)
         }
         _ => {}
     }
+}
+
+/// Whether some write is told to be satisfied.
+pub(crate) fn tells_write(statuses: &[StatusChange]) -> bool
+    ensures { result ≡ tells_write statuses.now }
+{
+    statuses
+        .iter()
+        .any(|s| s.write_half && matches!(s.status, Status::Satisfied))
 }

@@ -1,5 +1,5 @@
 // What is kept of the wait of a seat.
-ghost use Rattle.std.specs.Prelude.{◌≡◌, ◌≤◌, ◌&&◌, not, true, IfSome, find, option_map, List, ℕ, length, vec_capacity, if◌then◌else◌};
+ghost use Rattle.std.specs.Prelude.{◌≡◌, ◌≤◌, ◌&&◌, not, true, false, IfSome, find, option_map, List, ℕ, length, vec_capacity, if◌then◌else◌};
 ghost use Rattle.rclaim.specs.declared.claim.Claim.{Claim};
 ghost use Rattle.rset.specs.declared.TheConstants.{SEATS};
 ghost use Rattle.rwaits.specs.Follow.{claims_of, kept_in, length_by, HaveLengths, HasRoom, AreLong, AreOf};
@@ -11,7 +11,8 @@ ghost use Rattle.rcover.specs.Moments.{is_claim, holds_at};
 ghost use Rattle.rmodel.specs.WellFormed.{EachPair, Rises};
 ghost use Rattle.rwaits.specs.Shown.{write_closed};
 ghost use Rattle.rcover.specs.Lists.{AreAtMost};
-ghost use Rattle.rwaits.specs.Tracked.{no_sections, read_closed_if, gone_on};
+ghost use Rattle.rwaits.specs.Tracked.{no_sections, keeper_at, read_closed_if, gone_on};
+ghost use Rattle.rwaits.specs.Quiet.{NoWriteComes};
 
 use crate::lines::Head;
 use crate::section::{Lengths, Section, add_found, push_section};
@@ -145,9 +146,33 @@ fn close_read(
     add_found(reads, lengths, first_at(&Wanted::Against(v), last));
 }
 
+/// Keeps the read that was taken for the write that keeps a read claim waiting, if that write is satisfied at the next moment.
+/// Where no write `comes` to be satisfied, nothing is looked at.
+fn close_read_of(
+    reads: &mut Vec<Section>,
+    comes: bool,
+    lengths: &[Lengths],
+    c: &Claim,
+    last: &[Claimed],
+    next: &[Claimed],
+)
+    requires comes { comes ≡ false → NoWriteComes last.now next.now }
+    requires room { 1 ≤ vec_capacity reads.old }
+    requires last_rises { EachPair Rises last.now }
+    requires next_rises { EachPair Rises next.now }
+    ensures claims { (writes : List Claim) → claims_of reads.new.items ≡ (read_closed_if (keeper_at c.now last.now) (record { reads = claims_of reads.old.items; writes = writes }) last.now next.now).reads }
+    ensures capacity { vec_capacity reads.new ≡ vec_capacity reads.old }
+    ensures lengths { (len : Claim → ℕ) → AreOf (length_by lengths.now) len last.now → HaveLengths len reads.old.items → HaveLengths len reads.new.items }
+{
+    if comes {
+        close_read(reads, lengths, keeper_at(c, last), last, next);
+    }
+}
+
 /// What a run keeps once the next moment comes: the wait of the claim goes on.
 fn go_on(
     run: &mut Run,
+    comes: bool,
     lengths: &[Lengths],
     c: &Claim,
     least: &Head,
@@ -155,6 +180,7 @@ fn go_on(
     last: &[Claimed],
     next: &[Claimed],
 )
+    requires comes { comes ≡ false → NoWriteComes last.now next.now }
     requires last_rises { EachPair Rises last.now }
     requires next_rises { EachPair Rises next.now }
     requires heads { c.now.write_half ≡ true → (least.now ≡ head_of last.now c.now) × (next_least.now ≡ head_of next.now c.now) }
@@ -165,7 +191,7 @@ fn go_on(
     ensures lengths { (len : Claim → ℕ) → AreOf (length_by lengths.now) len last.now → length_by lengths.now c.now ≡ len c.now → AreLong len run.old → AreLong len run.new }
 {
     if !c.write_half {
-        close_read(&mut run.reads, lengths, keeper_at(c, last), last, next);
+        close_read_of(&mut run.reads, comes, lengths, c, last, next);
         return;
     }
     close_reads(&mut run.reads, lengths, least, last, next_least, next);
@@ -187,6 +213,7 @@ pub(crate) fn clear(run: &mut Run)
 pub(crate) fn keep_by(
     run: &mut Run,
     stood: bool,
+    comes: bool,
     lengths: &[Lengths],
     c: &Claim,
     least: &Head,
@@ -194,6 +221,7 @@ pub(crate) fn keep_by(
     last: &[Claimed],
     next: &[Claimed],
 )
+    requires comes { comes ≡ false → NoWriteComes last.now next.now }
     requires last_rises { EachPair Rises last.now }
     requires next_rises { EachPair Rises next.now }
     requires heads { stood ≡ true → c.now.write_half ≡ true → (least.now ≡ head_of last.now c.now) × (next_least.now ≡ head_of next.now c.now) }
@@ -204,7 +232,7 @@ pub(crate) fn keep_by(
     ensures lengths { (len : Claim → ℕ) → AreOf (length_by lengths.now) len last.now → length_by lengths.now c.now ≡ len c.now → AreLong len run.old → AreLong len run.new }
 {
     if stood {
-        go_on(run, lengths, c, least, next_least, last, next);
+        go_on(run, comes, lengths, c, least, next_least, last, next);
         return;
     }
     clear(run);

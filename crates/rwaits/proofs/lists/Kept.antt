@@ -20,7 +20,10 @@ use Rattle.rclaim.specs.declared.claim.Claim.{Claim}
 use Rattle.rwaits.specs.declared.section.Section.{Section}
 use Rattle.rwaits.specs.Follow.{claims_of, HaveLengths, AreOf}
 use Rattle.rmodel.specs.Laws.{keeps_out}
-use Rattle.rwaits.specs.Tracked.{keeper_at}
+use Rattle.rcover.specs.Sections.{Sections}
+use Rattle.std.specs.Option.{option_to_list}
+use Rattle.rwaits.specs.Quiet.{NoWriteComes}
+use Rattle.rwaits.specs.Tracked.{keeper_at, read_closed_if}
 
 pub any_claims : (p : Claim → Bool) (ss : List Section) → list_any (λ s. p s.claim) ss ≡ list_any p (claims_of ss)
 any_claims p [] = refl
@@ -140,3 +143,17 @@ holds_first c write m rising = at (find (λ x. is_claim c x.claim) m) refl
     at : (o : Option Claimed) → o ≡ find (λ x. is_claim c x.claim) m → unwrap_or (option_map is_satisfied o) false ≡ holds_at c m
     at None is = holds_found c write m rising None is false tt (λ _. refl)
     at (Some x) is = holds_found c write m rising (Some x) is (is_satisfied x) refl (λ h. cc)
+
+-- where no write becomes satisfied, what is kept of a read wait stays
+pub read_not_closed : (m n : Moment) → NoWriteComes m n → (o : Option Claim) → IfSome o (λ v. v.write_half ≡ true) → (a : Sections) → read_closed_if o a m n ≡ a
+read_not_closed m n none None write a = refl
+read_not_closed m n none (Some v) write a =
+    let reads : (read_closed_if (Some v) a m n).reads ≡ a.reads
+    = both_cases (holds_at v m)
+    (λ on. ap (λ b. cond (holds_at v n) (cond b a.reads (option_to_list (first_at (λ d. conflicts d v) m))) a.reads) on ∙ at (holds_at v n) a.reads)
+    (λ off. ap (λ b. cond b (cond (holds_at v m) a.reads (option_to_list (first_at (λ d. conflicts d v) m))) a.reads) (none v write off)) in
+    (λ i. let s : Sections = record { reads = reads i; writes = a.writes } in s)
+  where
+    at : (b : Bool) (r : List Claim) → cond b r r ≡ r
+    at true r = refl
+    at false r = refl

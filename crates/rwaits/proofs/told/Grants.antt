@@ -6,20 +6,24 @@ use Rattle.std.specs.Option.{unwrap_or}
 use Rattle.std.specs.FinSet.{empty, len}
 use Rattle.rclaim.specs.Events.{seat_of}
 use Rattle.rclaim.specs.declared.changes.GrantChange.{GrantChange}
+use Rattle.rclaim.specs.Codes.{number_of}
+use Rattle.rclaim.specs.declared.changes.StatusChange.{StatusChange}
 use Rattle.rclaim.specs.declared.claim.Claim.{Claim}
+use Rattle.rclaim.specs.declared.claim.Status.{Status}
+use Rattle.rclaim.specs.declared.claim.Status.TheVariants.{Waiting, Entitled, Satisfied}
 use Rattle.rclaim.specs.declared.event.Event.{Event}
 use Rattle.rclaim.specs.declared.event.Event.TheVariants.{Issue, Finish}
 use Rattle.rclaim.specs.declared.event.Event.TheVariants as event
 use Rattle.rmodel.specs.declared.claimed.Claimed.{Claimed}
-use Rattle.rmodel.specs.Changes.{is_same, is_claim_of, claim_at, was_in, grant_change, changes_between}
-use Rattle.rmodel.specs.Claims.{is_satisfied, is_upgrade, is_nested, waiting}
+use Rattle.rmodel.specs.Changes.{is_same, is_claim_of, claim_at, was_in, grant_change, status_change, changes_between}
+use Rattle.rmodel.specs.Claims.{is_satisfied, satisfied_by, is_upgrade, is_nested, waiting}
 use Rattle.rmodel.specs.Holds.{held_by, is_nothing, is_within, nothing}
 use Rattle.rmodel.specs.Reached.{IsReached}
 use Rattle.rmodel.specs.State.{LockState}
 use Rattle.rmodel.specs.StateLaws.{gives_back}
 use Rattle.rmodel.specs.Steps.{next, Comes}
 use Rattle.rmodel.specs.WellFormed.{Among, EachPair, Distinct, IsClaim}
-use Rattle.rmodel.proofs.ListFacts.{contrary, false_from, all_at, any_among, none_among, none_from, pair_among}
+use Rattle.rmodel.proofs.ListFacts.{contrary, false_from, all_at, any_among, none_among, none_from, pair_among, passing}
 use Rattle.rmodel.proofs.reaching.Came.{goes, left}
 use Rattle.rmodel.proofs.reaching.Growing.{IsGrown, grown}
 use Rattle.rmodel.proofs.reaching.HeldBySeat.{nothing_of, is_nothing_of, within_nothing, held_of_plain, held_of_unsatisfied}
@@ -30,11 +34,11 @@ use Rattle.rmodel.proofs.settling.OneSettlement.{both_cases}
 use Rattle.rbound.specs.declared.which.Which.{Which}
 use Rattle.rbound.specs.declared.which.Which.TheVariants.{First, Rise, Ask}
 use Rattle.rcover.specs.Ended.{waits_in}
-use Rattle.rcover.specs.Moments.{Moment, is_claim}
+use Rattle.rcover.specs.Moments.{Moment, is_claim, holds_at}
 use Rattle.rcover.specs.Told.{is_rising_half, waits_first, has_read_claim, waits_to_rise, waits_for_ask, stands}
-use Rattle.rcover.proofs.runs.Moments.{is_itself}
+use Rattle.rcover.proofs.runs.Moments.{are_one, is_itself}
 use Rattle.rwaits.specs.Past.{is_issue}
-use Rattle.rwaits.specs.Quiet.{has_grant, is_quiet}
+use Rattle.rwaits.specs.Quiet.{has_grant, is_quiet, tells_write, NoWriteComes}
 use Rattle.rwaits.proofs.told.Stood.{before, rising_parts}
 
 among_found : {X Y : Type 0} (f : X → Option Y) (xs : List X) (x : X) (y : Y) → Among x xs → f x ≡ Some y → Among y (filter_map f xs)
@@ -178,3 +182,42 @@ module _ (s : LockState) (e : Event) (reached : IsReached s) (comes : Comes s e)
   goes_on First waits = stands_by waits_first (first_goes waits)
   goes_on Rise waits = stands_by waits_to_rise (rise_goes waits)
   goes_on (Ask k) waits = contrary (waits_for_ask [] x) waits (not_false (waits_for_ask [] x) parts.1)
+
+-- ---- a write that becomes satisfied is told
+
+same_satisfied : (a b : Status) → (number_of a == number_of b) ≡ true → satisfied_by b ≡ true → satisfied_by a ≡ true
+same_satisfied Satisfied b same sat = refl
+same_satisfied Waiting Satisfied same sat = contrary (0 == 2) same refl
+same_satisfied Entitled Satisfied same sat = contrary (1 == 2) same refl
+same_satisfied Waiting Waiting same sat = sat
+same_satisfied Waiting Entitled same sat = sat
+same_satisfied Entitled Waiting same sat = contrary (1 == 0) same refl
+same_satisfied Entitled Entitled same sat = sat
+
+module _ (s : LockState) (e : Event) (reached : IsReached s) (comes : Comes s e) (old : is_issue e ≡ false) where
+  abbrev told : List StatusChange
+  told = (changes_between s (next s e)).statuses
+
+  pub no_write_comes : tells_write told ≡ false → NoWriteComes s.claims (next s e).claims
+  unfolding changes_between
+  no_write_comes none v write before_off =
+      false_from (holds_at v (next s e).claims) (λ on.
+      let y = passing (λ z. is_satisfied z && is_claim v z.claim) (next s e).claims on in
+      let parts = and_parts (is_satisfied y.0) (is_claim v y.0.claim) y.2 in
+      let z = before s e reached comes old y.0 y.1 in
+      let was : was_in s.claims y.0.claim ≡ z.0
+      = ap (λ (d : Claim). unwrap_or (claim_at s.claims d.seat d.write_half) (waiting empty d)) z.2.claim
+      ∙ ap (λ o. unwrap_or o (waiting empty z.0.claim)) (found_one s.claims reached.sound.one_each z.0 z.1 s.claims (λ w h. h) z.1) in
+      let unsat : is_satisfied z.0 ≡ false
+      = false_from (is_satisfied z.0) (λ sat.
+      contrary (holds_at v s.claims)
+      (any_among (λ w. is_satisfied w && is_claim v w.claim) s.claims z.0 z.1 (and_from (is_satisfied z.0) (is_claim v z.0.claim) sat (ap (is_claim v) (sym z.2.claim) ∙ parts.1))) before_off) in
+      let changed_status : (number_of z.0.status == number_of y.0.status) ≡ false
+      = false_from (number_of z.0.status == number_of y.0.status) (λ same. contrary (is_satisfied z.0) (same_satisfied z.0.status y.0.status same parts.0) unsat) in
+      let change : StatusChange = record { seat = y.0.claim.seat; write_half = y.0.claim.write_half; status = y.0.status } in
+      let is : status_change (was_in s.claims y.0.claim) y.0 ≡ Some change = ap (λ (w : Claimed). status_change w y.0) was ∙ ap (λ b. cond b None (Some change)) changed_status in
+      let half : y.0.claim.write_half ≡ true = sym (are_one v y.0.claim parts.1).half ∙ write in
+      contrary (tells_write told)
+      (any_among (λ (c : StatusChange). c.write_half && satisfied_by c.status) told change
+      (among_found (λ x. status_change (was_in s.claims x.claim) x) (next s e).claims y.0 change y.1 is)
+      (and_from y.0.claim.write_half (satisfied_by y.0.status) half parts.0)) none)

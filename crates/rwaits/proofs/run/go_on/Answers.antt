@@ -11,7 +11,7 @@ use Rattle.rwaits.proofs.lists.Kept.{least_has, keeper_write}
 use Rattle.rwaits.proofs.run.go_on.Goals as goal
 
 pub returns-then-not-c-clause-lengths : goal.returns-then-not-c-clause-lengths
-returns-then-not-c-clause-lengths c = λ len are own have. record { reads = c.close_read.ensures.lengths len are have.reads; writes = have.writes }
+returns-then-not-c-clause-lengths c = λ len are own have. record { reads = c.close_read_of.ensures.lengths len are have.reads; writes = have.writes }
 
 written : (b : Bool) → b ≡ true → b ≡ true
 written b h = h
@@ -78,6 +78,3 @@ returns-clause-lengths c = λ len are own have.
       reads = c.close_reads.ensures.lengths len are have.reads;
       writes = c.close_writes.ensures.lengths len (ap by is ∙ least_has by len c.args.c.now own c.args.last.now are ∙ ap len (sym is)) have.writes;
     }
-
-pub close_read-requires-clause-write : goal.close_read-requires-clause-write
-close_read-requires-clause-write c = subst (λ o. IfSome o (λ v. v.write_half ≡ true)) (sym c.keeper_at.ensures) (keeper_write c.args.c.now c.args.last.now)

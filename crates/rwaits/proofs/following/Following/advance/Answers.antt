@@ -21,7 +21,8 @@ use Rattle.rclaim.specs.Changes.{ChangeLists}
 use Rattle.rclaim.specs.declared.changes.GrantChange.{GrantChange}
 use Rattle.rmodel.specs.Changes.{changes_between}
 use Rattle.rwaits.specs.Past.{state_of, StoodBy}
-use Rattle.rwaits.specs.Quiet.{GoesOn}
+use Rattle.rwaits.specs.Quiet.{GoesOn, NoWriteComes, tells_write}
+use Rattle.rwaits.proofs.told.Grants.{no_write_comes}
 use Rattle.rwaits.specs.Tracked.{shown, told}
 use Rattle.rwaits.proofs.told.Knowing.{reached, claims_few, seats_now, shown_few, asks_now, lengths_now, long_now, event_seat, seats_next, apart_next, few_next, lengths_stay_on, lengths_come, refilled, is_moment_now, is_moment_next, known, seats_at, rising_now, one_each_now, seats_next_at, seats_both, claims_few_next, rising_next, one_each_next, heads_tell, stood_next, quiet_now}
 use Rattle.rwaits.proofs.told.Noted.{asks_at_most}
@@ -89,10 +90,10 @@ keep-requires-clause-head c =
     let k = c.requires.ahead.1.follows in
     let e = c.args.event.now in
     let at_n = c.claims-5.ensures ∙ ap (λ (s : LockState). s.claims) c.requires.ahead.1.state in
-    subst (λ (n : Moment). AllByRecursion (λ x. (x.claim.seat < length c.deref-6.result.now) × (x.claim.seat < length c.deref-7.result.now)) n) (sym at_n)
-    (seats_both c.args.self.now p k e c.requires.ahead.1.comes (length c.deref-6.result.now) (length c.deref-7.result.now)
-    (ap (λ (l : List Head). length l) c.deref-6.ensures.value ∙ c.tell_both.ensures.room.now)
-    (ap (λ (l : List Head). length l) c.deref-7.ensures.value ∙ c.tell_both.ensures.room.next))
+    subst (λ (n : Moment). AllByRecursion (λ x. (x.claim.seat < length c.deref-7.result.now) × (x.claim.seat < length c.deref-8.result.now)) n) (sym at_n)
+    (seats_both c.args.self.now p k e c.requires.ahead.1.comes (length c.deref-7.result.now) (length c.deref-8.result.now)
+    (ap (λ (l : List Head). length l) c.deref-7.ensures.value ∙ c.tell_both.ensures.room.now)
+    (ap (λ (l : List Head). length l) c.deref-8.ensures.value ∙ c.tell_both.ensures.room.next))
 
 pub keep-requires-clause-heads : goal.keep-requires-clause-heads
 keep-requires-clause-heads c =
@@ -104,7 +105,7 @@ keep-requires-clause-heads c =
     let hs = c.tell_both.new.self.now.items in
     let hs' = c.tell_both.new.self.next.items in
     subst (λ (z : List Head × List Head × Moment × Moment). AllByRecursion (HeadsTell z.0 z.1 z.2 z.3) z.3)
-    (λ i. (sym c.deref-6.ensures.value i, sym c.deref-7.ensures.value i, sym (c.deref-8.ensures.value ∙ at_m) i, sym (c.claims-5.ensures ∙ ap (λ (s : LockState). s.claims) state) i))
+    (λ i. (sym c.deref-7.ensures.value i, sym c.deref-8.ensures.value i, sym (c.deref-9.ensures.value ∙ at_m) i, sym (c.claims-5.ensures ∙ ap (λ (s : LockState). s.claims) state) i))
     (heads_tell c.args.self.now p k e c.requires.ahead.1.comes hs hs'
     (subst (TellHeads hs) (c.deref-5.ensures.value ∙ at_m) c.tell_both.ensures.now)
     (subst (TellHeads hs') (c.claims-4.ensures ∙ ap (λ (s : LockState). s.claims) state) c.tell_both.ensures.next.heads))
@@ -130,7 +131,7 @@ keep-requires-clause-few c =
     let p = c.requires.ahead.0 in
     let k = c.requires.ahead.1.follows in
     let e = c.args.event.now in
-    let at_m = c.deref-8.ensures.value ∙ c.requires.ahead.1.noted c.requires.other in
+    let at_m = c.deref-9.ensures.value ∙ c.requires.ahead.1.noted c.requires.other in
     let at_n = c.claims-5.ensures ∙ ap (λ (s : LockState). s.claims) c.requires.ahead.1.state in
     subst (λ (z : List Run × Moment × Moment). AllByRecursion (λ x. may_wait z.2 x ≡ true → AreAtMost SEATS (kept_of z.1 z.2 (table_of z.0 x.claim.seat) x)) z.2)
     (λ i. (sym c.deref_mut.ensures.value i, sym at_m i, sym at_n i)) (few_next c.args.self.now p k e c.requires.ahead.1.comes)
@@ -142,7 +143,7 @@ returns c = λ p g.
     let a = c.args.self.now in
     let e = c.args.event.now in
     let es = p.events in
-    let at_m = c.deref-8.ensures.value ∙ g.noted c.requires.other in
+    let at_m = c.deref-9.ensures.value ∙ g.noted c.requires.other in
     let at_n = c.claims-5.ensures ∙ ap (λ (s : LockState). s.claims) g.state in
     let told_m = c.deref-3.ensures.value ∙ g.noted c.requires.other in
     let told_n = c.claims.ensures ∙ ap (λ (s : LockState). s.claims) g.state in
@@ -186,7 +187,7 @@ keep-requires-clause-stood c =
     let p = c.requires.ahead.0 in
     let k = c.requires.ahead.1.follows in
     let e = c.args.event.now in
-    let at_m = c.deref-8.ensures.value ∙ c.requires.ahead.1.noted c.requires.other in
+    let at_m = c.deref-9.ensures.value ∙ c.requires.ahead.1.noted c.requires.other in
     let at_n = c.claims-5.ensures ∙ ap (λ (s : LockState). s.claims) c.requires.ahead.1.state in
     subst (λ (z : Moment × Moment). AllByRecursion (StoodBy e z.0 z.1) z.1) (λ i. (sym at_m i, sym at_n i)) (stood_next c.args.self.now p k e c.requires.ahead.1.comes (plain_of c.args.self.now.waiting c.args.event.now c.requires.other))
 
@@ -206,7 +207,7 @@ pub keep-requires-clause-last_rises : goal.keep-requires-clause-last_rises
 keep-requires-clause-last_rises c =
     let p = c.requires.ahead.0 in
     let k = c.requires.ahead.1.follows in
-    let at_m = c.deref-8.ensures.value ∙ c.requires.ahead.1.noted c.requires.other in
+    let at_m = c.deref-9.ensures.value ∙ c.requires.ahead.1.noted c.requires.other in
     subst (EachPair Rises) (sym at_m) (rising_now c.args.self.now p k)
 
 pub keep-requires-clause-next_rises : goal.keep-requires-clause-next_rises
@@ -257,3 +258,16 @@ keep-requires-clause-rising c =
     let a = c.args.self.now in
     subst (λ (z : Set × Moment). HoldRising z.0 z.1) (λ i. (sym c.note_rise.ensures i, sym (c.claims-5.ensures ∙ ap (λ (s : LockState). s.claims) g.state) i))
     (rising_on (state_of p) e (reached a p g.follows) g.comes a.rising g.follows.rising (plain_of a.waiting e c.requires.other))
+
+pub keep-requires-clause-comes : goal.keep-requires-clause-comes
+keep-requires-clause-comes c = λ off.
+    let p = c.requires.ahead.0 in
+    let g = c.requires.ahead.1 in
+    let e = c.args.event.now in
+    let a = c.args.self.now in
+    let at_m = c.deref-9.ensures.value ∙ g.noted c.requires.other in
+    let at_n = c.claims-5.ensures ∙ ap (λ (s : LockState). s.claims) g.state in
+    let statuses : c.deref-6.result.now ≡ (changes_between (state_of p) (next (state_of p) e)).statuses
+    = c.deref-6.ensures.value ∙ ap (λ (l : ChangeLists). l.statuses) (c.behind-machine-2.view_is ∙ c.changes-2.ensures ∙ g.changes) in
+    subst (λ (z : Moment × Moment). NoWriteComes z.0 z.1) (λ i. (sym at_m i, sym at_n i))
+    (no_write_comes (state_of p) e (reached a p g.follows) g.comes (plain_of a.waiting e c.requires.other) (ap tells_write (sym statuses) ∙ sym c.tells_write.ensures ∙ off))
