@@ -43,20 +43,26 @@ module _ {C : Type 0} (code : List Row → Row → Option C) where
   abbrev pub AreGood : List Row → Type 0
   AreGood rows = AllClean code followed [] rows
 
-  -- all records of the text were taken, and this is the number of the one that would follow
-  pub record HasTakenAll {T : Type 0} (Knows : T → List Row → Type 0) (bytes : List ℕ) (taker : T) (line : ℕ) : Type 0 where
+  -- all records of a part of a text were taken behind `earlier` ones, and this is the number of the one that would follow
+  pub record HasTakenPart {T : Type 0} (Knows : T → List Row → Type 0) (earlier : List Row) (bytes : List ℕ) (taker : T) (line : ℕ) : Type 0 where
     pub rows : List Row
     pub are : AreRowsOf bytes rows
-    pub clean : AreGood rows
-    pub knows : Knows taker rows
-    pub few : length rows < 2 ^ 62
-    pub counted : length rows + 1 ≡ line
+    pub clean : AllClean code followed earlier rows
+    pub knows : Knows taker (earlier ++ rows)
+    pub few : length (earlier ++ rows) < 2 ^ 62
+    pub counted : length (earlier ++ rows) + 1 ≡ line
 
 -- and `is_done` whether a text may end behind records; `no_end` is what is wrong if it may not
 module _ {C : Type 0} (code : List Row → Row → Option C) (is_done : List Row → Bool) (no_end : C) where
   -- the first fault of a text's records, with its number counted from 1
   abbrev pub fault_of : List Row → Option (ℕ × C)
   fault_of rows = fault_from code followed is_done no_end 1 [] rows
+
+  -- this is the first fault of a part of a text behind `earlier` records, whatever comes behind the part
+  abbrev pub IsFaultBehind : List Row → List ℕ → Fault C → Type 0
+  IsFaultBehind earlier bytes fault =
+      (rows : List Row) × AreRowsOf bytes rows
+      × ((more : List Row) → fault_from code followed is_done no_end (length earlier + 1) earlier (rows ++ more) ≡ Some (fault.line, fault.code))
 
   -- this is the first fault of a text
   abbrev pub IsFaultOf : List ℕ → Fault C → Type 0

@@ -16,5 +16,5 @@ mod word;
 pub use errors::{RowErr, TextErr};
 pub use fault::{Code, Fault, Refusal};
 pub use record::{field_of, word_in};
-pub use taker::{Records, take_text};
+pub use taker::{Records, end_at, take_part, take_text};
 pub use word::Word;

@@ -1,8 +1,8 @@
 // Taking the records of a text one after another.
-ghost use Rattle.std.specs.Prelude.{◌≡◌, ◌<◌, ◌^◌, ◌++◌, ◌∷◌, [], ℕ, Bool, true, false, List, Option, length, OnOk, IfOk, None, Some};
+ghost use Rattle.std.specs.Prelude.{◌≡◌, ◌<◌, ◌^◌, ◌++◌, ◌+◌, ◌∷◌, [], ℕ, Bool, true, false, List, Option, length, OnOk, IfOk, None, Some};
 ghost use Rattle.csv.specs.Records.{fields_of};
 ghost use Rattle.rforms.specs.Records.{Row};
-ghost use Rattle.rforms.specs.Takers.{IsFresh, IsFaultOf, HasTaken, HasTakenAll};
+ghost use Rattle.rforms.specs.Takers.{IsFresh, IsFaultBehind, IsFaultOf, HasTaken, HasTakenPart};
 
 use crate::Fault;
 use crate::errors::{RowErr, TextErr};
@@ -62,16 +62,43 @@ pub fn take_text<T: Records>(
     ensures taken { OnOk result (HasTaken T.code T.is_done T.no_end T.knows bytes.now taker.new) }
     ensures bad { (fault : Fault T.Code) → result ≡ Err (TextErr.Bad fault) → IsFaultOf T.code T.is_done T.no_end bytes.now fault }
 {
-    let mut reader = reader_of(alloc, bytes);
     let mut fields = ByteRecord::new(alloc);
-    match take_rows(&mut reader, &mut fields, taker) {
+    match take_part(alloc, bytes, &mut fields, 1, taker) {
         Ok(line) => end_at(taker, line),
         Err(e) => Err(e),
     }
 }
 
-// Whether a text may end there, where all its records were taken.
-fn end_at<T: Records>(taker: &T, line: u64) -> Result<(), TextErr<T::Code>>
+/// Takes all records of a part of a text, one after another into `fields`, behind others that were taken, and answers the
+/// number of the one that would follow. The first of them has the number `from`.
+///
+/// # Errors
+///
+/// The first fault of the part, whatever comes behind it, or want of memory.
+pub fn take_part<T: Records>(
+    alloc: Global,
+    bytes: &[u8],
+    fields: &mut ByteRecord,
+    from: u64,
+    taker: &mut T,
+) -> Result<u64, TextErr<T::Code>>
+    requires { (earlier : List Row) × T.knows taker.old earlier × (length earlier + 1 ≡ from) }
+    ensures taken { (earlier : List Row) → T.knows taker.old earlier → length earlier + 1 ≡ from
+        → IfOk result (HasTakenPart T.code T.knows earlier bytes.now taker.new) }
+    ensures bad { (earlier : List Row) → T.knows taker.old earlier → length earlier + 1 ≡ from
+        → (fault : Fault T.Code) → result ≡ Err (TextErr.Bad fault) → IsFaultBehind T.code T.is_done T.no_end earlier bytes.now fault }
+{
+    let mut reader = reader_of(alloc, bytes);
+    take_rows(&mut reader, fields, from, taker)
+}
+
+/// Whether a text may end where the taker stands, of which all records were taken; `line` is the number of the one that
+/// would follow.
+///
+/// # Errors
+///
+/// What is wrong with a text that ends there.
+pub fn end_at<T: Records>(taker: &T, line: u64) -> Result<(), TextErr<T::Code>>
     ensures taken { OnOk result ((rows : List Row) → T.knows taker.now rows → T.is_done rows ≡ true) }
     ensures bad { (fault : Fault T.Code) → result ≡ Err (TextErr.Bad fault) → (fault ≡ record { line = line; code = T.no_end }) × ((rows : List Row) → T.knows taker.now rows → T.is_done rows ≡ false) }
 {
@@ -99,14 +126,17 @@ fn reader_of(alloc: Global, bytes: &[u8]) -> Reader<&[u8]>
 fn take_rows<T: Records>(
     reader: &mut Reader<&[u8]>,
     fields: &mut ByteRecord,
+    from: u64,
     taker: &mut T,
 ) -> Result<u64, TextErr<T::Code>>
     requires fresh { (bytes : List ℕ) × IsFresh bytes reader.old }
-    requires nothing { T.knows taker.old [] }
-    ensures ended { (bytes : List ℕ) → IsFresh bytes reader.old → IfOk result (HasTakenAll T.code T.knows bytes taker.new) }
-    ensures bad { (bytes : List ℕ) → IsFresh bytes reader.old → (fault : Fault T.Code) → result ≡ Err (TextErr.Bad fault) → IsFaultOf T.code T.is_done T.no_end bytes fault }
+    requires behind { (earlier : List Row) × T.knows taker.old earlier × (length earlier + 1 ≡ from) }
+    ensures ended { (bytes : List ℕ) → IsFresh bytes reader.old → (earlier : List Row) → T.knows taker.old earlier → length earlier + 1 ≡ from
+        → IfOk result (HasTakenPart T.code T.knows earlier bytes taker.new) }
+    ensures bad { (bytes : List ℕ) → IsFresh bytes reader.old → (earlier : List Row) → T.knows taker.old earlier → length earlier + 1 ≡ from
+        → (fault : Fault T.Code) → result ≡ Err (TextErr.Bad fault) → IsFaultBehind T.code T.is_done T.no_end earlier bytes fault }
 {
-    for line in 1..MOST_RECORDS {
+    for line in from..MOST_RECORDS {
         let Ok(found) = reader.read_byte_record(fields) else {
             return Err(TextErr::Memory);
         };

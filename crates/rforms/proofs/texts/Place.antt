@@ -1,5 +1,5 @@
 -- Where the taking of a text has come, and what one record more says.
-use Rattle.std.proofs.Common.{◌≡◌, ℕ, suc, ◌+◌, ◌^◌, ◌<◌, Bor, Bool, true, false, cond, List, [], ◌∷◌, ◌++◌, length, fold, Option, Some, None, refl, sym, ap, ◌∙◌, arith, append_assoc, length-append}
+use Rattle.std.proofs.Common.{◌≡◌, ℕ, suc, ◌+◌, ◌^◌, ◌<◌, Bor, Bool, true, false, cond, List, [], ◌∷◌, ◌++◌, length, fold, Option, Some, None, refl, sym, ap, subst, ◌∙◌, arith, append_assoc, length-append}
 use Rattle.std.proofs.lemmas.Bool.{true≢false}
 use Rattle.std.proofs.lemmas.List.{append-nil}
 use Rattle.std.specs.Prelude.{Result, Ok, Err, OnOk}
@@ -13,7 +13,7 @@ use Rattle.csv.specs.declared.reader.Trim.TheVariants as trim
 use Rattle.csv.proofs.ReadFacts.{rows-more, rows-end}
 use Rattle.rforms.specs.Records.{Row}
 use Rattle.rforms.specs.Walks.{AllClean, fault_from, or_later}
-use Rattle.rforms.specs.Takers.{IsFresh, followed, AreGood, HasTakenAll, fault_of, IsFaultOf, HasTaken, error_at}
+use Rattle.rforms.specs.Takers.{IsFresh, followed, HasTakenPart, fault_of, IsFaultBehind, IsFaultOf, HasTaken, error_at}
 use Rattle.rforms.specs.declared.errors.RowErr.{RowErr}
 use Rattle.rforms.specs.declared.errors.RowErr.TheVariants as why
 use Rattle.rforms.specs.declared.errors.TextErr.{TextErr}
@@ -60,11 +60,11 @@ found_next cfg s s2 left (Some ys) fields h =
     ] refl h
 
 module _ {C T : Type 0} (code : List Row → Row → Option C) (is_done : List Row → Bool) (no_end : C) (Knows : T → List Row → Type 0) where
-  -- the reader has read the records `before` of these bytes, none of which has a fault, the taker knows them, and the bytes `left` are to go on with
-  pub record IsAt (bytes : List ℕ) (reader : Reader (Bor (List ℕ))) (taker : T) (line : ℕ) (before : List Row) (left : List ℕ) : Type 0 where
-    pub counted : length before + 1 ≡ line
-    pub clean : AreGood code before
-    pub knows : Knows taker before
+  -- behind `earlier` ones the reader has read the records `before` of these bytes, none of which has a fault, the taker knows them, and the bytes `left` are to go on with
+  pub record IsAt (earlier : List Row) (bytes : List ℕ) (reader : Reader (Bor (List ℕ))) (taker : T) (line : ℕ) (before : List Row) (left : List ℕ) : Type 0 where
+    pub counted : length (earlier ++ before) + 1 ≡ line
+    pub clean : AllClean code followed earlier before
+    pub knows : Knows taker (earlier ++ before)
     pub trim : reader_trim reader ≡ trim.None
     pub ready : Ready reader
     pub config : reader_config reader ≡ default_config
@@ -72,12 +72,13 @@ module _ {C T : Type 0} (code : List Row → Row → Option C) (is_done : List R
     pub source : source_of (λ s. Some s.now) reader ≡ Some left
     pub reached : Reached default_config st.StartRecord (strip_bom bytes) before (reader_state reader) left
 
-  pub at_start : (bytes : List ℕ) (reader : Reader (Bor (List ℕ))) (taker : T) → IsFresh bytes reader → Knows taker [] → IsAt bytes reader taker 1 [] (strip_bom bytes)
+  pub at_start : (earlier : List Row) (bytes : List ℕ) (reader : Reader (Bor (List ℕ))) (taker : T) (line : ℕ) → IsFresh bytes reader → Knows taker earlier → length earlier + 1 ≡ line
+      → IsAt earlier bytes reader taker line [] (strip_bom bytes)
   unfolding Reached
-  at_start bytes reader taker h none = record {
-    counted = refl;
+  at_start earlier bytes reader taker line h knows counted = record {
+    counted = ap (λ (rows : List Row). length rows + 1) (append-nil earlier) ∙ counted;
     clean = tt;
-    knows = none;
+    knows = subst (Knows taker) (sym (append-nil earlier)) knows;
     trim = h.trim;
     ready = h.ready;
     config = h.config;
@@ -87,24 +88,26 @@ module _ {C T : Type 0} (code : List Row → Row → Option C) (is_done : List R
   }
 
   -- the taker is ready for the next record
-  pub may_take : (bytes : List ℕ) (reader : Reader (Bor (List ℕ))) (taker : T) (line : ℕ) (before : List Row) (left : List ℕ) → IsAt bytes reader taker line before left → line < 2 ^ 62
+  pub may_take : (earlier : List Row) (bytes : List ℕ) (reader : Reader (Bor (List ℕ))) (taker : T) (line : ℕ) (before : List Row) (left : List ℕ) → IsAt earlier bytes reader taker line before left → line < 2 ^ 62
       → (rows : List Row) × Knows taker rows × (length rows < 2 ^ 62)
-  may_take bytes reader taker line before left h small = let counted = h.counted in (before, h.knows, omega (arith, counted, small))
+  may_take earlier bytes reader taker line before left h small = let counted = h.counted in (earlier ++ before, h.knows, omega (arith, counted, small))
 
-  pub at_more : (bytes : List ℕ) (old new : Reader (Bor (List ℕ))) (was now : T) (line : ℕ) (before : List Row) (left : List ℕ) (fields : Row)
-      → IsAt bytes old was line before left → ReadRecord (λ s. Some s.now) old new true fields → ReadsOn old new
-      → code before fields ≡ None → Knows now (before ++ fields ∷ [])
-      → (all : List Row) × (rest : List ℕ) × IsAt bytes new now (line + 1) all rest
-  at_more bytes old new was now line before left fields h read on none knows =
+  pub at_more : (earlier : List Row) (bytes : List ℕ) (old new : Reader (Bor (List ℕ))) (was now : T) (line : ℕ) (before : List Row) (left : List ℕ) (fields : Row)
+      → IsAt earlier bytes old was line before left → ReadRecord (λ s. Some s.now) old new true fields → ReadsOn old new
+      → code (earlier ++ before) fields ≡ None → Knows now ((earlier ++ before) ++ fields ∷ [])
+      → (all : List Row) × (rest : List ℕ) × IsAt earlier bytes new now (line + 1) all rest
+  at_more earlier bytes old new was now line before left fields h read on none knows =
       let more = rows-more (λ (s : Bor (List ℕ)). Some s.now) old new fields default_config st.StartRecord (strip_bom bytes) left before h.config h.source h.reached read in
-      let size = length-append before (fields ∷ []) in
+      let joined : (earlier ++ before) ++ fields ∷ [] ≡ earlier ++ (before ++ fields ∷ []) = append_assoc earlier before (fields ∷ []) in
+      let size = length-append (earlier ++ before) (fields ∷ []) in
+      let same = ap length joined in
       let counted = h.counted in (
         before ++ fields ∷ [],
         more.0,
         record {
           counted = omega arith;
-          clean = clean_push code followed is_done no_end [] before fields h.clean (ap (λ (rows : List Row). code rows fields) (followed_all [] before) ∙ none);
-          knows = knows;
+          clean = clean_push code followed is_done no_end earlier before fields h.clean (ap (λ (rows : List Row). code rows fields) (followed_all earlier before) ∙ none);
+          knows = subst (Knows now) joined knows;
           trim = on.1 ∙ h.trim;
           ready = (on.4 h.ready).0;
           config = on.0 ∙ h.config;
@@ -114,9 +117,9 @@ module _ {C T : Type 0} (code : List Row → Row → Option C) (is_done : List R
         },
       )
 
-  pub at_end : (bytes : List ℕ) (old new : Reader (Bor (List ℕ))) (taker : T) (line : ℕ) (before : List Row) (left : List ℕ) (fields : Row)
-      → IsAt bytes old taker line before left → line < 2 ^ 62 → ReadRecord (λ s. Some s.now) old new false fields → HasTakenAll code Knows bytes taker line
-  at_end bytes old new taker line before left fields h small read = record {
+  pub at_end : (earlier : List Row) (bytes : List ℕ) (old new : Reader (Bor (List ℕ))) (taker : T) (line : ℕ) (before : List Row) (left : List ℕ) (fields : Row)
+      → IsAt earlier bytes old taker line before left → line < 2 ^ 62 → ReadRecord (λ s. Some s.now) old new false fields → HasTakenPart code Knows earlier bytes taker line
+  at_end earlier bytes old new taker line before left fields h small read = record {
     rows = before;
     are = (old.state, left, h.reached, rows-end (λ (s : Bor (List ℕ)). Some s.now) old new fields default_config left h.config h.source read ∙ refl);
     clean = h.clean;
@@ -125,27 +128,33 @@ module _ {C T : Type 0} (code : List Row → Row → Option C) (is_done : List R
     counted = h.counted;
   }
 
-  pub at_fault : (bytes : List ℕ) (old new : Reader (Bor (List ℕ))) (taker : T) (line : ℕ) (before : List Row) (left : List ℕ) (fields : Row) (cause : C)
-      → IsAt bytes old taker line before left → ReadRecord (λ s. Some s.now) old new true fields → code before fields ≡ Some cause
-      → IsFaultOf code is_done no_end bytes (record { line = line; code = cause })
+  pub at_fault : (earlier : List Row) (bytes : List ℕ) (old new : Reader (Bor (List ℕ))) (taker : T) (line : ℕ) (before : List Row) (left : List ℕ) (fields : Row) (cause : C)
+      → IsAt earlier bytes old taker line before left → ReadRecord (λ s. Some s.now) old new true fields → code (earlier ++ before) fields ≡ Some cause
+      → IsFaultBehind code is_done no_end earlier bytes (record { line = line; code = cause })
   unfolding fault_from
-  at_fault bytes old new taker line before left fields cause h read bad =
+  at_fault earlier bytes old new taker line before left fields cause h read bad =
       let next = found_next default_config old.state new.state left (pending_of (Some new.rdr.now) new) fields (rw (h.config, h.source) at read.0) in
       let around = rows_around default_config st.StartRecord old.state (strip_bom bytes) left before next.0 h.reached next.1 in
       let counted = h.counted in
-      let number : 1 + length before ≡ line = omega arith in
-      let all = fold followed [] before in (
+      let size = length-append earlier before in
+      let number : (length earlier + 1) + length before ≡ line = omega arith in
+      let all = fold followed earlier before in (
         before ++ next.0.0 ∷ around.0,
         around.1,
-        fault_behind code followed is_done no_end 1 [] before (next.0.0 ∷ around.0) h.clean
-            ∙ ap (λ c. or_later (1 + length before) c (fault_from code followed is_done no_end ((1 + length before) + 1) (followed all next.0.0) around.0))
-            (ap (λ (rows : List Row). code rows next.0.0) (followed_all [] before) ∙ ap (code before) (sym next.2) ∙ bad)
+        λ more. ap (fault_from code followed is_done no_end (length earlier + 1) earlier) (append_assoc before (next.0.0 ∷ around.0) more)
+            ∙ fault_behind code followed is_done no_end (length earlier + 1) earlier before (next.0.0 ∷ (around.0 ++ more)) h.clean
+            ∙ ap (λ c. or_later ((length earlier + 1) + length before) c (fault_from code followed is_done no_end (((length earlier + 1) + length before) + 1) (followed all next.0.0) (around.0 ++ more)))
+            (ap (λ (rows : List Row). code rows next.0.0) (followed_all earlier before) ∙ ap (code (earlier ++ before)) (sym next.2) ∙ bad)
             ∙ ap (λ n. Some (n, cause)) number,
       )
 
-  -- ---- the end of the text
+  -- ---- the whole text
 
-  pub taken : (bytes : List ℕ) (taker : T) (line : ℕ) → HasTakenAll code Knows bytes taker line → ((rows : List Row) → Knows taker rows → is_done rows ≡ true) → HasTaken code is_done no_end Knows bytes taker
+  -- the first fault of all of a text, as a part behind nothing
+  pub fault_of_all : (bytes : List ℕ) (fault : Fault C) → IsFaultBehind code is_done no_end [] bytes fault → IsFaultOf code is_done no_end bytes fault
+  fault_of_all bytes fault h = (h.0, h.1, ap (fault_of code is_done no_end) (sym (append-nil h.0)) ∙ h.2 [])
+
+  pub taken : (bytes : List ℕ) (taker : T) (line : ℕ) → HasTakenPart code Knows [] bytes taker line → ((rows : List Row) → Knows taker rows → is_done rows ≡ true) → HasTaken code is_done no_end Knows bytes taker
   taken bytes taker line h ended = record {
     rows = h.rows;
     are = h.are;
@@ -154,7 +163,7 @@ module _ {C T : Type 0} (code : List Row → Row → Option C) (is_done : List R
     few = h.few;
   }
 
-  pub none_behind : (bytes : List ℕ) (taker : T) (line : ℕ) → HasTakenAll code Knows bytes taker line → ((rows : List Row) → Knows taker rows → is_done rows ≡ false) → IsFaultOf code is_done no_end bytes (record { line = line; code = no_end })
+  pub none_behind : (bytes : List ℕ) (taker : T) (line : ℕ) → HasTakenPart code Knows [] bytes taker line → ((rows : List Row) → Knows taker rows → is_done rows ≡ false) → IsFaultOf code is_done no_end bytes (record { line = line; code = no_end })
   unfolding fault_from
   none_behind bytes taker line h unended =
       let counted = h.counted in
@@ -168,7 +177,7 @@ module _ {C T : Type 0} (code : List Row → Row → Option C) (is_done : List R
       )
 
   -- where the end was right, the text is taken
-  pub taken_ok : {U : Type 0} (r : Result U (TextErr C)) (bytes : List ℕ) (taker : T) (line : ℕ) → HasTakenAll code Knows bytes taker line → OnOk r ((rows : List Row) → Knows taker rows → is_done rows ≡ true)
+  pub taken_ok : {U : Type 0} (r : Result U (TextErr C)) (bytes : List ℕ) (taker : T) (line : ℕ) → HasTakenPart code Knows [] bytes taker line → OnOk r ((rows : List Row) → Knows taker rows → is_done rows ≡ true)
       → OnOk r (HasTaken code is_done no_end Knows bytes taker)
   taken_ok (Ok u) bytes taker line h ended = taken bytes taker line h ended
   taken_ok (Err e) bytes taker line h ended = tt

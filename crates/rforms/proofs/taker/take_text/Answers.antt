@@ -1,17 +1,24 @@
-use Rattle.std.proofs.Common.{sym, subst}
+use Rattle.std.proofs.Common.{[], Err, refl, sym, ap, subst}
 use Rattle.rforms.specs.Takers.{IsFaultOf}
 use Rattle.rforms.specs.declared.fault.Fault.{Fault}
-use Rattle.rforms.proofs.texts.Place.{taken_ok, none_behind}
+use Rattle.rforms.proofs.texts.Place.{fault_of_all, taken_ok, none_behind, err_is}
 use Rattle.rforms.proofs.taker.take_text.Goals as goal
+
+pub take_part-requires : goal.take_part-requires
+take_part-requires g c = ([], c.requires, refl)
 
 pub returns-in-Ok-clause-taken : goal.returns-in-Ok-clause-taken
 returns-in-Ok-clause-taken g c =
-    taken_ok g.T.Records.code g.T.Records.is_done g.T.Records.no_end g.T.Records.knows c.end_at.result c.args.bytes.now c.take_rows.new.taker c.in-Ok.line
-    (c.in-Ok.ensures.ended c.args.bytes.now c.reader_of-reader.ensures) c.end_at.ensures.taken
+    taken_ok g.T.Records.code g.T.Records.is_done g.T.Records.no_end g.T.Records.knows c.end_at.result c.args.bytes.now c.take_part.new.taker c.in-Ok.line
+    (c.in-Ok.ensures.taken [] c.requires refl) c.end_at.ensures.taken
 
 pub returns-in-Ok-clause-bad : goal.returns-in-Ok-clause-bad
 returns-in-Ok-clause-bad g c = λ fault is.
     let told = c.end_at.ensures.bad fault is in
     subst (λ (f : Fault _). IsFaultOf g.T.Records.code g.T.Records.is_done g.T.Records.no_end c.args.bytes.now f) (sym told.0)
-    (none_behind g.T.Records.code g.T.Records.is_done g.T.Records.no_end g.T.Records.knows c.args.bytes.now c.take_rows.new.taker c.in-Ok.line
-    (c.in-Ok.ensures.ended c.args.bytes.now c.reader_of-reader.ensures) told.1)
+    (none_behind g.T.Records.code g.T.Records.is_done g.T.Records.no_end g.T.Records.knows c.args.bytes.now c.take_part.new.taker c.in-Ok.line
+    (c.in-Ok.ensures.taken [] c.requires refl) told.1)
+
+pub returns-clause-bad : goal.returns-clause-bad
+returns-clause-bad g c = λ fault is.
+    fault_of_all g.T.Records.code g.T.Records.is_done g.T.Records.no_end g.T.Records.knows c.args.bytes.now fault (c.in-Err.ensures.bad [] c.requires refl fault (ap Err (err_is is)))
