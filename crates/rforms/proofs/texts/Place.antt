@@ -25,11 +25,11 @@ use Rattle.rforms.proofs.texts.Records.{rows_around}
 -- ---- items before and behind
 
 module _ {R S C : Type 0} (code : S → R → Option C) (next : S → R → S) (is_done : S → Bool) (no_end : C) where
-  clean_push : (s : S) (xs : List R) (x : R) → AllClean code next s xs → code (fold next s xs) x ≡ None → AllClean code next s (xs ++ x ∷ [])
+  pub clean_push : (s : S) (xs : List R) (x : R) → AllClean code next s xs → code (fold next s xs) x ≡ None → AllClean code next s (xs ++ x ∷ [])
   clean_push s [] x clean none = (none, tt)
   clean_push s (y ∷ xs) x clean none = (clean.0, clean_push (next s y) xs x clean.1 none)
 
-  fault_behind : (line : ℕ) (s : S) (xs ys : List R) → AllClean code next s xs → fault_from code next is_done no_end line s (xs ++ ys) ≡ fault_from code next is_done no_end (line + length xs) (fold next s xs) ys
+  pub fault_behind : (line : ℕ) (s : S) (xs ys : List R) → AllClean code next s xs → fault_from code next is_done no_end line s (xs ++ ys) ≡ fault_from code next is_done no_end (line + length xs) (fold next s xs) ys
   unfolding fault_from
   fault_behind line s [] ys clean = ap (λ n. fault_from code next is_done no_end n s ys) (sym (plus_zero line))
     where

@@ -1,0 +1,5 @@
+pub mod Splits
+pub mod Windows
+pub mod Gaining
+pub mod Feeding
+pub mod Errors

@@ -1,0 +1,12 @@
+-- What a taker knows of a text whose front was taken, while some of it is held.
+use Rattle.std.specs.Prelude.{◌≡◌, ◌+◌, ℕ, List, ◌++◌, length, Option}
+use Rattle.rforms.specs.Records.{Row, AreRowsOf}
+use Rattle.rforms.specs.Takers.{AreGood}
+
+-- of this text, some is held, and the records before that were taken and have no fault; whatever comes behind it, the records are those and the ones of what is held and comes
+pub record IsFed {C T : Type 0} (code : List Row → Row → Option C) (Knows : T → List Row → Type 0) (text held : List ℕ) (taker : T) (line : ℕ) : Type 0 where
+  pub rows : List Row
+  pub knows : Knows taker rows
+  pub clean : AreGood code rows
+  pub counted : length rows + 1 ≡ line
+  pub joins : (more : List ℕ) (behind : List Row) → AreRowsOf (held ++ more) behind → AreRowsOf (text ++ more) (rows ++ behind)

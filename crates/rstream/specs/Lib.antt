@@ -1,0 +1,4 @@
+pub mod Coming
+pub mod Windows
+pub mod Feeding
+pub mod Errors
