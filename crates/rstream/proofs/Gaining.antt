@@ -2,12 +2,12 @@
 use Rattle.std.proofs.Common.{◌≡◌, ℕ, ◌+◌, ◌≤◌, ◌<◌, Bool, List, [], ◌++◌, length, take, drop, Option, Some, None, refl, sym, ap, subst, ◌∙◌, arith, append_assoc, length-append}
 use Rattle.std.proofs.lemmas.List.{append-nil}
 use Rattle.std.proofs.Math.Seq.{drop-append_seam}
-use Rattle.std.specs.Prelude.{IfSome, unwrap_or, Result, Ok, Err, OnOk}
+use Rattle.std.specs.Prelude.{unwrap_or, Result, Ok, Err, OnOk}
 use Rattle.io_ends.specs.Ends.{Took, TookAtMost}
 use Rattle.io_ends.specs.declared.reading.ReadErr.{ReadErr}
 use Rattle.io_ends.specs.declared.reading.ReadErr.TheVariants as cause
 use Rattle.rforms.specs.Records.{Row}
-use Rattle.rstream.specs.Coming.{Came, HasEnded, CameOf, BreaksOff}
+use Rattle.rstream.specs.Coming.{Came, HasEnded, CameWhole, CameOf, BreaksOff}
 use Rattle.rforms.specs.declared.fault.Fault.{Fault}
 use Rattle.rstream.specs.Errors.{error_of, StreamCameOf, StreamBreaksOff}
 use Rattle.rstream.specs.Feeding.{IsFed}
@@ -197,24 +197,17 @@ module _ {C T : Type 0} (code : List Row → Row → Option C) (is_done : List R
       → IsFeeding code Knows o p w u now next
   feeding_lines o p w v u was now line next f fed taken limit sound = record { text = f.text; came = f.came; fed = fed; taken = taken ∙ f.taken; limit = limit ∙ f.limit; sound = sound }
 
-  -- ---- what is told in the end
-
-  -- all that was left came
-  pub all_came : (o p : Option (List ℕ)) (text : List ℕ) (P : List ℕ → Type 0) → Came o p text → HasEnded o p → P text → IfSome o P
-  all_came None p text P came ended h = tt
-  all_came (Some bytes) p text P came ended h = subst P (sym (came.1 ∙ ap (λ rest. text ++ rest) (some_is (sym came.2 ∙ ended)) ∙ append-nil text)) h
-
-  -- some of what was left came, and more may be left
-  pub some_came : (o p : Option (List ℕ)) (text : List ℕ) (P : List ℕ → Type 0) → Came o p text → ((more : List ℕ) → P (text ++ more)) → IfSome o P
-  some_came None p text P came h = tt
-  some_came (Some bytes) p text P came h = subst P (sym came.1) (h came.0)
-
   pub within_limit : (o p : Option (List ℕ)) (w v : Window) (taker : T) (line : ℕ) → IsFeeding code Knows o p w v taker line → TookAtMost o p w.limit
   within_limit o p w v taker line f =
       let taken = f.taken in
       let limit = f.limit in
       let low = f.sound.taken in
       took_most o p f.text w.limit f.came (omega arith)
+
+-- all that was left came
+pub came_whole : (o p : Option (List ℕ)) (text : List ℕ) → Came o p text → HasEnded o p → CameWhole o p text
+came_whole None p text came ended = tt
+came_whole (Some bytes) p text came ended = (sym (came.1 ∙ ap (λ rest. text ++ rest) (some_is (sym came.2 ∙ ended)) ∙ append-nil text), ended)
 
 -- what had ended for what was left had ended for all
 pub ended_more : (o p q : Option (List ℕ)) (text : List ℕ) → Came o p text → HasEnded p q → HasEnded o q

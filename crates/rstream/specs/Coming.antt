@@ -11,6 +11,10 @@ Came before after piece = IfSome before (λ bytes. (rest : List ℕ) × (bytes �
 abbrev pub HasEnded : Option (List ℕ) → Option (List ℕ) → Type 0
 HasEnded before after = IfSome before (λ _. after ≡ Some [])
 
+-- this is all that was left, and nothing is left now, where it is told
+abbrev pub CameWhole : Option (List ℕ) → Option (List ℕ) → List ℕ → Type 0
+CameWhole before after text = IfSome before (λ bytes. (text ≡ bytes) × (after ≡ Some []))
+
 -- so many bytes came before an error where a limit holds: one more than the limit where the text is too long, and else no more than the limit
 abbrev pub CameOf : ReadErr → ℕ → ℕ → Type 0
 CameOf cause.TooLong taken limit = taken ≡ limit + 1

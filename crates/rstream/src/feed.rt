@@ -1,10 +1,10 @@
 // Feeding a taker from a source.
-ghost use Rattle.std.specs.Prelude.{◌≡◌, ◌≤◌, ◌<◌, ◌+◌, ◌++◌, [], ℕ, List, Some, length, IfOk, IfErr, IfSome, OnOk, IsErrOf};
+ghost use Rattle.std.specs.Prelude.{◌≡◌, ◌≤◌, ◌<◌, ◌+◌, ◌++◌, [], ℕ, List, Some, length, IfOk, IfErr, OnOk, IsErrOf};
 ghost use Rattle.io_ends.specs.Faults.{Rose};
 ghost use Rattle.io_ends.specs.Ends.{Took, TookAtMost};
 ghost use Rattle.rforms.specs.Takers.{IsFaultOf, HasTaken};
 ghost use Rattle.rforms.specs.declared.fault.Fault.{Fault};
-ghost use Rattle.rstream.specs.Coming.{Came, HasEnded};
+ghost use Rattle.rstream.specs.Coming.{HasEnded, CameWhole};
 ghost use Rattle.rstream.specs.Errors.{IsBad, IsOfText, StreamBreaksOff};
 ghost use Rattle.rstream.specs.Feeding.{IsFed};
 ghost use Rattle.rstream.specs.Windows.{held, IsSound};
@@ -33,10 +33,9 @@ pub fn take_source<S: Source, T: Records>(
     taker: &mut T,
 ) -> Result<(), StreamErr<T::Code>>
     requires { T.knows taker.old [] }
-    ensures taken { OnOk result (IfSome (S.left source.old) (λ bytes. HasTaken T.code T.is_done T.no_end T.knows bytes taker.new)) }
-    ensures bad { (fault : Fault T.Code) → result ≡ Err (StreamErr.Bad fault) → IfSome (S.left source.old) (λ bytes. IsFaultOf T.code T.is_done T.no_end bytes fault) }
-    ensures ended { OnOk result (HasEnded (S.left source.old) (S.left source.new)) }
-    ensures bad_ended { IfErr result (λ e. IsBad e → HasEnded (S.left source.old) (S.left source.new)) }
+    ensures taken { OnOk result ((text : List ℕ) × CameWhole (S.left source.old) (S.left source.new) text × HasTaken T.code T.is_done T.no_end T.knows text taker.new) }
+    ensures bad { (fault : Fault T.Code) → result ≡ Err (StreamErr.Bad fault)
+        → (text : List ℕ) × CameWhole (S.left source.old) (S.left source.new) text × IsFaultOf T.code T.is_done T.no_end text fault }
 
     // A fault has its cause, and no fault goes untold. `TooLong` is answered exactly where one byte above the limit was taken.
     ensures fault { IsErrOf result StreamErr.ReadFault → Rose (S.faults source.old) (S.faults source.new) }
@@ -62,10 +61,9 @@ fn feed<S: Source, T: Records>(
     requires held { held window.old ≡ [] }
     requires taken { window.old.taken ≡ 0 }
     requires sound { IsSound window.old }
-    ensures taken { OnOk result (IfSome (S.left source.old) (λ bytes. HasTaken T.code T.is_done T.no_end T.knows bytes taker.new)) }
-    ensures bad { (fault : Fault T.Code) → result ≡ Err (StreamErr.Bad fault) → IfSome (S.left source.old) (λ bytes. IsFaultOf T.code T.is_done T.no_end bytes fault) }
-    ensures ended { OnOk result (HasEnded (S.left source.old) (S.left source.new)) }
-    ensures bad_ended { IfErr result (λ e. IsBad e → HasEnded (S.left source.old) (S.left source.new)) }
+    ensures taken { OnOk result ((text : List ℕ) × CameWhole (S.left source.old) (S.left source.new) text × HasTaken T.code T.is_done T.no_end T.knows text taker.new) }
+    ensures bad { (fault : Fault T.Code) → result ≡ Err (StreamErr.Bad fault)
+        → (text : List ℕ) × CameWhole (S.left source.old) (S.left source.new) text × IsFaultOf T.code T.is_done T.no_end text fault }
     ensures fault { IsErrOf result StreamErr.ReadFault → Rose (S.faults source.old) (S.faults source.new) }
     ensures quiet { ¬ IsErrOf result StreamErr.ReadFault → S.faults source.new ≡ S.faults source.old }
     ensures too_long { IsErrOf result StreamErr.TooLong → Took (S.left source.old) (S.left source.new) (window.old.limit + 1) }

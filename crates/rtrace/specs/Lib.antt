@@ -1,3 +1,4 @@
 pub mod Knows
 pub mod Takes
 pub mod Collects
+pub mod Counts

@@ -18,9 +18,10 @@ mod reading;
 mod rows;
 mod taken;
 
-pub use count::{Counting, count_events};
+pub use count::{AuditCounts, Counting, audit_stream, count_stream};
 pub use lists::{read_events, read_report};
 pub use reading::Reading;
 pub use rforms::{Code, Fault, Refusal, TextErr};
 pub use rreport::Report;
+pub use rstream::StreamErr as AuditErr;
 pub use taken::Taken;

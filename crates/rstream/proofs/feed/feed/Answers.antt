@@ -1,8 +1,10 @@
-use Rattle.std.proofs.Common.{List, ℕ, Err, sym, ap, ◌∙◌}
-use Rattle.rforms.specs.Takers.{IsFaultOf, HasTaken}
+use Rattle.std.proofs.Common.{◌++◌, Err, sym, ap, subst, ◌∙◌}
+use Rattle.rforms.specs.Takers.{HasTaken}
 use Rattle.rforms.proofs.texts.Place.{err_is}
-use Rattle.rstream.specs.Errors.{error_of}
-use Rattle.rstream.proofs.Gaining.{IsFeeding, feeding_more, feeding_lines, all_came, some_came, within_limit, ended_more, to_stream, broken_off, on_ok}
+use Rattle.rstream.specs.Errors.{error_of, IsBad}
+use Rattle.rstream.specs.declared.error.StreamErr.{StreamErr}
+use Rattle.rstream.proofs.Windows.{came_more}
+use Rattle.rstream.proofs.Gaining.{IsFeeding, feeding_more, feeding_lines, came_whole, within_limit, ended_more, to_stream, broken_off, on_ok}
 use Rattle.rstream.proofs.feed.feed.Given.{Over}
 use Rattle.rstream.proofs.feed.feed.Goals as goal
 
@@ -21,8 +23,7 @@ returns-in-Ok-true-clause-taken g c =
     c.fill.new.self c.loop-window.taker c.loop-window.line got.0 at got.1 got.2 in
     let ended = ended_more (g.S.Source.left c.args.source.now) (g.S.Source.left c.loop-window.source) (g.S.Source.left c.fill.new.source) at.text at.came (c.in-Ok-true.ensures.ended c.in-Ok-true.field-0-test) in
     on_ok c.take_rest.result
-    (all_came g.T.Records.code g.T.Records.is_done g.T.Records.no_end g.T.Records.knows (g.S.Source.left c.args.source.now) (g.S.Source.left c.fill.new.source) f.text
-    (λ (bytes : List ℕ). HasTaken g.T.Records.code g.T.Records.is_done g.T.Records.no_end g.T.Records.knows bytes c.take_rest.new.taker) f.came ended)
+    (λ (h : HasTaken g.T.Records.code g.T.Records.is_done g.T.Records.no_end g.T.Records.knows f.text c.take_rest.new.taker). (f.text, came_whole (g.S.Source.left c.args.source.now) (g.S.Source.left c.fill.new.source) f.text f.came ended, h))
     (c.take_rest.ensures.taken f.text f.fed)
 
 pub returns-in-Ok-true-clause-bad : goal.returns-in-Ok-true-clause-bad
@@ -32,8 +33,7 @@ returns-in-Ok-true-clause-bad g c = λ fault is.
     let f = feeding_more g.T.Records.code g.T.Records.is_done g.T.Records.no_end g.T.Records.knows (g.S.Source.left c.args.source.now) (g.S.Source.left c.loop-window.source) (g.S.Source.left c.fill.new.source) c.args.window.now c.loop-window.window
     c.fill.new.self c.loop-window.taker c.loop-window.line got.0 at got.1 got.2 in
     let ended = ended_more (g.S.Source.left c.args.source.now) (g.S.Source.left c.loop-window.source) (g.S.Source.left c.fill.new.source) at.text at.came (c.in-Ok-true.ensures.ended c.in-Ok-true.field-0-test) in
-    all_came g.T.Records.code g.T.Records.is_done g.T.Records.no_end g.T.Records.knows (g.S.Source.left c.args.source.now) (g.S.Source.left c.fill.new.source) f.text
-    (λ (bytes : List ℕ). IsFaultOf g.T.Records.code g.T.Records.is_done g.T.Records.no_end bytes fault) f.came ended (c.take_rest.ensures.bad f.text f.fed fault is)
+    (f.text, came_whole (g.S.Source.left c.args.source.now) (g.S.Source.left c.fill.new.source) f.text f.came ended, c.take_rest.ensures.bad f.text f.fed fault is)
 
 pub returns-in-Ok-true-clause-within : goal.returns-in-Ok-true-clause-within
 returns-in-Ok-true-clause-within g c = λ other.
@@ -64,9 +64,15 @@ returns-in-Err-take_lines-clause-bad g c = λ fault is.
     let got = c.in-Ok-false.ensures.gained in
     let f = feeding_more g.T.Records.code g.T.Records.is_done g.T.Records.no_end g.T.Records.knows (g.S.Source.left c.args.source.now) (g.S.Source.left c.loop-window.source) (g.S.Source.left c.fill.new.source) c.args.window.now c.loop-window.window
     c.fill.new.self c.loop-window.taker c.loop-window.line got.0 c.loop-window.invariant.0 got.1 got.2 in
-    some_came g.T.Records.code g.T.Records.is_done g.T.Records.no_end g.T.Records.knows (g.S.Source.left c.args.source.now) (g.S.Source.left c.fill.new.source) f.text
-    (λ (bytes : List ℕ). IsFaultOf g.T.Records.code g.T.Records.is_done g.T.Records.no_end bytes fault) f.came
-    (c.in-Err-take_lines.ensures.bad f.text f.fed fault (ap Err (c.refused.ensures.bad fault (err_is is))))
+    let o = g.S.Source.left c.args.source.now in
+    let p = g.S.Source.left c.fill.new.source in
+    let q = g.S.Source.left c.refused.new.source in
+    let b = c.refused.ensures.came in
+    let ended = ended_more o p q f.text f.came (c.refused.ensures.ended (subst (λ (e : StreamErr _). IsBad e) (sym (err_is is)) tt)) in (
+      f.text ++ b.0,
+      came_whole o q (f.text ++ b.0) (came_more o p q f.text b.0 f.came b.1) ended,
+      c.in-Err-take_lines.ensures.bad f.text f.fed fault (ap Err (c.refused.ensures.bad fault (err_is is))) b.0,
+    )
 
 pub returns-in-Err-take_lines-clause-too_long : goal.returns-in-Err-take_lines-clause-too_long
 returns-in-Err-take_lines-clause-too_long g c = λ is.

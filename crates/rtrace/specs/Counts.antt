@@ -1,0 +1,12 @@
+-- How much a report tells.
+use Rattle.std.specs.Prelude.{◌≡◌, ℕ, true, List, length}
+use Rattle.rforms.specs.Reports.{Report}
+use Rattle.rforms.specs.Texts.{IsTextOf}
+use Rattle.rtrace.specs.declared.count.AuditCounts.{AuditCounts}
+
+-- the text is of a report that tells so much: each of its events, and no wait yet
+pub record IsCountOf (text : List ℕ) (counts : AuditCounts) : Type 0 where
+  pub report : Report
+  pub spelled : IsTextOf true text report
+  pub events : counts.events ≡ length report.entries
+  pub waits : counts.waits ≡ 0
