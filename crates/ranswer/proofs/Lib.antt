@@ -1,5 +1,6 @@
 pub mod Lines
 pub mod Outcomes
 pub mod ToolAnswers
+pub mod Streams
 pub mod Runs
 pub mod Watches

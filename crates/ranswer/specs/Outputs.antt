@@ -1,5 +1,5 @@
 -- What the commands write, of which inputs, and when they refuse one.
-use Rattle.std.specs.Prelude.{◌≡◌, ℕ, true, false, ⊤, List, [], ◌∷◌, length, map, Option, Some, None, codes, decimal}
+use Rattle.std.specs.Prelude.{◌≡◌, ℕ, Bool, true, false, ⊤, List, [], ◌∷◌, length, map, Option, Some, None, codes, decimal}
 use Rattle.rforms.specs.Reports.{Report}
 use Rattle.rforms.specs.Takers.{IsFirstFault}
 use Rattle.rforms.specs.Texts.{IsTextOf, line_text, report_text, text_of}
@@ -26,9 +26,13 @@ use Rattle.ranswer.specs.declared.status.ToolStatus.TheVariants as status
 
 -- ---- inputs
 
--- the most bytes that an event list or a report may have: 64 times 2^20
+-- the most bytes that an event list may have: 64 times 2^20
 abbrev pub list_limit : ℕ
 list_limit = 67108864
+
+-- the most bytes that a report may have which is audited: 16 times 2^30
+abbrev pub report_limit : ℕ
+report_limit = 17179869184
 
 -- the most bytes that a script may have: 2^20
 abbrev pub script_limit : ℕ
@@ -39,9 +43,17 @@ abbrev pub limit_of : Option Command → Option ℕ
 limit_of None = None
 limit_of (Some Run) = Some script_limit
 limit_of (Some Replay) = Some list_limit
-limit_of (Some Audit) = Some list_limit
+limit_of (Some Audit) = Some report_limit
 limit_of (Some (Bound cap)) = Some script_limit
 limit_of (Some (Drill count)) = None
+
+-- the input of a command is taken while it is read, and never held whole: that of an audit
+abbrev pub is_streamed : Command → Bool
+is_streamed Run = false
+is_streamed Replay = false
+is_streamed Audit = true
+is_streamed (Bound cap) = false
+is_streamed (Drill count) = false
 
 abbrev pub input_within : Option ℕ → Option (List ℕ) → Option (List ℕ)
 input_within None left = Some []

@@ -1,7 +1,7 @@
 // The words after the program's name, and what they ask for.
 ghost use Rattle.std.specs.Prelude.{◌≡◌, ◌≤◌, option_map, Some, None, IfSome, map, string_bytes, if◌then◌else◌};
 ghost use Rattle.ranswer.specs.Words.{command_in, run_in, plain_in, bounds_under, cap_in, events_within, events_told, most_events, IsPlain};
-ghost use Rattle.ranswer.specs.Outputs.{limit_of};
+ghost use Rattle.ranswer.specs.Outputs.{limit_of, is_streamed};
 
 use rdrill::MOST_EVENTS;
 use rrecords::{cap_of, number_of};
@@ -21,8 +21,11 @@ pub enum Command {
     Drill(u32),
 }
 
-/// The most bytes that an event list or a report may have.
+/// The most bytes that an event list may have.
 pub const LIST_LIMIT: usize = 67_108_864;
+
+/// The most bytes that a report may have which is audited.
+pub const REPORT_LIMIT: u64 = 17_179_869_184;
 
 // The most digits of a number among the words.
 const MOST_DIGITS: usize = 7;
@@ -37,9 +40,17 @@ impl Command {
     {
         match self {
             Command::Run | Command::Bound(_) => Some(SCRIPT_LIMIT),
-            Command::Replay | Command::Audit => Some(LIST_LIMIT),
+            Command::Replay => Some(LIST_LIMIT),
+            Command::Audit => Some(REPORT_LIMIT as usize),
             Command::Drill(_) => None,
         }
+    }
+
+    /// Whether its input is taken while it is read, and never held whole.
+    pub fn is_streamed(self) -> bool
+        ensures { result ≡ is_streamed self }
+    {
+        matches!(self, Command::Audit)
     }
 }
 

@@ -10,7 +10,9 @@ mod reading;
 mod status;
 mod writing;
 
-pub use command::{Command, LIST_LIMIT, SCRIPT_LIMIT, are_for_run, ask_for_run, plain_of};
+pub use command::{
+    Command, LIST_LIMIT, REPORT_LIMIT, SCRIPT_LIMIT, are_for_run, ask_for_run, plain_of,
+};
 pub use faults::script_line;
 pub use reading::read_input;
 pub use status::ToolStatus;

@@ -3,39 +3,41 @@ ghost use Rattle.std.specs.Prelude.{◌≡◌, Some, List, IfOk};
 ghost use Rattle.io_ends.specs.Faults.{Rose};
 ghost use Rattle.rwatch.specs.Seen.{Seen};
 ghost use Rattle.ranswer.specs.Outputs.{audit_text};
-ghost use Rattle.ranswer.specs.Writing.{IsAnswer, IsWritten};
+ghost use Rattle.ranswer.specs.Answer.{ToolAnswer};
+ghost use Rattle.ranswer.specs.Writing.{IsWritten};
 ghost use Rattle.ranswer.specs.declared.command.Command.TheVariants.{Audit};
 
 use crate::expected::expected;
 use crate::refusing::refuse;
 use crate::told::Told;
-use io_ends::Sink;
+use io_ends::{Sink, Source};
 use itoa::Buffer;
-use ranswer::{ToolStatus, write_output};
-use rforms::TextErr;
-use rtrace::{Counting, count_events};
+use ranswer::{REPORT_LIMIT, ToolStatus, write_output};
+use rtrace::{AuditErr, Counting, count_stream};
 use std::alloc::{AllocError, Global};
 
-/// Checks a report, and writes how many events it has.
-pub fn audit<K: Sink>(
+/// Checks the report that a source has left, as it is read, and writes how many events it has.
+pub fn audit<S: Source, K: Sink>(
     alloc: Global,
-    bytes: &[u8],
+    source: &mut S,
     sink: &mut K,
     told: &mut Option<Told>,
 ) -> ToolStatus
-    ensures { (watchers : List Seen) → IsAnswer watchers (Some Audit) bytes.now (K.written sink.old) (K.written sink.new) (K.faults sink.new ≡ K.faults sink.old) (Rose (K.faults sink.old) (K.faults sink.new)) (sink.new ≡ sink.old) result }
+    ensures { (watchers : List Seen) → ToolAnswer S.left S.faults K.written K.faults watchers (Some Audit) source.old source.new sink.old sink.new result }
 {
     let mut counting = Counting::new(alloc);
-    match count_events(alloc, bytes, &mut counting) {
-        Ok(events) => tell(alloc, events, sink),
-        Err(TextErr::Bad(fault)) => {
+    match count_stream(alloc, source, REPORT_LIMIT, &mut counting) {
+        Ok(counts) => tell(alloc, counts.events, sink),
+        Err(AuditErr::Bad(fault)) => {
             *told = Some(Told::List {
                 fault,
                 expected: expected(alloc, &counting.reading, fault.code),
             });
             refuse(alloc, fault, sink)
         }
-        Err(TextErr::Memory) => ToolStatus::NoMemory,
+        Err(AuditErr::ReadFault) => ToolStatus::ReadFault,
+        Err(AuditErr::TooLong) => ToolStatus::TooLong,
+        Err(AuditErr::Memory) => ToolStatus::NoMemory,
     }
 }
 

@@ -13,7 +13,7 @@ mod running;
 mod told;
 mod tool;
 
-pub use ranswer::{LIST_LIMIT, ToolStatus};
+pub use ranswer::{LIST_LIMIT, REPORT_LIMIT, ToolStatus};
 pub use running::{run_tool, told_run};
 pub use told::Told;
 pub use tool::{plain_tool, told_tool};

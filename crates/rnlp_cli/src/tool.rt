@@ -1,8 +1,9 @@
 // The tools that wait for nobody.
-ghost use Rattle.std.specs.Prelude.{◌≡◌, Some, map, string_bytes};
+ghost use Rattle.std.specs.Prelude.{◌≡◌, false, Some, map, string_bytes};
 ghost use Rattle.io_ends.specs.Faults.{Rose};
 ghost use Rattle.ranswer.specs.Words.{plain_in, IsPlain};
 ghost use Rattle.ranswer.specs.Answer.{ToolAnswer};
+ghost use Rattle.ranswer.specs.Outputs.{is_streamed};
 ghost use Rattle.ranswer.specs.Writing.{IsAnswer};
 ghost use Rattle.ranswer.specs.Watched.{Watched};
 
@@ -49,13 +50,16 @@ pub fn told_tool<S: Source, K: Sink, A: Audience>(
     let Some(command) = plain_of(words) else {
         return ToolStatus::Words;
     };
+    if command.is_streamed() {
+        return audit(alloc, source, sink, told);
+    }
     match read_input(alloc, command, source) {
         Ok(bytes) => run_command(alloc, command, &bytes, sink, audience, told),
         Err(status) => status,
     }
 }
 
-// Answers a command for the input that was read.
+// Answers a command for its input, which was read whole.
 fn run_command<K: Sink, A: Audience>(
     alloc: Global,
     command: Command,
@@ -64,15 +68,15 @@ fn run_command<K: Sink, A: Audience>(
     audience: &mut A,
     told: &mut Option<Told>,
 ) -> ToolStatus
-    requires { IsPlain command }
+    requires plain { IsPlain command }
+    requires whole { is_streamed command ≡ false }
     ensures answer { IsAnswer (A.all audience.old) (Some command) bytes.now (K.written sink.old) (K.written sink.new) (K.faults sink.new ≡ K.faults sink.old) (Rose (K.faults sink.old) (K.faults sink.new)) (sink.new ≡ sink.old) result }
     ensures watched { Watched (Some command) (Some bytes.now) (K.written sink.old) (K.written sink.new) (A.all audience.old) (A.all audience.new) result }
 {
     match command {
         Command::Replay => replay(alloc, bytes, sink, audience, told),
-        Command::Audit => audit(alloc, bytes, sink, told),
         Command::Bound(cap) => bound(alloc, cap, bytes, sink, told),
         Command::Drill(count) => drill_tool(alloc, count, sink, audience),
-        Command::Run => unreachable!(),
+        Command::Run | Command::Audit => unreachable!(),
     }
 }

@@ -7,7 +7,7 @@ use io_ends::MemSink;
 use rreport::{Report, write_report};
 use rrun::{NoPace, run_script};
 use rscript::read_script;
-use rtrace::{Counting, count_events};
+use rtrace::audit_stream;
 use rvalue::Ledger;
 use std::alloc::{AllocError, Global};
 use std::sync::Wait;
@@ -102,7 +102,12 @@ fn audited(alloc: Global, report: &Report) -> Option<u64>
     if write_report(alloc, report, &mut sink).is_err() {
         return None;
     }
-    count_events(alloc, sink.written(), &mut Counting::new(alloc)).ok()
+    let Ok(bytes) = Vec::from_slice(alloc, sink.written()) else {
+        return None;
+    };
+    let mut source = MemSource::new(bytes, Vec::new(alloc));
+    let counts = audit_stream(alloc, &mut source, 1 << 20).ok()?;
+    Some(counts.events)
 }
 
 // A letter and a number of two digits.

@@ -1,12 +1,25 @@
-use Rattle.std.proofs.Common.{Some, Err, refl, ap}
-use Rattle.ranswer.specs.Outputs.{audit_text}
+use Rattle.std.proofs.Common.{List, ℕ, Some, Err, refl, ap}
+use Rattle.rforms.proofs.texts.Place.{err_is}
+use Rattle.ranswer.specs.Outputs.{audit_text, report_limit}
 use Rattle.ranswer.proofs.Outcomes.{told, written}
+use Rattle.ranswer.proofs.Streams.{stream_read, stream_within}
+use Rattle.ranswer.proofs.ToolAnswers.{answered, unread}
 use Rattle.ranswer.specs.declared.command.Command.TheVariants.{Audit}
+use Rattle.ranswer.specs.declared.status.ToolStatus.TheVariants as status
 use Rattle.rnlp_cli.proofs.auditing.audit.Goals as goal
+
+pub returns-in-Ok : goal.returns-in-Ok
+returns-in-Ok g c = λ watchers.
+    let found = c.in-Ok.ensures.right in
+    let within = c.in-Ok.ensures.within (λ e. cc) in
+    answered g.S.Source.left g.S.Source.faults g.K.Sink.written g.K.Sink.faults watchers (Some Audit) Audit c.args.source.now c.count_stream.new.source c.args.sink.now c.tell.new.sink found.0 c.tell.result refl
+    (stream_read g.S.Source.left g.S.Source.faults c.args.source.now c.count_stream.new.source found.0 found.1 within (c.in-Ok.ensures.quiet (λ e. cc)))
+    (written watchers (Some Audit) found.0 _ _ _ _ _ _ c.tell.result (found.2.report, found.2.spelled, ap audit_text found.2.events) c.tell.ensures)
 
 pub returns-in-Err-Bad : goal.returns-in-Err-Bad
 returns-in-Err-Bad g c = λ watchers.
-    told watchers (Some Audit) c.args.bytes.now _ _ _ _ _ _ _ c.refuse.result refl (c.in-Err-Bad.fault, c.in-Err-Bad.ensures.bad c.in-Err-Bad.fault (ap Err c.in-Err-Bad.field-0-is), refl) c.refuse.ensures
-
-pub returns-in-Ok : goal.returns-in-Ok
-returns-in-Ok g c = λ watchers. let found = c.in-Ok.ensures.right in written watchers (Some Audit) c.args.bytes.now _ _ _ _ _ _ c.tell.result (found.0, found.1, ap audit_text found.2) c.tell.ensures
+    let fault = c.in-Err-Bad.fault in
+    let found = c.in-Err-Bad.ensures.bad fault (ap Err c.in-Err-Bad.field-0-is) in
+    answered g.S.Source.left g.S.Source.faults g.K.Sink.written g.K.Sink.faults watchers (Some Audit) Audit c.args.source.now c.count_stream.new.source c.args.sink.now c.refuse.new.sink found.0 c.refuse.result refl
+    (stream_read g.S.Source.left g.S.Source.faults c.args.source.now c.count_stream.new.source found.0 found.1 (c.in-Err-Bad.ensures.within (λ e. cc)) (c.in-Err-Bad.ensures.quiet (λ e. cc)))
+    (told watchers (Some Audit) found.0 _ _ _ _ _ _ _ c.refuse.result refl (fault, found.2, refl) c.refuse.ensures)

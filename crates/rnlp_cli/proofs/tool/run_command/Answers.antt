@@ -10,12 +10,6 @@ returns-in-Replay-clause-answer g c = rw c.in-Replay.is c.replay.ensures.answer
 pub returns-in-Replay-clause-watched : goal.returns-in-Replay-clause-watched
 returns-in-Replay-clause-watched g c = rw c.in-Replay.is c.replay.ensures.watched
 
-pub returns-in-Audit-clause-answer : goal.returns-in-Audit-clause-answer
-returns-in-Audit-clause-answer g c = rw c.in-Audit.is (c.audit.ensures (g.A.Audience.all c.args.audience.now))
-
-pub returns-in-Audit-clause-watched : goal.returns-in-Audit-clause-watched
-returns-in-Audit-clause-watched g c = rw c.in-Audit.is refl
-
 pub returns-in-Bound-clause-answer : goal.returns-in-Bound-clause-answer
 returns-in-Bound-clause-answer g c = rw c.in-Bound.is (c.bound.ensures (g.A.Audience.all c.args.audience.now))
 
