@@ -1,5 +1,7 @@
-// Tests of `rcover`: covers that were worked by hand.
-ghost use Rattle.std.specs.Prelude.{OnOk, IfOk};
+// Tests of `rcover` and `rwaits`: covers that were worked by hand.
+ghost use Rattle.std.specs.Prelude.{◌≡◌, OnOk, IfOk};
+ghost use Rattle.rset.specs.declared.TheConstants.{RESOURCES};
+ghost use Rattle.rmodel.specs.State.{opening};
 ghost use Rattle.rmodel.specs.Steps.{Fits};
 ghost use Rattle.tests_of_rules.specs.Stories.{IsStory};
 
@@ -10,13 +12,16 @@ use rexpand::Groups;
 use rmodel::{Machine, admit};
 use rplain::Plain;
 use rset::{RESOURCES, ResourceSet};
+use rwaits::{Covers, Following};
 use std::alloc::Global;
 use std::test::Fail;
 
-// A machine, and the events that it took.
+// A machine, and the events that it took, which were followed beside it and told to covers.
 #[derive(Drop)]
 pub struct Story {
     machine: Plain,
+    following: Following,
+    covers: Covers,
     events: Vec<Event>,
     groups: Groups,
     seats: u8,
@@ -44,9 +49,28 @@ struct Turn {
     second: Option<WaitEnd>,
 }
 
+// A story with no event, over a machine that took none.
+fn tell(alloc: Global, machine: Plain, groups: Groups) -> Result<Story, Fail>
+    requires resources { groups.q ≡ RESOURCES }
+    requires placed { machine.state.groups.q ≡ RESOURCES }
+    requires state { machine.state ≡ opening groups 4 4 }
+    ensures { IfOk result (λ story. IsStory story.groups story.seats story.events.items story.machine.state story.following story.covers) }
+{
+    let covers = Covers::new(alloc, groups.copy(alloc)?, 4, 4)?;
+    let following = Following::new(alloc)?;
+    Ok(Story {
+        machine,
+        following,
+        covers,
+        events: Vec::new(alloc),
+        groups,
+        seats: 4,
+    })
+}
+
 // A story of four seats with no event, in which the resources 0 and 1 are declared together, and 1 and 2.
 fn begin(alloc: Global) -> Result<Story, Fail>
-    ensures { IfOk result (λ story. IsStory story.groups story.seats story.events.items story.machine.state) }
+    ensures { IfOk result (λ story. IsStory story.groups story.seats story.events.items story.machine.state story.following story.covers) }
 {
     let mut groups = Groups::new(alloc, RESOURCES as u8)?;
     let (first, second) = (set(&[0, 1]), set(&[1, 2]));
@@ -54,12 +78,7 @@ fn begin(alloc: Global) -> Result<Story, Fail>
     groups.declare(first)?;
     groups.declare(second)?;
     let machine = Plain::new(alloc, groups.copy(alloc)?, 4, 4)?;
-    Ok(Story {
-        machine,
-        events: Vec::new(alloc),
-        groups,
-        seats: 4,
-    })
+    tell(alloc, machine, groups)
 }
 
 // The set of these resources.
@@ -75,11 +94,15 @@ fn set(members: &[u8]) -> ResourceSet {
 
 // One more event.
 fn step(story: &mut Story, event: &Event) -> Result<(), Fail>
-    requires story { IsStory story.old.groups story.old.seats story.old.events.items story.old.machine.state }
+    requires story { IsStory story.old.groups story.old.seats story.old.events.items story.old.machine.state story.old.following story.old.covers }
     requires fits { Fits story.old.machine.state event.now }
-    ensures { OnOk result (IsStory story.new.groups story.new.seats story.new.events.items story.new.machine.state) }
+    ensures { OnOk result (IsStory story.new.groups story.new.seats story.new.events.items story.new.machine.state story.new.following story.new.covers) }
 {
-    story.machine.step(*event)?;
+    if story.events.len() > 9 {
+        return Err(Fail::from("there are too many events"));
+    }
+    story.following.step(&mut story.machine, event)?;
+    story.covers.told(event);
     story.events.push(*event)?;
     Ok(())
 }
@@ -93,8 +116,8 @@ fn issue(
     writes: ResourceSet,
     lengths: (u32, u32),
 ) -> Result<(), Fail>
-    requires { IsStory story.old.groups story.old.seats story.old.events.items story.old.machine.state }
-    ensures { OnOk result (IsStory story.new.groups story.new.seats story.new.events.items story.new.machine.state) }
+    requires { IsStory story.old.groups story.old.seats story.old.events.items story.old.machine.state story.old.following story.old.covers }
+    ensures { OnOk result (IsStory story.new.groups story.new.seats story.new.events.items story.new.machine.state story.new.following story.new.covers) }
 {
     let (len, later) = lengths;
     if len > 9 || later > 9 {
@@ -111,8 +134,8 @@ fn issue(
 
 // A seat makes a move.
 fn make(story: &mut Story, seat: u8, makes: Move) -> Result<(), Fail>
-    requires { IsStory story.old.groups story.old.seats story.old.events.items story.old.machine.state }
-    ensures { OnOk result (IsStory story.new.groups story.new.seats story.new.events.items story.new.machine.state) }
+    requires { IsStory story.old.groups story.old.seats story.old.events.items story.old.machine.state story.old.following story.old.covers }
+    ensures { OnOk result (IsStory story.new.groups story.new.seats story.new.events.items story.new.machine.state story.new.following story.new.covers) }
 {
     if seat >= story.machine.seats() {
         return Err(Fail::from("the seat is out of range"));
@@ -129,8 +152,8 @@ fn make(story: &mut Story, seat: u8, makes: Move) -> Result<(), Fail>
 
 // A nested request asks for a part.
 fn ask(story: &mut Story, seat: u8, set: ResourceSet) -> Result<(), Fail>
-    requires { IsStory story.old.groups story.old.seats story.old.events.items story.old.machine.state }
-    ensures { OnOk result (IsStory story.new.groups story.new.seats story.new.events.items story.new.machine.state) }
+    requires { IsStory story.old.groups story.old.seats story.old.events.items story.old.machine.state story.old.following story.old.covers }
+    ensures { OnOk result (IsStory story.new.groups story.new.seats story.new.events.items story.new.machine.state story.new.following story.new.covers) }
 {
     let _ = set.len();
     if seat >= story.machine.seats() {
@@ -148,9 +171,9 @@ fn are_just(found: &[WaitEnd], turn: &Turn) -> bool {
     }
 }
 
-// Whether the last event ended just the waits that a turn has to end.
+// Whether the last event ended just the waits that a turn has to end, by all who tell of them.
 fn is_right(alloc: Global, story: &Story, turn: &Turn) -> Result<bool, Fail>
-    requires { IsStory story.now.groups story.now.seats story.now.events.items story.now.machine.state }
+    requires { IsStory story.now.groups story.now.seats story.now.events.items story.now.machine.state story.now.following story.now.covers }
 {
     let found = plain_cover(
         alloc,
@@ -159,12 +182,14 @@ fn is_right(alloc: Global, story: &Story, turn: &Turn) -> Result<bool, Fail>
         story.seats,
         &story.events,
     )?;
-    Ok(are_just(&found, turn))
+    let followed = are_just(story.following.ended(), turn);
+    let told = are_just(story.covers.ended(), turn);
+    Ok(are_just(&found, turn) && followed && told)
 }
 
 // Plays the turns, and tells whether each ended just the waits that it has to end.
 fn play(alloc: Global, story: &mut Story, turns: &[Turn]) -> Result<bool, Fail>
-    requires { IsStory story.old.groups story.old.seats story.old.events.items story.old.machine.state }
+    requires { IsStory story.old.groups story.old.seats story.old.events.items story.old.machine.state story.old.following story.old.covers }
 {
     for turn in turns {
         make(story, turn.seat, turn.makes)?;

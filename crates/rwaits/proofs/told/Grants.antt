@@ -1,9 +1,9 @@
 -- A wait that an event ends is told by a grant, unless an ask ends with it.
-use Rattle.std.proofs.Common.{◌≡◌, ◌≢◌, ◌==◌, nat_lt, Bool, true, false, not, ◌&&◌, cond, Option, Some, None, List, [], ◌∷◌, find, refl, sym, ap, subst, ◌∙◌, inl, inr}
+use Rattle.std.proofs.Common.{◌≡◌, ◌≢◌, ◌==◌, Bool, true, false, not, ◌&&◌, cond, Option, Some, None, List, [], ◌∷◌, find, refl, sym, ap, subst, ◌∙◌, inl, inr}
 use Rattle.std.proofs.lemmas.Bool.{and_parts, and_from, eq-eqb, eqb-true}
 use Rattle.std.specs.List.{filter_map, cons_option}
 use Rattle.std.specs.Option.{unwrap_or}
-use Rattle.std.specs.FinSet.{empty, len}
+use Rattle.std.specs.FinSet.{empty}
 use Rattle.rclaim.specs.Events.{seat_of}
 use Rattle.rclaim.specs.declared.changes.GrantChange.{GrantChange}
 use Rattle.rclaim.specs.Codes.{number_of}

@@ -1,5 +1,5 @@
 -- Where no seat waits an event ends no wait; and which seats wait behind it.
-use Rattle.std.proofs.Common.{◌≡◌, ◌≢◌, ℕ, ◌==◌, nat_lt, Bool, true, false, not, ◌&&◌, ◌||◌, cond, Option, Some, None, List, [], ◌∷◌, ◌++◌, map, refl, sym, ap, subst, ◌∙◌, inl, inr}
+use Rattle.std.proofs.Common.{◌≡◌, ◌≢◌, ℕ, ◌==◌, nat_lt, Bool, true, false, not, ◌&&◌, ◌||◌, cond, Option, Some, None, List, [], ◌∷◌, map, refl, sym, ap, subst, ◌∙◌, inl, inr}
 use Rattle.std.proofs.lemmas.Bool.{and_parts, and_from, eq-eqb, eqb-true}
 use Rattle.std.specs.List.{filter_map, cons_option, list_any, AllByRecursion}
 use Rattle.std.specs.FinSet.{contains, empty, insert, is_subset, len, len-empty, remove, union}
@@ -28,16 +28,15 @@ use Rattle.rmodel.proofs.settling.OneSettlement.{both_cases}
 use Rattle.rmodel.proofs.settling.Settlement.{settles_settled}
 use Rattle.rbound.specs.declared.which.Which.{Which}
 use Rattle.rbound.specs.declared.which.Which.TheVariants.{First, Rise, Ask}
-use Rattle.rcover.specs.Ended.{wait_of, wait_end, waits_in}
+use Rattle.rcover.specs.Ended.{wait_of, waits_in}
 use Rattle.rcover.specs.History.{length_in}
 use Rattle.rcover.specs.Moments.{Moment, is_claim}
 use Rattle.rcover.specs.Sections.{Sections}
-use Rattle.rcover.specs.Told.{waits_first, waits_to_rise, waits_for_ask, stands}
-use Rattle.rcover.specs.Within.{numbers_of}
+use Rattle.rcover.specs.Told.{waits_first, waits_to_rise, stands}
 use Rattle.rcover.proofs.told.Few.{waits_told}
 use Rattle.rwaits.specs.Follow.{may_wait, kept_of, with_entry}
 use Rattle.rwaits.specs.Past.{is_issue, rises_at}
-use Rattle.rwaits.specs.Tracked.{gone_on, no_sections, shown, told, told_if}
+use Rattle.rwaits.specs.Tracked.{gone_on, no_sections, told, told_if}
 use Rattle.rwaits.specs.Waiting.{some_wait, HoldWaiting, with_seat, HoldRising, with_risen, risen_by, ends_none}
 use Rattle.rwaits.proofs.told.Quiet.{begun_kept, begun_told, old_rises, old_waits}
 use Rattle.rwaits.proofs.told.Stood.{before, first_was, rise_was}

@@ -1,4 +1,4 @@
-use Rattle.std.proofs.Common.{◌≡◌, Bool, true, false, ◌||◌, cond, sym, ap, subst, ◌∙◌}
+use Rattle.std.proofs.Common.{◌≡◌, false, ◌||◌, cond, sym, ap, subst, ◌∙◌}
 use Rattle.rset.specs.declared.TheConstants.{SEATS}
 use Rattle.rwaits.specs.Follow.{table_of}
 use Rattle.rcover.specs.Told.{waits_first, waits_to_rise}

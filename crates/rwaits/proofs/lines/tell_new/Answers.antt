@@ -1,4 +1,4 @@
-use Rattle.std.proofs.Common.{◌≡◌, ℕ, ◌≤◌, ◌+◌, ◌++◌, length, length-append, ◌-◌, refl, ◌∙◌, take, drop, sym, ap, subst, arith}
+use Rattle.std.proofs.Common.{◌≡◌, ℕ, ◌++◌, length, length-append, ◌-◌, ◌∙◌, take, drop, sym, ap, subst, arith}
 use Rattle.std.proofs.lemmas.List.{length-drop, take-append-drop, take_all}
 use Rattle.rmodel.specs.WellFormed.{EachPair, Rises, Distinct}
 use Rattle.rcover.specs.Moments.{Moment}

@@ -1,4 +1,4 @@
-use Rattle.std.proofs.Common.{◌≡◌, true, sym, ap, subst, ◌∙◌}
+use Rattle.std.proofs.Common.{◌≡◌, true, sym, ap, subst}
 use Rattle.std.specs.Option.{IfSome}
 use Rattle.rcover.specs.Sections.{Sections}
 use Rattle.rwaits.specs.Follow.{claims_of}

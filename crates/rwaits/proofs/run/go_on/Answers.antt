@@ -1,5 +1,4 @@
 use Rattle.std.proofs.Common.{◌≡◌, ◌≤◌, ℕ, length, subst, Bool, true, cond, sym, ap, ◌∙◌}
-use Rattle.std.specs.Option.{IfSome}
 use Rattle.rwaits.specs.Follow.{claims_of, kept_in, length_by}
 use Rattle.rcover.specs.Sections.{Sections}
 use Rattle.rcover.specs.Line.{least_of}
@@ -7,7 +6,7 @@ use Rattle.rwaits.specs.Shown.{write_closed}
 use Rattle.rwaits.specs.Tracked.{keeper_at, read_closed_if, gone_on}
 use Rattle.rcover.specs.Moments.{holds_at}
 use Rattle.rwaits.specs.declared.lines.Head.{Head}
-use Rattle.rwaits.proofs.lists.Kept.{least_has, keeper_write}
+use Rattle.rwaits.proofs.lists.Kept.{least_has}
 use Rattle.rwaits.proofs.run.go_on.Goals as goal
 
 pub returns-then-not-c-clause-lengths : goal.returns-then-not-c-clause-lengths

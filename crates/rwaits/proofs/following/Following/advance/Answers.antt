@@ -1,11 +1,11 @@
-use Rattle.std.proofs.Common.{◌≡◌, ℕ, ◌≤◌, ◌<◌, true, List, ◌∷◌, ◌++◌, length, sym, ap, subst, ◌∙◌, arith}
+use Rattle.std.proofs.Common.{◌≡◌, ℕ, ◌<◌, true, List, ◌∷◌, ◌++◌, length, sym, ap, subst, ◌∙◌, arith}
 use Rattle.std.specs.List.{AllByRecursion}
 use Rattle.std.specs.Prelude.{slice_index}
 use Rattle.rset.specs.declared.TheConstants.{SEATS}
 use Rattle.rclaim.specs.Events.{seat_of}
 use Rattle.rmodel.specs.State.{LockState}
 use Rattle.rmodel.specs.Steps.{next}
-use Rattle.rmodel.specs.WellFormed.{EachPair, Rises, Distinct}
+use Rattle.rmodel.specs.WellFormed.{EachPair, Rises}
 use Rattle.rbound.specs.declared.which.Which.{Which}
 use Rattle.rcover.specs.Ended.{waits_in}
 use Rattle.rcover.specs.History.{asks_since, length_in}
@@ -24,7 +24,7 @@ use Rattle.rwaits.specs.Past.{state_of, StoodBy}
 use Rattle.rwaits.specs.Quiet.{GoesOn, NoWriteComes, tells_write}
 use Rattle.rwaits.proofs.told.Grants.{no_write_comes}
 use Rattle.rwaits.specs.Tracked.{shown, told}
-use Rattle.rwaits.proofs.told.Knowing.{reached, claims_few, seats_now, shown_few, asks_now, lengths_now, long_now, event_seat, seats_next, apart_next, few_next, lengths_stay_on, lengths_come, refilled, is_moment_now, is_moment_next, known, seats_at, rising_now, one_each_now, seats_next_at, seats_both, claims_few_next, rising_next, one_each_next, heads_tell, stood_next, quiet_now}
+use Rattle.rwaits.proofs.told.Knowing.{reached, seats_now, shown_few, asks_now, lengths_now, long_now, event_seat, seats_next, apart_next, few_next, lengths_stay_on, lengths_come, refilled, is_moment_now, is_moment_next, known, rising_now, seats_both, rising_next, heads_tell, stood_next, quiet_now}
 use Rattle.rwaits.proofs.told.Noted.{asks_at_most}
 use Rattle.rset.specs.Sets.{Set}
 use Rattle.rwaits.specs.Heads.{IsMoment, TellsNow}
