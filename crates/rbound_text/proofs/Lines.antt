@@ -46,7 +46,7 @@ row_more row first n =
     ∙ ap (λ text. first ++ text)
     (ap (λ us. text_of (map row (range_with_len 0 n)) ++ us) (sym (text_one (row n)))
     ∙ sym (text_append (map row (range_with_len 0 n)) (row n ∷ []))
-    ∙ ap text_of (sym (map-range_with_len_more row 0 n n (omega arith))))
+    ∙ ap text_of (sym (map-range_with_len_more (λ k. row k) 0 n n (omega arith))))
 
 -- a line that was put piece by piece
 pub line_put : (t₀ t₁ t₂ t₃ t₄ t₅ t₆ t₇ t₈ a b c d e f g : List ℕ) → t₁ ≡ t₀ ++ a → t₂ ≡ t₁ ++ b → t₃ ≡ t₂ ++ c → t₄ ≡ t₃ ++ d → t₅ ≡ t₄ ++ e → t₆ ≡ t₅ ++ f → t₇ ≡ t₆ ++ g → t₈ ≡ t₇ ++ 10 ∷ []
