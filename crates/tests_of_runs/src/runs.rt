@@ -3,7 +3,7 @@ ghost use Rattle.std.specs.Prelude.{IfSome};
 ghost use Rattle.rforms.specs.Written.{MayBeWritten};
 ghost use Rattle.rreport.specs.Report.{told_by, IsOverResources, HasItsLedgers};
 
-use io_ends::MemSink;
+use io_ends::{MemSink, MemSource};
 use rreport::{Report, write_report};
 use rrun::{NoPace, run_script};
 use rscript::read_script;

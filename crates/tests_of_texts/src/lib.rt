@@ -16,4 +16,6 @@ mod runs;
 #[cfg(test)]
 mod scripts;
 #[cfg(test)]
+mod streams;
+#[cfg(test)]
 mod words;

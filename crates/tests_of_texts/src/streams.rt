@@ -1,0 +1,82 @@
+// Audits of reports that come little by little.
+use crate::runs::SMALLEST_REPORT;
+use io_ends::{MemSink, MemSource};
+use rnlp_cli::{ToolStatus, plain_tool};
+use rtrace::{AuditErr, audit_stream};
+use rwatch::Watchers;
+use std::alloc::Global;
+use std::test::Fail;
+
+// The report of a write section that adds 5 to a resource, finds 9 too many to take, and shows what is left.
+const SECTION: &[u8] =
+    b"rnlp,1\nresource,a\ntask,t1\ncap,1\nissue,t1,write,a,1\nnow,t1,write,satisfied\ngrant,t1,a\nfinish,t1\nadd,a,5,yes\ntake,a,9,no\nshow,a,5\nledger,a,5,1\nend\n";
+
+// The same, which shows 6.
+const WRONG: &[u8] =
+    b"rnlp,1\nresource,a\ntask,t1\ncap,1\nissue,t1,write,a,1\nnow,t1,write,satisfied\ngrant,t1,a\nfinish,t1\nadd,a,5,yes\ntake,a,9,no\nshow,a,6\nledger,a,5,1\nend\n";
+
+// The same, with its fields in quotes, and a line end of two bytes.
+const QUOTED: &[u8] =
+    b"\"rnlp\",1\r\nresource,a\r\ntask,\"t1\"\r\ncap,1\r\nledger,a,0,0\r\nend\r\n";
+
+// Whether an audit of a report that comes one byte a read, of which reads with these numbers fail, ends with this status,
+// and writes this two bytes a write.
+fn audits(
+    alloc: Global,
+    report: &[u8],
+    reads: &[u64],
+    status: ToolStatus,
+    output: &[u8],
+) -> Result<bool, Fail> {
+    let mut words = Vec::new(alloc);
+    words.push(String::from_str(alloc, "audit")?)?;
+    let mut source = MemSource::short(report.to_vec(alloc)?, reads.to_vec(alloc)?, 1);
+    let mut sink = MemSink::short(alloc, 100, Vec::new(alloc), 2)?;
+    let mut nobody = Watchers::new(Vec::new(alloc));
+    let answer = plain_tool(alloc, &words, &mut source, &mut sink, &mut nobody);
+    Ok(answer == status && sink.written() == output)
+}
+
+// What an audit of a report of at most so many bytes answers: its events and waits, or its error.
+fn counts(alloc: Global, report: &[u8], limit: u64) -> Result<Result<(u64, u64), AuditErr>, Fail> {
+    let mut source = MemSource::new(report.to_vec(alloc)?, Vec::new(alloc));
+    Ok(match audit_stream(alloc, &mut source, limit) {
+        Ok(counts) => Ok((counts.events, counts.waits)),
+        Err(e) => Err(e),
+    })
+}
+
+#[test]
+fn a_report_may_come_byte_by_byte(rt: HostRuntime) -> Result<(), Fail> {
+    let alloc = rt.alloc();
+    let all = audits(alloc, SECTION, &[], ToolStatus::Done, b"audit,2,0\nend\n")?
+        && audits(alloc, WRONG, &[], ToolStatus::Trace, b"error,11,6\n")?
+        && audits(alloc, QUOTED, &[], ToolStatus::Done, b"audit,0,0\nend\n")?
+        && audits(
+            alloc,
+            SMALLEST_REPORT,
+            &[],
+            ToolStatus::Done,
+            b"audit,0,0\nend\n",
+        )?;
+    assert!(rt; all);
+    Ok(())
+}
+
+#[test]
+fn a_read_that_fails_behind_a_fault_is_told(rt: HostRuntime) -> Result<(), Fail> {
+    let behind = WRONG.len() as u64 + 1;
+    let told = audits(rt.alloc(), WRONG, &[behind], ToolStatus::ReadFault, b"")?;
+    assert!(rt; told);
+    Ok(())
+}
+
+#[test]
+fn a_report_may_be_as_long_as_the_limit(rt: HostRuntime) -> Result<(), Fail> {
+    let alloc = rt.alloc();
+    let len = SECTION.len() as u64;
+    let right = counts(alloc, SECTION, len)? == Ok((2, 0))
+        && counts(alloc, SECTION, len - 1)? == Err(AuditErr::TooLong);
+    assert!(rt; right);
+    Ok(())
+}
