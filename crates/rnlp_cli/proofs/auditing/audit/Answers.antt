@@ -23,3 +23,9 @@ returns-in-Err-Bad g c = λ watchers.
     answered g.S.Source.left g.S.Source.faults g.K.Sink.written g.K.Sink.faults watchers (Some Audit) Audit c.args.source.now c.count_stream.new.source c.args.sink.now c.refuse.new.sink found.0 c.refuse.result refl
     (stream_read g.S.Source.left g.S.Source.faults c.args.source.now c.count_stream.new.source found.0 found.1 (c.in-Err-Bad.ensures.within (λ e. cc)) (c.in-Err-Bad.ensures.quiet (λ e. cc)))
     (told watchers (Some Audit) found.0 _ _ _ _ _ _ _ c.refuse.result refl (fault, found.2, refl) c.refuse.ensures)
+
+pub returns-in-Err-TooLong : goal.returns-in-Err-TooLong
+returns-in-Err-TooLong g c = λ watchers.
+    let is = c.in-Err-TooLong.field-0-is in
+    unread g.S.Source.left g.S.Source.faults g.K.Sink.written g.K.Sink.faults watchers (Some Audit) Audit c.args.source.now c.count_stream.new.source c.args.sink.now status.TooLong refl
+    (report_limit, refl, c.in-Err-TooLong.ensures.too_long (ap Err is), c.in-Err-TooLong.ensures.quiet (λ e. cc))

@@ -1,7 +1,10 @@
-use Rattle.std.proofs.Common.{Some, sym, ◌∙◌, subst}
+use Rattle.std.proofs.Common.{Option, Some, sym, ap, ◌∙◌, subst}
 use Rattle.ranswer.proofs.ToolAnswers.{answered, unread}
 use Rattle.ranswer.proofs.Watches.{unread_watched, watched_left}
+use Rattle.ranswer.specs.Answer.{ToolAnswer}
 use Rattle.ranswer.specs.Watched.{Watched}
+use Rattle.ranswer.specs.declared.command.Command.{Command}
+use Rattle.ranswer.proofs.Streams.{streamed_is}
 use Rattle.rnlp_cli.proofs.tool.told_tool.Goals as goal
 
 pub returns-in-Ok-clause-answer : goal.returns-in-Ok-clause-answer
@@ -20,3 +23,10 @@ returns-in-Err-clause-answer g c = unread _ _ _ _ (g.A.Audience.all c.args.audie
 
 pub returns-in-Err-clause-watched : goal.returns-in-Err-clause-watched
 returns-in-Err-clause-watched g c = unread_watched g.S.Source.left g.S.Source.faults (Some c.in-Some.command) _ _ _ _ _ _ _ c.in-Err.status c.in-Err.ensures.not_read
+
+pub returns-then-is_streamed-clause-answer : goal.returns-then-is_streamed-clause-answer
+returns-then-is_streamed-clause-answer g c =
+    let command = streamed_is c.in-Some.command (sym c.is_streamed.ensures ∙ c.if-is_streamed.true) in
+    let asked = (sym c.plain_of.ensures.asked ∙ c.in-Some.is) ∙ ap Some command in
+    subst (λ (o : Option Command). ToolAnswer g.S.Source.left g.S.Source.faults g.K.Sink.written g.K.Sink.faults (g.A.Audience.all c.args.audience.now) o c.args.source.now c.audit.new.source c.args.sink.now c.audit.new.sink c.audit.result)
+    (sym asked) (c.audit.ensures (g.A.Audience.all c.args.audience.now))
