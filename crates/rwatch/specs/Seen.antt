@@ -1,5 +1,5 @@
 -- What contracts see of a watcher, and what it becomes by what it is told.
-use Rattle.std.specs.Prelude.{ℕ, ◌-◌, Bool, nat_lt, List, [], ◌∷◌, ◌++◌, map, fold, Option, Some, None, slice_get, slice_index_or, if◌then◌else◌}
+use Rattle.std.specs.Prelude.{ℕ, ◌-◌, nat_lt, List, [], ◌∷◌, ◌++◌, fold, Option, Some, None, slice_get, slice_index_or, if◌then◌else◌}
 use Rattle.rclaim.specs.Changes.{ChangeLists}
 use Rattle.rclaim.specs.declared.event.Event.{Event}
 use Rattle.rwatch.specs.Weights.{count_after}

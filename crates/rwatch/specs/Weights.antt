@@ -27,6 +27,23 @@ abbrev pub asks : Event → ℕ
 asks (Ask seat part) = 1
 asks _ = 0
 
+-- whether a watcher counts events, and else changes
+abbrev pub is_of_events : WatchKind → Bool
+is_of_events kinds.Issues = true
+is_of_events kinds.Finishes = true
+is_of_events kinds.Rises = true
+is_of_events kinds.Asks = true
+is_of_events kinds.Entitled = false
+is_of_events kinds.Satisfied = false
+is_of_events kinds.Grants = false
+
+-- what counts an event
+abbrev pub kind_of : Event → WatchKind
+kind_of (Issue seat request) = kinds.Issues
+kind_of (Finish seat) = kinds.Finishes
+kind_of (Rise seat) = kinds.Rises
+kind_of (Ask seat part) = kinds.Asks
+
 -- whether a status is satisfied, or entitled where that is asked for
 abbrev pub is_status_of : Bool → Status → Bool
 is_status_of true status.Satisfied = true

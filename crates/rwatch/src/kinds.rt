@@ -1,7 +1,7 @@
 // What watchers count.
 ghost use Rattle.std.specs.Prelude.{◌≡◌};
 ghost use Rattle.std.specs.List.{count_by};
-ghost use Rattle.rwatch.specs.Weights.{weight, is_status, count_after};
+ghost use Rattle.rwatch.specs.Weights.{weight, is_of_events, kind_of, is_status, count_after};
 
 use rclaim::{Changes, Event, Status, StatusChange};
 
@@ -29,15 +29,24 @@ impl WatchKind {
     pub fn weight(self, event: &Event, changes: &Changes) -> u64
         ensures { result ≡ weight self event.now changes.now }
     {
+        if self.is_of_events() {
+            return u64::from(self == kind_of(event));
+        }
         match self {
-            WatchKind::Issues => u64::from(matches!(event, Event::Issue { .. })),
-            WatchKind::Finishes => u64::from(matches!(event, Event::Finish { .. })),
-            WatchKind::Rises => u64::from(matches!(event, Event::Rise { .. })),
-            WatchKind::Asks => u64::from(matches!(event, Event::Ask { .. })),
             WatchKind::Entitled => count_of(&changes.statuses, false),
             WatchKind::Satisfied => count_of(&changes.statuses, true),
-            WatchKind::Grants => changes.grants.len() as u64,
+            _ => changes.grants.len() as u64,
         }
+    }
+
+    // Whether it counts events, and else changes.
+    fn is_of_events(self) -> bool
+        ensures { result ≡ is_of_events self }
+    {
+        matches!(
+            self,
+            WatchKind::Issues | WatchKind::Finishes | WatchKind::Rises | WatchKind::Asks
+        )
     }
 
     /// The count after a step of this kind's weight; it ends at the greatest value.
@@ -45,6 +54,18 @@ impl WatchKind {
         ensures { result ≡ count_after self count event.now changes.now }
     {
         count.saturating_add(self.weight(event, changes))
+    }
+}
+
+// What counts this event.
+fn kind_of(event: &Event) -> WatchKind
+    ensures { result ≡ kind_of event.now }
+{
+    match event {
+        Event::Issue { .. } => WatchKind::Issues,
+        Event::Finish { .. } => WatchKind::Finishes,
+        Event::Rise { .. } => WatchKind::Rises,
+        Event::Ask { .. } => WatchKind::Asks,
     }
 }
 

@@ -71,14 +71,8 @@ fn tell_each(list: &mut [Box<dyn Watcher + Send>], event: &Event, changes: &Chan
     ensures { map seen list.new ≡ map (told event.now changes.now) (map seen list.old) }
 {
     for watcher in list.iter_mut() {
-        tell_one(watcher, event, changes);
+        watcher.told(event, changes);
     }
-}
-
-fn tell_one(watcher: &mut Box<dyn Watcher + Send>, event: &Event, changes: &Changes)
-    ensures { seen watcher.new ≡ told event.now changes.now (seen watcher.old) }
-{
-    watcher.told(event, changes);
 }
 
 fn kind_in(watcher: &Box<dyn Watcher + Send>) -> WatchKind

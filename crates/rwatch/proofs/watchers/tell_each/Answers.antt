@@ -9,8 +9,8 @@ loop-watcher-init g c = (refl, refl)
 pub loop-watcher-preserved : goal.loop-watcher-preserved
 loop-watcher-preserved g c =
     told_more (λ b. (goal.Watcher-dyn g (b.vtable, b.value)).seen b.value) (told c.args.event.now c.args.changes.now) c.args.list.now c.loop-watcher.list c.loop-watcher.watcher-index c.watcher-item.result
-    c.tell_one.new.watcher (subst (λ n. c.loop-watcher.watcher-index < n) (sym c.loop-watcher.auto.list) c.loop-watcher-test.true) c.loop-watcher.invariant
-    c.tell_one.ensures
+    _ (subst (λ n. c.loop-watcher.watcher-index < n) (sym c.loop-watcher.auto.list) c.loop-watcher-test.true) c.loop-watcher.invariant
+    (c.told.ensures ∙ ap (λ z. told c.args.event.now c.args.changes.now ((goal.Watcher-dyn g z).seen z.1)) c.deref_box_mut-1.ensures.value.1)
 
 pub returns : goal.returns
 returns g c =
