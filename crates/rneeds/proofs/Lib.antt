@@ -1,0 +1,10 @@
+pub mod Places
+pub mod OneMore
+pub mod Following
+pub mod Asks
+pub mod KnownClaims
+pub mod HistoryShapes
+pub mod Later
+pub mod WaitKeys
+pub mod Told
+pub mod PlacesFound
