@@ -4,11 +4,14 @@
 //! is as likely to act next as any other; where it holds something it finishes, or rises or asks if it can.
 //! `lists NAME N replay` reads such a list, and writes its report: the same work as `rnlp replay`, with nothing proved.
 //! `lists drill N drill` draws a drill of N events, and writes its summary, as `rnlp drill N` does.
+mod waits;
+
 use std::collections::HashMap;
 use std::env;
 use std::io::{BufWriter, Read, Result, Write, stdin, stdout};
+use waits::History;
 
-#[derive(Clone, Copy, PartialEq)]
+#[derive(Clone, Copy, PartialEq, Eq, Hash)]
 enum Kind {
     Read,
     Write,
@@ -319,21 +322,20 @@ fn write_tail(out: &mut impl Write, shape: &Shape, report: bool) -> Result<()> {
     writeln!(out, "end")
 }
 
-fn take(lock: &mut Lock, out: &mut impl Write, event: Event, report: bool) -> Result<()> {
-    let before = lock.claims.clone();
-    lock.step(event);
-    write_event(out, event)?;
-    if report { write_changes(out, &before, &lock.claims) } else { Ok(()) }
-}
-
 fn generate(mut lock: Lock, out: &mut impl Write, count: usize, report: bool) -> Result<()> {
-    let (mut dice, tasks) = (Dice(88172645463325252), lock.shape.tasks);
+    let (mut dice, tasks, mut history) = (Dice(88172645463325252), lock.shape.tasks, History::default());
     write_head(out, &lock.shape, report)?;
     for _ in 0..count {
         let start = dice.below(tasks);
         let event = (0..tasks).find_map(|d| lock.choose((start + d) % tasks, &mut dice)).expect("somebody holds");
-        take(&mut lock, out, event, report)?;
+        if report {
+            history.take(&mut lock, event)?;
+        } else {
+            lock.step(event);
+            write_event(out, event)?;
+        }
     }
+    history.write(out, tasks)?;
     write_tail(out, &lock.shape, report)
 }
 
@@ -341,6 +343,7 @@ fn replay(mut lock: Lock, out: &mut impl Write) -> Result<()> {
     let mut text = String::new();
     stdin().read_to_string(&mut text)?;
     let mut names = Names { resources: HashMap::new(), tasks: HashMap::new() };
+    let mut history = History::default();
     write_head(out, &lock.shape, true)?;
     for line in text.lines() {
         let mut all = [""; 8];
@@ -350,9 +353,10 @@ fn replay(mut lock: Lock, out: &mut impl Write) -> Result<()> {
             "resource" => drop(names.resources.insert(fields[1], names.resources.len())),
             "task" => drop(names.tasks.insert(fields[1], names.tasks.len())),
             "rnlp" | "group" | "end" => {}
-            _ => take(&mut lock, out, names.event(fields), true)?,
+            _ => history.take(&mut lock, names.event(fields))?,
         }
     }
+    history.write(out, lock.shape.tasks)?;
     write_tail(out, &lock.shape, true)
 }
 

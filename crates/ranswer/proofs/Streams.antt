@@ -1,5 +1,5 @@
 -- An input that was taken while it was read.
-use Rattle.std.proofs.Common.{◌≡◌, ℕ, true, false, List, [], Option, Some, None, refl}
+use Rattle.std.proofs.Common.{◌≡◌, ℕ, true, List, [], Option, Some, None, refl}
 use Rattle.std.specs.Prelude.{IfSome}
 use Rattle.io_ends.specs.Ends.{TookAtMost}
 use Rattle.rstream.specs.Coming.{CameWhole}

@@ -1,5 +1,5 @@
 -- What watchers were told, from how a replay or a drill ended.
-use Rattle.std.proofs.Common.{◌≡◌, ℕ, Bool, true, false, List, [], ◌∷◌, codes, map, Option, Some, None, refl, sym, subst, ◌⊎◌, inl, inr}
+use Rattle.std.proofs.Common.{◌≡◌, ℕ, Bool, true, false, List, [], ◌∷◌, codes, map, Option, Some, None, refl, sym, subst, inl, inr}
 use Rattle.std.specs.Prelude.{IfSome, if◌then◌else◌}
 use Rattle.std.specs.Str.{bytes_eq}
 use Rattle.io_ends.specs.Ends.{Appends, AppendsPrefix}

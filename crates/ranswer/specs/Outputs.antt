@@ -3,6 +3,7 @@ use Rattle.std.specs.Prelude.{◌≡◌, ℕ, Bool, true, false, ⊤, List, [], 
 use Rattle.rforms.specs.Reports.{Report}
 use Rattle.rforms.specs.Takers.{IsFirstFault}
 use Rattle.rforms.specs.Texts.{IsTextOf, line_text, report_text, text_of}
+use Rattle.rforms.specs.Waits.{all_ended}
 use Rattle.rforms.specs.declared.fault.Code.{Code}
 use Rattle.rforms.specs.declared.fault.Fault.{Fault}
 use Rattle.rmodel.specs.Steps.{after}
@@ -74,9 +75,9 @@ IsInput (Some (Drill count)) bytes = ⊤
 
 -- ---- outputs
 
--- what is told of a report that was audited: how many events it has and how many waits, of which none is told yet
-abbrev pub audit_text : ℕ → List ℕ
-audit_text events = text_of ((codes "audit" ∷ decimal events ∷ decimal 0 ∷ []) ∷ (codes "end" ∷ []) ∷ [])
+-- what is told of a report that was audited: how many events it has, and how many waits they ended
+abbrev pub audit_text : ℕ → ℕ → List ℕ
+audit_text events waits = text_of ((codes "audit" ∷ decimal events ∷ decimal waits ∷ []) ∷ (codes "end" ∷ []) ∷ [])
 
 -- the watchers that are handed to a drill, once it is over
 abbrev pub told_drill : ℕ → List Seen → List Seen
@@ -87,14 +88,14 @@ abbrev pub drill_text : ℕ → List Seen → List ℕ
 drill_text count watchers = summary_text count (told_drill count watchers) (after drill_opening (drill_events count))
 
 -- an output of a command for this input, where these watchers are handed in: `run` writes the report of a run of the script that
--- the bytes spell, `replay` that of the list that they spell, `audit` how many events the report has that they spell, `bound` the
--- bounds of the script that they spell, and `drill` the summary of its events
+-- the bytes spell, `replay` that of the list that they spell, `audit` how many events the report has that they spell and how many
+-- waits they ended, `bound` the bounds of the script that they spell, and `drill` the summary of its events
 abbrev pub IsOutput : List Seen → Option Command → List ℕ → List ℕ → Type 0
 IsOutput watchers None bytes text = ⊥
 IsOutput watchers (Some Run) bytes text =
     (script : ScriptFields) × (report : ReportFields) × scripts.IsTextOf bytes script × IsReportOf script report × (text ≡ report_text (told_by report))
 IsOutput watchers (Some Replay) bytes text = (report : Report) × IsTextOf false bytes report × (text ≡ report_text report)
-IsOutput watchers (Some Audit) bytes text = (report : Report) × IsTextOf true bytes report × (text ≡ audit_text (length report.entries))
+IsOutput watchers (Some Audit) bytes text = (report : Report) × IsTextOf true bytes report × (text ≡ audit_text (length report.entries) (length (all_ended report.head report.entries)))
 IsOutput watchers (Some (Bound cap)) bytes text = (script : ScriptFields) × scripts.IsTextOf bytes script × (text ≡ bounds_text script cap)
 IsOutput watchers (Some (Drill count)) bytes text = text ≡ drill_text count watchers
 

@@ -13,7 +13,7 @@ pub enum Command {
     Run,
     /// `replay`: apply a list of events, and write its report.
     Replay,
-    /// `audit`: check a report, and write how many events it has.
+    /// `audit`: check a report, and write how many events and how many waits it tells.
     Audit,
     /// `bound` and `bound M`: write the bounds of a script's waits, under this cap, or where none is told under the number of tasks.
     Bound(Option<u8>),

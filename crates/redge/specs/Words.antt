@@ -25,7 +25,7 @@ help_text =
     ++ (codes "  3  the input could not be read" ++ 10 ∷ [])
     ++ (codes "  4  the output could not be written, or not all of it" ++ 10 ∷ [])
     ++ (codes "  5  the input is no script; error,LINE,CODE was written" ++ 10 ∷ [])
-    ++ (codes "  6  the input is longer than 67108864 bytes, or a script longer than 1048576" ++ 10 ∷ [])
+    ++ (codes "  6  the input is longer than 67108864 bytes, a script than 1048576, or a report than 17179869184" ++ 10 ∷ [])
     ++ (codes "  7  out of memory" ++ 10 ∷ [])
     ++ (codes "  8  the input is no event list, or no right report; error,LINE,CODE was written" ++ 10 ∷ [])
     ++ (10 ∷ [])
@@ -61,10 +61,11 @@ help_text =
     ++ (codes "     7  the request is about nothing" ++ 10 ∷ [])
     ++ (codes "     8  the resources to read are not declared together" ++ 10 ∷ [])
     ++ (codes "     9  the first part is empty, or not within the request" ++ 10 ∷ [])
-    ++ (codes "  5  a change is due and this is not its line, or none is due" ++ 10 ∷ [])
+    ++ (codes "  5  a change or a wait is due and this is not its line, or none is due" ++ 10 ∷ [])
     ++ (codes "  6  it is an act with a wrong answer, or of what the section does not hold" ++ 10 ∷ [])
     ++ (codes "  7  a ledger is due, and this is not its line" ++ 10 ∷ [])
     ++ (codes "  8  the records end without end" ++ 10 ∷ [])
+    ++ (codes "  9  the bound that it tells of a wait is wrong, and no record has another fault" ++ 10 ∷ [])
 
 -- what `--version` writes
 unfoldable pub version_text : List ℕ

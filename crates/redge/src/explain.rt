@@ -123,11 +123,12 @@ fn meaning_of(code: Code) -> &'static str {
         Code::UnknownName => "it names a task or a resource that is not declared",
         Code::BadOrder => "it may not stand at this place",
         Code::Refused(_) => "the event is refused",
-        Code::WrongChange => "another line of a change is due here, or none",
+        Code::WrongChange => "another line of a change or of a wait is due here, or none",
         Code::WrongShow =>
             "the answer of this act is wrong, or the section does not hold the resource",
         Code::WrongLedger => "another ledger is due here",
         Code::NoEnd => "the input has no end record",
+        Code::WrongBound => "the bound that it tells is not that of the wait",
     }
 }
 

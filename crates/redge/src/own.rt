@@ -22,7 +22,7 @@ exit statuses
   3  the input could not be read
   4  the output could not be written, or not all of it
   5  the input is no script; error,LINE,CODE was written
-  6  the input is longer than 67108864 bytes, or a script longer than 1048576
+  6  the input is longer than 67108864 bytes, a script than 1048576, or a report than 17179869184
   7  out of memory
   8  the input is no event list, or no right report; error,LINE,CODE was written
 
@@ -58,10 +58,11 @@ codes of status 8, of the record with the number LINE
      7  the request is about nothing
      8  the resources to read are not declared together
      9  the first part is empty, or not within the request
-  5  a change is due and this is not its line, or none is due
+  5  a change or a wait is due and this is not its line, or none is due
   6  it is an act with a wrong answer, or of what the section does not hold
   7  a ledger is due, and this is not its line
   8  the records end without end
+  9  the bound that it tells of a wait is wrong, and no record has another fault
 ";
 
 const VERSION: &str = "rnlp 1\nproved with rattle-kit-13, logic dac8208d650f15bf\n";

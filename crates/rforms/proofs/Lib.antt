@@ -6,3 +6,4 @@ pub mod texts
 pub mod written
 pub mod fields
 pub mod lines
+pub mod waits

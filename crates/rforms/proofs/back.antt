@@ -4,3 +4,4 @@ pub mod HeadRuns
 pub mod EntryRuns
 pub mod EndRuns
 pub mod Rows
+pub mod BlankRuns

@@ -6,3 +6,4 @@ pub mod Fine
 pub mod Said
 pub mod ReadGood
 pub mod Coming
+pub mod Codes

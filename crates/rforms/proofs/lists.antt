@@ -4,3 +4,6 @@ pub mod SameLines
 pub mod Places
 pub mod HeadLines
 pub mod NoActs
+pub mod BlankLines
+pub mod Likes
+pub mod ToldWaits

@@ -5,3 +5,4 @@ pub mod GoodLines
 pub mod GoodEntries
 pub mod Told
 pub mod Spelled
+pub mod WithinBounds

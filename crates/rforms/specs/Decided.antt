@@ -4,6 +4,7 @@ use Rattle.std.specs.Str.{bytes_eq}
 use Rattle.csv.specs.Records.{field_at}
 use Rattle.rclaim.specs.declared.request.Kind.TheVariants.{Read, Write, Mixed, Upgrade, Nested}
 use Rattle.rforms.specs.Records.{Row}
+use Rattle.rforms.specs.declared.word.Stage.TheVariants as stage
 use Rattle.rforms.specs.declared.word.Word.{Word}
 use Rattle.rforms.specs.declared.word.Word.TheVariants as word
 
@@ -71,4 +72,12 @@ word_of_six first third =
 abbrev pub word_of_seven : List ℕ → List ℕ → Option Word
 word_of_seven first third =
     if bytes_eq first (codes "issue") && bytes_eq third (codes "nested") then Some (word.Issue Nested)
+    else None
+
+-- what a record of nine fields is
+abbrev pub word_of_nine : Bool → List ℕ → List ℕ → Option Word
+word_of_nine whole first third =
+    if whole && bytes_eq first (codes "wait") && bytes_eq third (codes "first") then Some (word.Wait stage.First)
+    else if whole && bytes_eq first (codes "wait") && bytes_eq third (codes "rise") then Some (word.Wait stage.Rise)
+    else if whole && bytes_eq first (codes "wait") && bytes_eq third (codes "ask") then Some (word.Wait stage.Ask)
     else None

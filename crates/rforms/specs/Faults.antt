@@ -5,6 +5,7 @@ use Rattle.rset.specs.Sets.{equals}
 use Rattle.rset.specs.declared.TheConstants.{RESOURCES, SEATS}
 use Rattle.rexpand.specs.declared.TheConstants.{GROUPS}
 use Rattle.rclaim.specs.Events.{seat_of}
+use Rattle.rbound.specs.Bounds.{Numbers}
 use Rattle.rvalue.specs.Acts.{place_of, value_within}
 use Rattle.rvalue.specs.Ledgers.{is_taken, value_after}
 use Rattle.rvalue.specs.Lawful.{stands_with, is_held}
@@ -16,11 +17,13 @@ use Rattle.rforms.specs.Records.{Row}
 use Rattle.rforms.specs.Fields.{all_counted}
 use Rattle.rforms.specs.Heads.{is_nil, is_bad_name}
 use Rattle.rforms.specs.Words.{fields_of, word_in}
-use Rattle.rforms.specs.Lines.{Line, HasResource, HasGroup, HasTask, Happens, Does, BecomesEntitled, BecomesSatisfied, Grants, Leaves, Ends, meant_as, word_of}
+use Rattle.rforms.specs.Lines.{Line, HasResource, HasGroup, HasTask, Happens, Does, BecomesEntitled, BecomesSatisfied, Grants, Waits, Leaves, Ends, meant_as, word_of}
 use Rattle.rforms.specs.Reports.{Entry, lock_after, ledger_after, reads_of, writes_of}
 use Rattle.rforms.specs.Events.{refusal_in}
 use Rattle.rforms.specs.Walks.{when, first_of, fault_from}
 use Rattle.rforms.specs.SoFar.{SoFar, Stand, stands, at_acts, at_ledgers, at_end, names_in, head_in, lock_in, ledgers_due, nothing_yet, with_row}
+use Rattle.rforms.specs.declared.word.Stage.{Stage}
+use Rattle.rforms.specs.declared.word.Stage.TheVariants as stage
 use Rattle.rforms.specs.declared.word.Word.{Word}
 use Rattle.rforms.specs.declared.word.Word.TheVariants as word
 use Rattle.rforms.specs.declared.fault.Code.{Code}
@@ -38,11 +41,23 @@ same_answer false b = not b
 abbrev pub same_ledger : Ledger → Ledger → Bool
 same_ledger a b = (a.balance == b.balance) && (a.edits == b.edits)
 
--- a line that may be due is the other: spelling, and the order of members in a set, make no difference
+-- the same wait of a request is told
+abbrev pub same_stage : Stage → Stage → Bool
+same_stage stage.First stage.First = true
+same_stage stage.Rise stage.Rise = true
+same_stage stage.Ask stage.Ask = true
+same_stage _ _ = false
+
+-- the numbers of two waits are the same
+abbrev pub same_numbers : Numbers → Numbers → Bool
+same_numbers a b = (a.reads == b.reads) && ((a.writes == b.writes) && (a.units == b.units))
+
+-- a line that may be due is the other: spelling, and the order of members in a set, make no difference; bounds are not compared here
 abbrev pub is_same_line : Line → Line → Bool
 is_same_line (BecomesEntitled seat half) (BecomesEntitled other claim) = (seat == other) && same_answer half claim
 is_same_line (BecomesSatisfied seat half) (BecomesSatisfied other claim) = (seat == other) && same_answer half claim
 is_same_line (Grants seat set) (Grants other members) = (seat == other) && equals set members
+is_same_line (Waits seat which cover bound) (Waits other kind numbers more) = (seat == other) && (same_stage which kind && same_numbers cover numbers)
 is_same_line (Leaves place ledger) (Leaves other left) = (place == other) && same_ledger ledger left
 is_same_line _ _ = false
 
@@ -51,11 +66,12 @@ abbrev pub is_first : List Line → Line → Bool
 is_first [] line = false
 is_first (first ∷ lines) line = is_same_line first line
 
--- a line tells a change
+-- a line tells a change, or a wait that is over
 abbrev pub is_change : Line → Bool
 is_change (BecomesEntitled seat half) = true
 is_change (BecomesSatisfied seat half) = true
 is_change (Grants seat set) = true
+is_change (Waits seat which cover bound) = true
 is_change _ = false
 
 abbrev pub is_act : Line → Bool
@@ -177,9 +193,9 @@ code_of whole s row = code_by whole s row (word_in whole row)
 abbrev pub is_ended : SoFar → Bool
 is_ended s = s.last == at_end
 
--- the first fault of a text's records, with its number counted from 1
-abbrev pub first_fault : Bool → List Row → Option (ℕ × Code)
-first_fault whole rows = fault_from (code_of whole) (with_row whole) is_ended NoEnd 1 nothing_yet rows
+-- the first fault of a text's records, each judged by those before it alone, with its number counted from 1
+abbrev pub first_record_fault : Bool → List Row → Option (ℕ × Code)
+first_record_fault whole rows = fault_from (code_of whole) (with_row whole) is_ended NoEnd 1 nothing_yet rows
 
 -- what records have said together
 abbrev pub read_all : Bool → List Row → SoFar

@@ -5,12 +5,15 @@ pub mod Fields
 pub mod Heads
 pub mod Words
 pub mod Lines
+pub mod Waits
 pub mod Reports
 pub mod Events
 pub mod Walks
 pub mod SoFar
 pub mod Faults
+pub mod WrongBounds
 pub mod Written
 pub mod Texts
+pub mod ToldWaits
 pub mod Takers
 pub mod Decided

@@ -9,6 +9,7 @@ use Rattle.rclaim.specs.declared.event.Event.{Event}
 use Rattle.rclaim.specs.declared.event.Event.TheVariants.{Issue, Finish, Rise, Ask}
 use Rattle.rclaim.specs.declared.request.Kind.{Kind}
 use Rattle.rclaim.specs.declared.request.Kind.TheVariants.{Read, Write, Mixed, Upgrade, Nested}
+use Rattle.rbound.specs.Bounds.{Numbers}
 use Rattle.rvalue.specs.declared.act.Act.{Act}
 use Rattle.rvalue.specs.declared.act.Act.TheVariants.{Edited, Shown}
 use Rattle.rvalue.specs.declared.ledger.Edit.{Edit}
@@ -17,11 +18,13 @@ use Rattle.rvalue.specs.declared.ledger.Ledger.{Ledger}
 use Rattle.rforms.specs.Records.{Row}
 use Rattle.rforms.specs.Fields.{Names, Values, read, write, AllGood}
 use Rattle.rforms.specs.Words.{fields_of, word_in}
+use Rattle.rforms.specs.declared.word.Stage.{Stage}
 use Rattle.rforms.specs.declared.word.Word.{Word}
 use Rattle.rforms.specs.declared.word.Word.TheVariants as word
 
 -- what a record says: the text opens, it has this resource, group, task or cap, an event happens, a section does this,
--- a claim is entitled or satisfied now, a request holds this now, a resource is left with this ledger, the text ends
+-- a claim is entitled or satisfied now, a request holds this now, this wait of a request is over, with its cover and its bound,
+-- a resource is left with this ledger, the text ends
 pub data Line : Type 0 where
   Opens : Line
   HasResource : List ℕ → Line
@@ -33,6 +36,7 @@ pub data Line : Type 0 where
   BecomesEntitled : ℕ → Bool → Line
   BecomesSatisfied : ℕ → Bool → Line
   Grants : ℕ → Set → Line
+  Waits : ℕ → Stage → Numbers → Numbers → Line
   Leaves : ℕ → Ledger → Line
   Ends : Line
 
@@ -62,6 +66,8 @@ line_by (word.Put done) v = Does (Edited v.0 (edit.Set v.1.0) done)
 line_by (word.Entitled write_half) v = BecomesEntitled v.0 write_half
 line_by (word.Satisfied write_half) v = BecomesSatisfied v.0 write_half
 line_by word.Grant v = Grants v.0 v.1.0
+line_by (word.Wait which) v =
+    Waits v.0 which (record { reads = v.1.0; writes = v.1.1.0; units = v.1.1.1.0 }) (record { reads = v.1.1.1.1.0; writes = v.1.1.1.1.1.0; units = v.1.1.1.1.1.1.0 })
 line_by word.Ledger v = Leaves v.0 (record { balance = v.1.0; edits = v.1.1.0 })
 line_by word.End v = Ends
 
@@ -91,6 +97,7 @@ word_of (Does act) = act_word act
 word_of (BecomesEntitled seat write_half) = word.Entitled write_half
 word_of (BecomesSatisfied seat write_half) = word.Satisfied write_half
 word_of (Grants seat s) = word.Grant
+word_of (Waits seat which cover bound) = word.Wait which
 word_of (Leaves place ledger) = word.Ledger
 word_of Ends = word.End
 
@@ -126,6 +133,7 @@ values_of (Does act) = act_values act
 values_of (BecomesEntitled seat write_half) = (seat, tt)
 values_of (BecomesSatisfied seat write_half) = (seat, tt)
 values_of (Grants seat s) = (seat, (s, tt))
+values_of (Waits seat which cover bound) = (seat, (cover.reads, (cover.writes, (cover.units, (bound.reads, (bound.writes, (bound.units, tt)))))))
 values_of (Leaves place ledger) = (place, (ledger.balance, (ledger.edits, tt)))
 values_of Ends = tt
 

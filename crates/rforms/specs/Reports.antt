@@ -9,6 +9,8 @@ use Rattle.rclaim.specs.declared.changes.StatusChange.{StatusChange}
 use Rattle.rclaim.specs.declared.claim.Status.{Status}
 use Rattle.rclaim.specs.declared.claim.Status.TheVariants.{Waiting, Entitled, Satisfied}
 use Rattle.rclaim.specs.declared.event.Event.{Event}
+use Rattle.rbound.specs.Bounds.{Numbers}
+use Rattle.rcover.specs.declared.wait_end.WaitEnd.{WaitEnd}
 use Rattle.rmodel.specs.Changes.{changes_between}
 use Rattle.rmodel.specs.Claims.{satisfied_by}
 use Rattle.rmodel.specs.Holds.{holds_of}
@@ -22,7 +24,8 @@ use Rattle.rvalue.specs.declared.ledger.Edit.{Edit}
 use Rattle.rvalue.specs.declared.ledger.Ledger.{Ledger}
 use Rattle.rforms.specs.Records.{Row}
 use Rattle.rforms.specs.Heads.{Head, names_of, opening_of, IsHead}
-use Rattle.rforms.specs.Lines.{Line, Opens, HasResource, HasGroup, HasTask, HasCap, Happens, Does, BecomesEntitled, BecomesSatisfied, Grants, Leaves, Ends, meaning}
+use Rattle.rforms.specs.Lines.{Line, Opens, HasResource, HasGroup, HasTask, HasCap, Happens, Does, BecomesEntitled, BecomesSatisfied, Grants, Waits, Leaves, Ends, meaning}
+use Rattle.rforms.specs.Waits.{stage_of, cover_of, ended_in, bound_in}
 
 -- an event, with the acts that are told with it
 abbrev pub Entry : Type 0
@@ -92,14 +95,26 @@ change_lines whole s e = if whole then told_changes (changes_between s (next s e
 abbrev pub EachChangeIsTold : LockState → Event → Type 0
 EachChangeIsTold s e = change_lines true s e ≡ map status_line (changes_between s (next s e)).statuses ++ map grant_line (changes_between s (next s e)).grants
 
--- the lines of an entry: its event, its acts, and what the event changes
-abbrev pub entry_lines : Bool → Head → List Entry → Entry → List Line
-entry_lines whole head earlier entry = Happens entry.event ∷ (map Does entry.acts ++ change_lines whole (lock_after head earlier) entry.event)
+-- the line that tells a wait that is over, by the bounds of waits
+abbrev pub wait_line : (WaitEnd → Numbers) → WaitEnd → Line
+wait_line bounds w = Waits w.seat (stage_of w.which) (cover_of w) (bounds w)
+
+-- the lines that tell the waits that an event behind earlier entries ends; an event list tells none
+unfoldable pub wait_lines : Bool → (WaitEnd → Numbers) → Head → List Entry → Event → List Line
+wait_lines whole bounds head earlier e = if whole then map (wait_line bounds) (ended_in head earlier e) else []
+
+-- the lines that are due behind an event and its acts: what it changes, and then the waits that it ends
+abbrev pub due_lines : Bool → (WaitEnd → Numbers) → Head → List Entry → Event → List Line
+due_lines whole bounds head earlier e = change_lines whole (lock_after head earlier) e ++ wait_lines whole bounds head earlier e
+
+-- the lines of an entry: its event, its acts, and what is due then
+abbrev pub entry_lines : Bool → (WaitEnd → Numbers) → Head → List Entry → Entry → List Line
+entry_lines whole bounds head earlier entry = Happens entry.event ∷ (map Does entry.acts ++ due_lines whole bounds head earlier entry.event)
 
 -- the lines of entries behind earlier ones
-unfoldable pub history_lines : Bool → Head → List Entry → List Entry → List Line
-history_lines whole head earlier [] = []
-history_lines whole head earlier (entry ∷ entries) = entry_lines whole head earlier entry ++ history_lines whole head (earlier ++ entry ∷ []) entries
+unfoldable pub history_lines : Bool → (WaitEnd → Numbers) → Head → List Entry → List Entry → List Line
+history_lines whole bounds head earlier [] = []
+history_lines whole bounds head earlier (entry ∷ entries) = entry_lines whole bounds head earlier entry ++ history_lines whole bounds head (earlier ++ entry ∷ []) entries
 
 -- the lines that tell the ledgers at the end, by the numbers of the resources; an event list tells none
 unfoldable pub ledger_lines : Bool → Head → List Entry → List Line
@@ -114,15 +129,16 @@ declared_lines resources groups tasks told =
 abbrev pub head_lines : Head → Option ℕ → List Line
 head_lines head told = declared_lines head.resources head.groups head.tasks told
 
--- the lines of a report
-abbrev pub lines_of : Bool → Option ℕ → Report → List Line
-lines_of whole told r = head_lines r.head told ++ (history_lines whole r.head [] r.entries ++ (ledger_lines whole r.head r.entries ++ Ends ∷ []))
+-- the lines of a report, by the bounds of waits
+abbrev pub lines_of : Bool → (WaitEnd → Numbers) → Option ℕ → Report → List Line
+lines_of whole bounds told r = head_lines r.head told ++ (history_lines whole bounds r.head [] r.entries ++ (ledger_lines whole r.head r.entries ++ Ends ∷ []))
 
 -- ---- the grammar
 
--- these records spell the report, or where it is not `whole`, the event list: each says the line at its place, by the names that the head declares
+-- these records spell the report, or where it is not `whole`, the event list: each says the line at its place, by the names that the head declares;
+-- the bounds are by what the whole history needs
 pub record Spells (whole : Bool) (rows : List Row) (r : Report) : Type 0 where
   pub told : Option ℕ
-  pub said : AllZip (λ row line. meaning whole (names_of r.head) row ≡ Some line) rows (lines_of whole told r)
+  pub said : AllZip (λ row line. meaning whole (names_of r.head) row ≡ Some line) rows (lines_of whole (bound_in r.head r.entries) told r)
   pub head : IsHead r.head told
   pub lawful : IsLawful r.head r.entries

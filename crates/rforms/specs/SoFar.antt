@@ -9,8 +9,9 @@ use Rattle.rvalue.specs.declared.ledger.Edit.{Edit}
 use Rattle.rforms.specs.Records.{Row}
 use Rattle.rforms.specs.Fields.{Names}
 use Rattle.rforms.specs.Heads.{Head, names_of, cap_or}
-use Rattle.rforms.specs.Lines.{Line, Opens, HasResource, HasGroup, HasTask, HasCap, Happens, Does, BecomesEntitled, BecomesSatisfied, Grants, Leaves, Ends, meaning}
-use Rattle.rforms.specs.Reports.{Entry, Report, lock_after, change_lines, ledger_lines}
+use Rattle.rforms.specs.Lines.{Line, Opens, HasResource, HasGroup, HasTask, HasCap, Happens, Does, BecomesEntitled, BecomesSatisfied, Grants, Waits, Leaves, Ends, meaning}
+use Rattle.rforms.specs.Waits.{no_bounds}
+use Rattle.rforms.specs.Reports.{Entry, Report, lock_after, due_lines, ledger_lines}
 use Rattle.rforms.specs.declared.word.Word.{Word}
 use Rattle.rforms.specs.declared.word.Word.TheVariants as word
 
@@ -38,7 +39,7 @@ at_cap = 5
 abbrev pub at_acts : ℕ
 at_acts = 6
 
--- behind any other event, and behind a change
+-- behind any other event, behind a change, and behind a wait
 abbrev pub at_changes : ℕ
 at_changes = 7
 
@@ -57,7 +58,7 @@ pub record Stand : Type 0 where
 abbrev pub stand : ℕ → ℕ → ℕ → Stand
 stand least most own = record { least = least; most = most; own = own }
 
--- where a line of each word may stand. A change may come behind anything but the end: that it is due is asked apart
+-- where a line of each word may stand. A change, or a wait, may come behind anything but the end: that it is due is asked apart
 abbrev pub stands : Word → Stand
 stands word.Version = stand at_start at_start at_version
 stands word.Resource = stand at_version at_resources at_resources
@@ -75,12 +76,13 @@ stands (word.Put done) = stand at_acts at_acts at_acts
 stands (word.Entitled write_half) = stand at_start at_ledgers at_changes
 stands (word.Satisfied write_half) = stand at_start at_ledgers at_changes
 stands word.Grant = stand at_start at_ledgers at_changes
+stands (word.Wait which) = stand at_start at_ledgers at_changes
 stands word.Ledger = stand at_tasks at_ledgers at_ledgers
 stands word.End = stand at_tasks at_ledgers at_end
 
 -- ---- what the lines so far have said
 
--- the place of the last line, what the head declares, all entries but the latest, the latest, and the lines that are due
+-- the place of the last line, what the head declares, all entries but the latest, the latest, and the lines that are due, without bounds
 pub record SoFar : Type 0 where
   pub last : ℕ
   pub resources : List (List ℕ)
@@ -143,11 +145,12 @@ with_line whole s (HasResource name) = record s { last = at_resources; resources
 with_line whole s (HasGroup group) = record s { last = at_groups; groups = s.groups ++ group ∷ [] }
 with_line whole s (HasTask name) = record s { last = at_tasks; tasks = s.tasks ++ name ∷ [] }
 with_line whole s (HasCap n) = record s { last = at_cap; cap = Some n }
-with_line whole s (Happens e) = record s { last = event_place e; earlier = entries_in s; latest = Some (bare e); due = change_lines whole (lock_in s) e }
+with_line whole s (Happens e) = record s { last = event_place e; earlier = entries_in s; latest = Some (bare e); due = due_lines whole no_bounds (head_in s) (entries_in s) e }
 with_line whole s (Does act) = record s { last = at_acts; latest = option_map (with_act act) s.latest }
 with_line whole s (BecomesEntitled seat write_half) = record s { last = at_changes; due = drop 1 s.due }
 with_line whole s (BecomesSatisfied seat write_half) = record s { last = at_changes; due = drop 1 s.due }
 with_line whole s (Grants seat set) = record s { last = at_changes; due = drop 1 s.due }
+with_line whole s (Waits seat which cover bound) = record s { last = at_changes; due = drop 1 s.due }
 with_line whole s (Leaves place ledger) = record s { last = at_ledgers; due = drop 1 (ledgers_due whole s) }
 with_line whole s Ends = record s { last = at_end; due = [] }
 

@@ -9,7 +9,8 @@ use Rattle.rforms.specs.Records.{Row, AreRowsOf}
 use Rattle.rforms.specs.Reports.{Spells}
 use Rattle.rforms.specs.SoFar.{SoFar, told_in}
 use Rattle.rforms.specs.Walks.{AllClean, fault_from}
-use Rattle.rforms.specs.Faults.{code_of, is_ended, first_fault, read_all}
+use Rattle.rforms.specs.Faults.{code_of, is_ended, read_all}
+use Rattle.rforms.specs.WrongBounds.{first_fault}
 use Rattle.rforms.specs.declared.fault.Code.{Code}
 use Rattle.rforms.specs.declared.fault.Fault.{Fault}
 use Rattle.rforms.specs.declared.errors.RowErr.{RowErr}

@@ -3,6 +3,8 @@ use Rattle.std.specs.Prelude.{ℕ, Bool, true, false, List, [], ◌∷◌, ◌++
 use Rattle.rclaim.specs.declared.request.Kind.TheVariants.{Read, Write, Mixed, Upgrade, Nested}
 use Rattle.rforms.specs.Records.{Row}
 use Rattle.rforms.specs.Fields.{Field, Said, Fresh, OneResource, OneTask, Members, Number, Length, Limit, has_form}
+use Rattle.rforms.specs.declared.word.Stage.{Stage}
+use Rattle.rforms.specs.declared.word.Stage.TheVariants as stage
 use Rattle.rforms.specs.declared.word.Word.{Word}
 use Rattle.rforms.specs.declared.word.Word.TheVariants as word
 
@@ -15,6 +17,12 @@ yes_or_no false = codes "no"
 abbrev pub claim_text : Bool → List ℕ
 claim_text true = codes "write"
 claim_text false = codes "read"
+
+-- how it is said which wait of a request is told
+abbrev pub stage_text : Stage → List ℕ
+stage_text stage.First = codes "first"
+stage_text stage.Rise = codes "rise"
+stage_text stage.Ask = codes "ask"
 
 -- the fields of a record, by what it is
 abbrev pub fields_of : Word → List Field
@@ -38,6 +46,7 @@ fields_of (word.Put done) = Said (codes "set") ∷ OneResource ∷ Number ∷ Sa
 fields_of (word.Entitled write_half) = Said (codes "now") ∷ OneTask ∷ Said (claim_text write_half) ∷ Said (codes "entitled") ∷ []
 fields_of (word.Satisfied write_half) = Said (codes "now") ∷ OneTask ∷ Said (claim_text write_half) ∷ Said (codes "satisfied") ∷ []
 fields_of word.Grant = Said (codes "grant") ∷ OneTask ∷ Members ∷ []
+fields_of (word.Wait which) = Said (codes "wait") ∷ OneTask ∷ Said (stage_text which) ∷ Number ∷ Number ∷ Number ∷ Number ∷ Number ∷ Number ∷ []
 fields_of word.Ledger = Said (codes "ledger") ∷ OneResource ∷ Number ∷ Number ∷ []
 fields_of word.End = Said (codes "end") ∷ []
 
@@ -48,11 +57,12 @@ list_words =
     ∷ word.Issue Read ∷ word.Issue Write ∷ word.Issue Mixed ∷ word.Issue Upgrade ∷ word.Issue Nested
     ∷ word.Finish ∷ word.Rise ∷ word.Ask ∷ word.End ∷ []
 
--- and those of a report beside: acts, changes and ledgers
+-- and those of a report beside: acts, changes, waits and ledgers
 abbrev pub more_words : List Word
 more_words =
     word.Show ∷ word.Add true ∷ word.Add false ∷ word.Take true ∷ word.Take false ∷ word.Put true ∷ word.Put false
-    ∷ word.Entitled true ∷ word.Entitled false ∷ word.Satisfied true ∷ word.Satisfied false ∷ word.Grant ∷ word.Ledger ∷ []
+    ∷ word.Entitled true ∷ word.Entitled false ∷ word.Satisfied true ∷ word.Satisfied false ∷ word.Grant
+    ∷ word.Wait stage.First ∷ word.Wait stage.Rise ∷ word.Wait stage.Ask ∷ word.Ledger ∷ []
 
 -- what the records of a text may be: of a report where it is `whole`, else of an event list
 abbrev pub words_of : Bool → List Word

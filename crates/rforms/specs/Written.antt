@@ -10,11 +10,12 @@ use Rattle.rvalue.specs.declared.ledger.Edit.TheVariants as edit
 use Rattle.rforms.specs.Records.{Row}
 use Rattle.rforms.specs.Heads.{names_of, IsHead}
 use Rattle.rforms.specs.Lines.{spelled}
+use Rattle.rforms.specs.Waits.{bound_in}
 use Rattle.rforms.specs.Reports.{Entry, Report, lines_of, IsLawful}
 
 -- the records of a report, each in its one spelling; the cap is always told
 abbrev pub report_rows : Report → List Row
-report_rows r = map (spelled (names_of r.head)) (lines_of true (Some r.head.cap) r)
+report_rows r = map (spelled (names_of r.head)) (lines_of true (bound_in r.head r.entries) (Some r.head.cap) r)
 
 -- the amount of an edit is one that a field may tell, as each value of its type is
 abbrev pub IsTellable : Act Edit → Type 0

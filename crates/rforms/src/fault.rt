@@ -31,6 +31,8 @@ pub enum Code {
     WrongLedger,
     /// The records end without `end`.
     NoEnd,
+    /// The bound that the line of a wait tells is not its bound. It is told only where no record has another fault.
+    WrongBound,
 }
 
 /// The first fault of a text.

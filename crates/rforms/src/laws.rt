@@ -1,12 +1,18 @@
 //! Laws of texts, each the contract of a function that does nothing.
-ghost use Rattle.std.specs.Prelude.{◌≡◌, ◌<◌, ◌^◌, ℕ, Bool, List, [], ◌∷◌, ◌++◌, length, Some, None, true, false};
+ghost use Rattle.std.specs.Prelude.{◌≡◌, ◌<◌, ◌^◌, ℕ, Bool, Option, List, [], ◌∷◌, ◌++◌, length, Some, None, true, false};
 ghost use Rattle.std.specs.List.{AllByRecursion};
 ghost use Rattle.rforms.specs.Records.{Row};
 ghost use Rattle.rforms.specs.Fields.{Names, AreTables};
 ghost use Rattle.rforms.specs.Lines.{Line, IsWritable, meaning, spelled};
 ghost use Rattle.rforms.specs.SoFar.{told_in};
-ghost use Rattle.rforms.specs.Faults.{first_fault, read_all};
-ghost use Rattle.rforms.specs.Reports.{Entry, Report, Spells, IsLawful, EachChangeIsTold, lock_after};
+ghost use Rattle.rforms.specs.Faults.{read_all, first_record_fault};
+ghost use Rattle.rforms.specs.declared.fault.Code.TheVariants.{WrongBound};
+ghost use Rattle.rforms.specs.WrongBounds.{first_fault};
+ghost use Rattle.rbound.specs.Bounds.{Numbers};
+ghost use Rattle.rcover.specs.declared.wait_end.WaitEnd.{WaitEnd};
+ghost use Rattle.rforms.specs.Waits.{bound_in};
+ghost use Rattle.rforms.specs.Reports.{Entry, Report, Spells, IsLawful, EachChangeIsTold, lock_after, lines_of};
+ghost use Rattle.rforms.specs.ToldWaits.{EachWaitIsTold, AllWaitsAreTold, IsWithinBound};
 ghost use Rattle.rforms.specs.Heads.{Head};
 ghost use Rattle.rforms.specs.Written.{MayBeWritten, report_rows};
 ghost use Rattle.rforms.specs.Texts.{IsTextOf, report_text};
@@ -37,6 +43,16 @@ pub fn an_event_list_has_no_acts()
     ensures { (rows : List Row) (report : Report) → Spells false rows report → AllByRecursion (λ (entry : Entry). entry.acts ≡ []) report.entries }
 {}
 
+/// No record of an event list tells a wait, so its first fault is that of a record.
+pub fn an_event_list_tells_no_bounds()
+    ensures { (rows : List Row) → first_fault false rows ≡ first_record_fault false rows }
+{}
+
+/// A wrong bound is told only where no record has another fault.
+pub fn a_wrong_bound_is_told_last()
+    ensures { (whole : Bool) (rows : List Row) (line : ℕ) → first_fault whole rows ≡ Some (line, WrongBound) → first_record_fault whole rows ≡ None }
+{}
+
 /// What is written of a report spells that report.
 pub fn what_is_written_spells()
     ensures { (report : Report) → MayBeWritten report → Spells true (report_rows report) report }
@@ -55,4 +71,19 @@ pub fn what_is_spelled_may_be_written()
 /// In a lawful history each change of a status and each grant has its line.
 pub fn each_change_is_told()
     ensures { (head : Head) (earlier : List Entry) (entry : Entry) → IsLawful head (earlier ++ entry ∷ []) → EachChangeIsTold (lock_after head earlier) entry.event }
+{}
+
+/// The last lines of an entry are those of just the waits that its event ended, and no line before them tells a wait.
+pub fn each_wait_is_told()
+    ensures { (bounds : WaitEnd → Numbers) (head : Head) (earlier : List Entry) (entry : Entry) → EachWaitIsTold bounds head earlier entry }
+{}
+
+/// The lines of a report that tell waits are those of just the waits that its history ended, in their order.
+pub fn all_waits_are_told()
+    ensures { (bounds : WaitEnd → Numbers) (told : Option ℕ) (report : Report) → AllWaitsAreTold bounds told report }
+{}
+
+/// Each wait that a report tells is within its bound: no number of its cover is above that of the bound beside it.
+pub fn each_told_wait_is_within_its_bound()
+    ensures { (report : Report) → MayBeWritten report → AllByRecursion IsWithinBound (lines_of true (bound_in report.head report.entries) (Some report.head.cap) report) }
 {}

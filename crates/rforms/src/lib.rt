@@ -17,4 +17,4 @@ pub use errors::{RowErr, TextErr};
 pub use fault::{Code, Fault, Refusal};
 pub use record::{field_of, word_in};
 pub use taker::{Records, end_at, take_part, take_text};
-pub use word::Word;
+pub use word::{Stage, Word};

@@ -3,9 +3,9 @@ ghost use Rattle.std.specs.Prelude.{◌≡◌};
 ghost use Rattle.std.specs.Str.{bytes_eq};
 ghost use Rattle.csv.specs.Records.{fields_of};
 ghost use Rattle.rforms.specs.Words.{word_in};
-ghost use Rattle.rforms.specs.Decided.{word_of_one, word_of_two, word_of_three, word_of_four, word_of_five, word_of_six, word_of_seven, field_of};
+ghost use Rattle.rforms.specs.Decided.{word_of_one, word_of_two, word_of_three, word_of_four, word_of_five, word_of_six, word_of_seven, word_of_nine, field_of};
 
-use crate::Word;
+use crate::{Stage, Word};
 use csv::ByteRecord;
 use rclaim::Kind;
 
@@ -26,6 +26,7 @@ pub fn word_in(whole: bool, fields: &ByteRecord) -> Option<Word>
         5 => word_of_five(field_of(fields, 0), field_of(fields, 2)),
         6 => word_of_six(field_of(fields, 0), field_of(fields, 2)),
         7 => word_of_seven(field_of(fields, 0), field_of(fields, 2)),
+        9 => word_of_nine(whole, field_of(fields, 0), field_of(fields, 2)),
         _ => None,
     }
 }
@@ -142,6 +143,21 @@ fn word_of_seven(first: &[u8], third: &[u8]) -> Option<Word>
 {
     if is(first, b"issue") && is(third, b"nested") {
         Some(Word::Issue(Kind::Nested))
+    } else {
+        None
+    }
+}
+
+// What a record of nine fields is.
+fn word_of_nine(whole: bool, first: &[u8], third: &[u8]) -> Option<Word>
+    ensures { result ≡ word_of_nine whole first.now third.now }
+{
+    if whole & is(first, b"wait") & is(third, b"first") {
+        Some(Word::Wait(Stage::First))
+    } else if whole & is(first, b"wait") & is(third, b"rise") {
+        Some(Word::Wait(Stage::Rise))
+    } else if whole & is(first, b"wait") & is(third, b"ask") {
+        Some(Word::Wait(Stage::Ask))
     } else {
         None
     }

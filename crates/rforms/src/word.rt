@@ -1,6 +1,17 @@
 // What a record of a list or of a report may be: the words of the table of records.
 use rclaim::Kind;
 
+/// Which wait of a request a record tells.
+#[derive(Clone, Copy, Debug, PartialEq, Eq)]
+pub enum Stage {
+    /// `first`: the one that begins with its issue.
+    First,
+    /// `rise`: that of an upgrade that rises.
+    Rise,
+    /// `ask`: that of one of its asks.
+    Ask,
+}
+
 /// What a record is. Each has its own list of fields.
 #[derive(Clone, Copy, Debug, PartialEq, Eq)]
 pub enum Word {
@@ -36,6 +47,8 @@ pub enum Word {
     Satisfied { write_half: bool },
     /// `grant,TASK,SET`
     Grant,
+    /// `wait,TASK,WHICH,READS,WRITES,UNITS,BREADS,BWRITES,BUNITS`, where WHICH is told by the stage.
+    Wait(Stage),
     /// `ledger,NAME,BALANCE,EDITS`
     Ledger,
     /// `end`

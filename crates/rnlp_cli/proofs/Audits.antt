@@ -1,10 +1,13 @@
 -- What is told of a report that was audited, as it is made.
-use Rattle.std.proofs.Common.{◌≡◌, ℕ, List, [], ◌∷◌, ◌++◌, codes, decimal, ap, ◌∙◌, arith, append_assoc}
-use Rattle.std.proofs.lemmas.Fmt.{decimal_digit}
-use Rattle.rforms.specs.Texts.{text_of}
+use Rattle.std.proofs.Common.{◌≡◌, ℕ, List, [], ◌∷◌, ◌++◌, codes, decimal, sym, ap, ◌∙◌, append_assoc}
+use Rattle.std.proofs.lemmas.List.{append-nil}
 use Rattle.ranswer.specs.Outputs.{audit_text}
 
-pub audit_is : (events : ℕ) → audit_text events ≡ (codes "audit," ++ decimal events) ++ codes ",0\nend\n"
-audit_is events =
-    ap (λ (waits : List ℕ). text_of ((codes "audit" ∷ decimal events ∷ waits ∷ []) ∷ (codes "end" ∷ []) ∷ [])) (decimal_digit 0 (omega arith))
-    ∙ ap (λ (t : List ℕ). codes "audit," ++ t) (append_assoc (decimal events ++ codes ",0") (10 ∷ []) (codes "end\n") ∙ append_assoc (decimal events) (codes ",0") (codes "\nend\n"))
+two_fields : (first second rest : List ℕ) → ((first ++ (44 ∷ (second ++ []))) ++ (10 ∷ [])) ++ rest ≡ ((first ++ (44 ∷ [])) ++ second) ++ (10 ∷ rest)
+two_fields first second rest =
+    ap (λ (t : List ℕ). ((first ++ (44 ∷ t)) ++ (10 ∷ [])) ++ rest) (append-nil second)
+    ∙ append_assoc (first ++ (44 ∷ second)) (10 ∷ []) rest
+    ∙ ap (λ (t : List ℕ). t ++ (10 ∷ rest)) (sym (append_assoc first (44 ∷ []) second))
+
+pub audit_is : (events waits : ℕ) → audit_text events waits ≡ (((codes "audit," ++ decimal events) ++ (44 ∷ [])) ++ decimal waits) ++ codes "\nend\n"
+audit_is events waits = ap (λ (t : List ℕ). codes "audit," ++ t) (two_fields (decimal events) (decimal waits) (codes "end\n"))

@@ -13,10 +13,10 @@ use crate::told::Told;
 use io_ends::{Sink, Source};
 use itoa::Buffer;
 use ranswer::{REPORT_LIMIT, ToolStatus, write_output};
-use rtrace::{AuditErr, Counting, count_stream};
+use rtrace::{AuditCounts, AuditErr, Counting, count_stream};
 use std::alloc::{AllocError, Global};
 
-/// Checks the report that a source has left, as it is read, and writes how many events it has.
+/// Checks the report that a source has left, as it is read, and writes how many events and how many waits it tells.
 pub fn audit<S: Source, K: Sink>(
     alloc: Global,
     source: &mut S,
@@ -27,7 +27,7 @@ pub fn audit<S: Source, K: Sink>(
 {
     let mut counting = Counting::new(alloc);
     match count_stream(alloc, source, REPORT_LIMIT, &mut counting) {
-        Ok(counts) => tell(alloc, counts.events, sink),
+        Ok(counts) => tell(alloc, counts, sink),
         Err(AuditErr::Bad(fault)) => {
             *told = Some(Told::List {
                 fault,
@@ -41,23 +41,26 @@ pub fn audit<S: Source, K: Sink>(
     }
 }
 
-// Writes what is told of a report with so many events.
-fn tell<K: Sink>(alloc: Global, events: u64, sink: &mut K) -> ToolStatus
-    ensures { IsWritten (audit_text events) (K.written sink.old) (K.written sink.new) (K.faults sink.new ≡ K.faults sink.old) (Rose (K.faults sink.old) (K.faults sink.new)) (sink.new ≡ sink.old) result }
+// Writes what is told of a report that tells so much.
+fn tell<K: Sink>(alloc: Global, counts: AuditCounts, sink: &mut K) -> ToolStatus
+    ensures { IsWritten (audit_text counts.events counts.waits) (K.written sink.old) (K.written sink.new) (K.faults sink.new ≡ K.faults sink.old) (Rose (K.faults sink.old) (K.faults sink.new)) (sink.new ≡ sink.old) result }
 {
-    let Ok(text) = audit_text(alloc, events) else {
+    let Ok(text) = audit_text(alloc, counts) else {
         return ToolStatus::NoMemory;
     };
     write_output(sink, &text)
 }
 
-// What is told of a report with so many events.
-fn audit_text(alloc: Global, events: u64) -> Result<Vec<u8>, AllocError>
-    ensures { IfOk result (λ text. text.items ≡ audit_text events) }
+// What is told of a report that tells so much.
+fn audit_text(alloc: Global, counts: AuditCounts) -> Result<Vec<u8>, AllocError>
+    ensures { IfOk result (λ text. text.items ≡ audit_text counts.events counts.waits) }
 {
-    let mut digits = Buffer::new();
     let mut text = Vec::from_slice(alloc, b"audit,")?;
-    text.extend_from_slice(digits.format(events).as_bytes())?;
-    text.extend_from_slice(b",0\nend\n")?;
+    let mut digits = Buffer::new();
+    text.extend_from_slice(digits.format(counts.events).as_bytes())?;
+    text.push(b',')?;
+    let mut digits = Buffer::new();
+    text.extend_from_slice(digits.format(counts.waits).as_bytes())?;
+    text.extend_from_slice(b"\nend\n")?;
     Ok(text)
 }

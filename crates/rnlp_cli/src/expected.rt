@@ -1,5 +1,7 @@
 // Which line of a report is due where another one stands, for a person alone: no contract tells it.
+use rbound::Which;
 use rclaim::{Changes, GrantChange, Status, StatusChange};
+use rcover::WaitEnd;
 use rforms::Code;
 use rmodel::Machine;
 use rset::{NameTable, ResourceSet};
@@ -10,7 +12,8 @@ use std::alloc::{AllocError, Global};
 // The place of ledgers, as `rforms` numbers places.
 const AT_LEDGERS: u8 = 8;
 
-/// The line that is due behind what was read, where the fault is that another one stands there.
+/// The line that is due behind what was read, where the fault is that another one stands there. Of a wait it is the line up
+/// to the bound, which is known only where the whole report is.
 pub fn expected(alloc: Global, reading: &Reading, code: Code) -> Option<String> {
     let made = match code {
         Code::WrongChange if reading.last < AT_LEDGERS => change_due(alloc, reading),
@@ -24,10 +27,18 @@ pub fn expected(alloc: Global, reading: &Reading, code: Code) -> Option<String> 
 }
 
 fn change_due(alloc: Global, reading: &Reading) -> Result<Option<String>, AllocError> {
-    let Some(machine) = &reading.machine else {
+    let (Some(machine), Some(following)) = (&reading.machine, &reading.following) else {
         return Ok(None);
     };
-    change_at(alloc, reading, machine.changes(), reading.told)
+    let changes = machine.changes();
+    let before = changes.statuses.len().saturating_add(changes.grants.len());
+    if reading.told < before {
+        return change_at(alloc, reading, changes, reading.told);
+    }
+    match following.ended().get(reading.told - before) {
+        Some(wait) => Ok(Some(wait_line(alloc, reading, wait)?)),
+        None => Ok(None),
+    }
 }
 
 fn change_at(
@@ -84,6 +95,17 @@ fn grant_line(alloc: Global, reading: &Reading, grant: &GrantChange) -> Result<S
         separator = '+';
     }
     Ok(line)
+}
+
+fn wait_line(alloc: Global, reading: &Reading, wait: &WaitEnd) -> Result<String, AllocError> {
+    let task = name_of(&reading.tasks, wait.seat);
+    let which = match wait.which {
+        Which::First => "first",
+        Which::Rise => "rise",
+        Which::Ask(_) => "ask",
+    };
+    let (reads, writes, units) = (wait.reads, wait.writes, wait.units);
+    format!(in alloc; "wait,{task},{which},{reads},{writes},{units} and its bound")
 }
 
 fn ledger_line(

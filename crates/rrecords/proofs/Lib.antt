@@ -5,3 +5,4 @@ pub mod Said
 pub mod Lengths
 pub mod Issues
 pub mod Made
+pub mod Waits

@@ -1,2 +1,3 @@
 pub mod Told
 pub mod Requests
+pub mod Waits

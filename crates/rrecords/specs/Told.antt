@@ -68,6 +68,11 @@ is_status (word.Entitled write_half) = true
 is_status (word.Satisfied write_half) = true
 is_status _ = false
 
+-- a word of a wait
+abbrev pub is_wait : Word → Bool
+is_wait (word.Wait which) = true
+is_wait _ = false
+
 -- what was told is this event, in normal form; or whatever read groups are declared, its request is refused by itself
 abbrev pub IsTold : EventTold → Event → Type 0
 IsTold (told.Event e) x = (x ≡ e) × IsNormalEvent e

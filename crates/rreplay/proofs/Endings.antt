@@ -1,6 +1,6 @@
 -- The report of an event list that was read to its end.
 use Rattle.std.proofs.Common.{◌≡◌, ℕ, ◌<◌, true, false, List, [], ◌∷◌, ◌++◌, map, length, Some, None, refl, sym, ap, subst, ◌≤◌, ◌∙◌, arith, cond, nat_lt, eqb-true}
-use Rattle.std.specs.Prelude.{Bool, Option, IfSome, IsSome, is_some, unwrap_or}
+use Rattle.std.specs.Prelude.{Bool, Option, Result, Ok, Err, IfOk, IfSome, IsSome, is_some, unwrap_or}
 use Rattle.std.specs.List.{range_with_len}
 use Rattle.std.proofs.lemmas.List.{same_lists}
 use Rattle.std.proofs.lemmas.List.FromFn.{length-map-range_with_len, get_or-map-range_with_len}
@@ -9,40 +9,45 @@ use Rattle.rexpand.specs.Groups.{ReadGroups}
 use Rattle.rforms.specs.Fields.{Names}
 use Rattle.rset.specs.declared.TheConstants.{SEATS}
 use Rattle.rclaim.specs.declared.event.Event.{Event}
-use Rattle.rmodel.specs.State.{LockState, opening}
+use Rattle.rmodel.specs.State.{LockState}
 use Rattle.rmodel.specs.Steps.{AreAccepted}
 use Rattle.rforms.specs.Heads.{read_groups, cap_or, opening_of}
 use Rattle.rforms.specs.Lines.{Ends}
-use Rattle.rforms.specs.Reports.{Report, Spells, IsLawful, ledger_after, declared_lines, history_lines}
+use Rattle.rforms.specs.Reports.{Entry, Report, Spells, IsLawful, ledger_after, declared_lines, history_lines}
 use Rattle.rforms.specs.SoFar.{SoFar, nothing_yet, entries_in, head_in, names_in, told_in, with_row}
 use Rattle.rforms.specs.Faults.{code_of, is_ended, read_all}
 use Rattle.rforms.specs.Takers.{HasTaken, list_code, is_list_done, KnowsSaid}
 use Rattle.rforms.specs.Texts.{report_text}
+use Rattle.rforms.specs.Waits.{all_ended, bound_in, ended_from}
 use Rattle.rforms.specs.declared.fault.Code.TheVariants.{NoEnd}
 use Rattle.rforms.proofs.facts.Walks.{no_fault}
-use Rattle.rforms.proofs.texts.Lists.{list_faults}
-use Rattle.rforms.proofs.forth.Rows.{spells}
+use Rattle.rforms.proofs.texts.Lists.{list_faults, list_told}
+use Rattle.rforms.proofs.forth.Rows.{right_bounds}
+use Rattle.rforms.proofs.lists.NoActs.{no_wrong_bound}
 use Rattle.rforms.proofs.written.Reaching.{accepted_from}
+use Rattle.rreport.specs.Behind.{past_in, IsToldWhole}
+use Rattle.rreport.specs.Gathered.{KnowsGathered}
 use Rattle.rreport.specs.Report.{ReportFields}
 use Rattle.rreport.specs.Told.{told, leaves_from}
 use Rattle.rreport.proofs.Parts.{parts_are}
+use Rattle.rwaits.specs.Past.{begun}
 use Rattle.rtrace.specs.Knows.{Knows}
 use Rattle.rtrace.specs.declared.reading.Reading.{Reading}
-use Rattle.rtrace.proofs.HeadSteps.{cap_fits}
-use Rattle.rreplay.specs.Names.{names_read}
 use Rattle.rreplay.specs.Stepping.{IsAtHead, AreStepsOf}
 use Rattle.rreplay.specs.declared.steps.Steps.{Steps}
-use Rattle.rreplay.specs.Replaying.{history_text}
+use Rattle.rreplay.specs.Names.{names_read}
+use Rattle.rreplay.specs.Replaying.{KnowsTelling, IsToldToEnd}
+use Rattle.rreplay.specs.declared.replaying.Telling.{Telling}
 use Rattle.rreplay.proofs.Replays.{names_are}
 
 -- a text that was taken has ended
 pub taken_ended : {T : Type 0} (whole : Bool) (Know : T → SoFar → Type 0) (bytes : List ℕ) (taker : T) (h : HasTaken (list_code whole) (is_list_done whole) NoEnd (KnowsSaid whole Know) bytes taker) → is_ended (read_all whole h.rows) ≡ true
 taken_ended whole Know bytes taker h = (no_fault (code_of whole) (with_row whole) is_ended NoEnd 1 nothing_yet h.rows (sym (list_faults whole h.rows) ∙ h.right)).1
 
--- and its records spell what they have said
-pub taken_spells : {T : Type 0} (whole : Bool) (Know : T → SoFar → Type 0) (bytes : List ℕ) (taker : T) (h : HasTaken (list_code whole) (is_list_done whole) NoEnd (KnowsSaid whole Know) bytes taker)
-    → Spells whole h.rows (told_in (read_all whole h.rows))
-taken_spells whole Know bytes taker h = let few = h.few in spells whole h.rows (omega (arith, few)) (sym (list_faults whole h.rows) ∙ h.right)
+-- and its records spell what they have said: no bound of an event list is wrong
+pub taken_spells : {T : Type 0} (Know : T → SoFar → Type 0) (bytes : List ℕ) (taker : T) (h : HasTaken (list_code false) (is_list_done false) NoEnd (KnowsSaid false Know) bytes taker)
+    → Spells false h.rows (told_in (read_all false h.rows))
+taken_spells Know bytes taker h = right_bounds false h.rows (list_told false Know bytes taker h) (no_wrong_bound h.rows)
 
 one_some : {X : Type 0} {x y : X} → Some x ≡ Some y → x ≡ y
 one_some e = cc
@@ -72,17 +77,50 @@ module _ (whole : Bool) (reading : Reading) (s : SoFar) (k : Knows whole reading
 pub so_many : (whole : Bool) (reading : Reading) (s : SoFar) → Knows whole reading s → length reading.ledgers.items ≡ length reading.resources
 so_many whole reading s k = k.ledgers.many ∙ ap (λ (xs : List (List ℕ)). length xs) (sym k.resources)
 
+-- what was made behind a list without events was told all of it
+pub told_none : (t : Telling) (reading : Reading) (s : SoFar) → Knows false reading s → is_ended s ≡ true → t.names ≡ names_read reading
+    → ((groups : ReadGroups) (cap : ℕ) → KnowsGathered t.gathered (begun groups (length reading.tasks) cap) []) → entries_in s ≡ [] → KnowsTelling t s
+unfolding ended_from
+told_none t reading s k ended named told none =
+    let last = eqb-true s.last 9 ended in
+    record {
+      names = named ∙ names_are reading s k;
+      far = omega (arith, last);
+      gathered = subst (λ (entries : List Entry). KnowsGathered t.gathered (past_in (head_in s) entries) (all_ended (head_in s) entries)) (sym none)
+          (subst (λ (seats : ℕ). KnowsGathered t.gathered (begun (read_groups (head_in s)) seats (head_in s).cap) []) (ap (λ (ts : List (List ℕ)). length ts) k.tasks) (told (read_groups (head_in s)) (head_in s).cap));
+    }
+
+-- the history of what was read to its end was told whole
+pub told_whole : (text : List (Option ℕ)) (telling : Telling) (reading : Reading) (s : SoFar) → IsToldToEnd text telling reading s → IsToldWhole text telling.gathered (names_in s) (head_in s) (entries_in s)
+told_whole text telling reading s h = record { told = h.history; known = h.told.gathered }
+
+-- its cap is that of the head, and at least 1
+pub cap_is : (reading : Reading) (s : SoFar) → Knows false reading s → cap_or reading.tasks reading.cap ≡ (head_in s).cap
+cap_is reading s k = λ i. cap_or (k.tasks i) (k.cap i)
+
+low_cap : (told : Option ℕ) (n : ℕ) → IfSome told (λ m. (1 ≤ m) × (m ≤ SEATS)) → 0 < n → 1 ≤ unwrap_or told n
+low_cap None n fits some = some
+low_cap (Some m) n fits some = fits.0
+
+pub some_cap : (reading : Reading) (s : SoFar) → Knows false reading s → is_ended s ≡ true → 1 ≤ (head_in s).cap
+some_cap reading s k ended = let last = eqb-true s.last 9 ended in low_cap s.cap (length s.tasks) k.capped (k.some_task (omega (arith, last)))
+
+-- what is made of a value is so in a weaker way too
+pub if_ok_weaker : {T E : Type 0} {P Q : T → Type 0} (r : Result T E) → ((x : T) → P x → Q x) → IfOk r P → IfOk r Q
+if_ok_weaker (Ok x) f h = f x h
+if_ok_weaker (Err e) f h = tt
+
 -- the parts that were made are the text of the report
-pub made_are : (reading : Reading) (s : SoFar) (names : Names) (history head made ending : List ℕ) (groups : ReadGroups) → Knows false reading s → is_ended s ≡ true → names ≡ names_read reading
+pub made_are : (reading : Reading) (s : SoFar) (names : Names) (head history ending : List ℕ) (groups : ReadGroups) → Knows false reading s → is_ended s ≡ true → names ≡ names_in s
     → reading.groups ≡ Some groups → head ≡ told names (declared_lines names.resources groups.groups names.tasks (Some (cap_or reading.tasks reading.cap)))
-    → history ≡ history_text s → made ≡ history → ending ≡ told names (leaves_from 0 reading.ledgers.items ++ Ends ∷ []) → head ++ (made ++ ending) ≡ report_text (told_in s)
-made_are reading s names history head made ending groups k ended named there e f is g =
+    → history ≡ told (names_in s) (history_lines true (bound_in (head_in s) (entries_in s)) (head_in s) [] (entries_in s)) → ending ≡ told names (leaves_from 0 reading.ledgers.items ++ Ends ∷ [])
+    → head ++ (history ++ ending) ≡ report_text (told_in s)
+made_are reading s names head history ending groups k ended own there e f g =
     let r : ReportFields = record { resources = s.resources; groups = read_groups (head_in s); tasks = s.tasks; cap = cap_or s.tasks s.cap; entries = entries_in s; ledgers = reading.ledgers.items } in
-    let own : names ≡ names_in s = named ∙ names_are reading s k in
-    parts_are r names groups.groups (cap_or reading.tasks reading.cap) reading.ledgers.items head made ending own
+    parts_are r names groups.groups (cap_or reading.tasks reading.cap) reading.ledgers.items head history ending own
     (ap (λ (o : ReadGroups). o.groups) (one_some (sym there ∙ groups_are false reading s k ended)))
     (λ i. cap_or (k.tasks i) (k.cap i)) refl (ledgers_are false reading s k) e
-    (is ∙ f ∙ ap (λ n. told n (history_lines true (head_in s) [] (entries_in s))) (sym own)) g
+    (f ∙ ap (λ n. told n (history_lines true (bound_in (head_in s) (entries_in s)) (head_in s) [] (entries_in s))) (sym own)) g
 
 -- ---- the steps of a list
 

@@ -10,8 +10,8 @@ use Rattle.rvalue.specs.declared.ledger.Edit.{Edit}
 use Rattle.rforms.specs.Records.{Row}
 use Rattle.rforms.specs.Fields.{Names}
 use Rattle.rforms.specs.Heads.{Head}
-use Rattle.rforms.specs.Lines.{Line, Opens, HasResource, HasGroup, HasTask, HasCap, Happens, Does, BecomesEntitled, BecomesSatisfied, Grants, Leaves, Ends}
-use Rattle.rforms.specs.Reports.{Entry, history_lines, change_lines, told_changes, lock_after}
+use Rattle.rforms.specs.Lines.{Line, Opens, HasResource, HasGroup, HasTask, HasCap, Happens, Does, BecomesEntitled, BecomesSatisfied, Grants, Waits, Leaves, Ends}
+use Rattle.rforms.specs.Reports.{Entry, history_lines, change_lines, wait_lines, lock_after}
 use Rattle.rforms.specs.SoFar.{SoFar, entries_in, head_in, lock_in, names_in, bare, with_act, with_line, with_meaning, with_row}
 use Rattle.rforms.specs.Faults.{code_of, is_act}
 use Rattle.rforms.proofs.facts.Fine.{IsFine}
@@ -19,8 +19,10 @@ use Rattle.rforms.proofs.facts.Said.{clean}
 use Rattle.rforms.proofs.lists.Histories.{history-push}
 use Rattle.rforms.proofs.lists.NoActs.{no_act}
 use Rattle.rforms.proofs.lists.Places.{placed, none_due, up_to_five}
-use Rattle.rreport.specs.Told.{told}
-use Rattle.rreport.proofs.Growing.{told-append}
+use Rattle.rforms.specs.Waits.{ended_in, no_bounds}
+use Rattle.rreport.specs.Open.{open_told}
+use Rattle.rreport.specs.Told.{step_told}
+use Rattle.rreport.proofs.Opening.{open-append}
 use Rattle.rreplay.specs.Replaying.{history_text}
 
 -- no list is longer by one item than itself
@@ -45,6 +47,7 @@ adds_event s Opens e plain earlier latest = refl
 adds_event s (BecomesEntitled seat half) e plain earlier latest = refl
 adds_event s (BecomesSatisfied seat half) e plain earlier latest = refl
 adds_event s (Grants seat set) e plain earlier latest = refl
+adds_event s (Waits seat stage cover bound) e plain earlier latest = refl
 adds_event s (Leaves place ledger) e plain earlier latest = refl
 adds_event s Ends e plain earlier latest = refl
 
@@ -62,6 +65,7 @@ far_same s (Does act) fine far = refl
 far_same s (BecomesEntitled seat half) fine far = refl
 far_same s (BecomesSatisfied seat half) fine far = refl
 far_same s (Grants seat set) fine far = refl
+far_same s (Waits seat stage cover bound) fine far = refl
 far_same s (Leaves place ledger) fine far = refl
 far_same s Ends fine far = refl
 
@@ -79,6 +83,7 @@ far_stays s (Does act) fine far = omega arith
 far_stays s (BecomesEntitled seat half) fine far = omega arith
 far_stays s (BecomesSatisfied seat half) fine far = omega arith
 far_stays s (Grants seat set) fine far = omega arith
+far_stays s (Waits seat stage cover bound) fine far = omega arith
 far_stays s (Leaves place ledger) fine far = omega arith
 far_stays s Ends fine far = omega arith
 
@@ -107,6 +112,7 @@ adds_act s (HasCap n) act plain earlier latest is = no_act_more s.latest act is 
 adds_act s (BecomesEntitled seat half) act plain earlier latest is = no_act_more s.latest act is latest
 adds_act s (BecomesSatisfied seat half) act plain earlier latest is = no_act_more s.latest act is latest
 adds_act s (Grants seat set) act plain earlier latest is = no_act_more s.latest act is latest
+adds_act s (Waits seat stage cover bound) act plain earlier latest is = no_act_more s.latest act is latest
 adds_act s (Leaves place ledger) act plain earlier latest is = no_act_more s.latest act is latest
 adds_act s Ends act plain earlier latest is = no_act_more s.latest act is latest
 
@@ -114,14 +120,16 @@ adds_act s Ends act plain earlier latest is = no_act_more s.latest act is latest
 
 -- the text of a history with one event more
 event_more : (head : Head) (names : Names) (earlier : List Entry) (e : Event)
-    → told names (history_lines true head [] (earlier ++ bare e ∷ []))
-    ≡ told names (history_lines true head [] earlier) ++ told names (Happens e ∷ told_changes (changes_between (lock_after head earlier) (next (lock_after head earlier) e)))
-unfolding change_lines
+    → open_told names (history_lines true no_bounds head [] (earlier ++ bare e ∷ []))
+    ≡ open_told names (history_lines true no_bounds head [] earlier)
+    ++ open_told names (Happens e ∷ step_told (changes_between (lock_after head earlier) (next (lock_after head earlier) e)) (ended_in head earlier e))
+unfolding change_lines wait_lines
 event_more head names earlier e =
-    ap (told names) (history-push true head [] earlier (bare e))
-    ∙ told-append names (history_lines true head [] earlier) (Happens e ∷ told_changes (changes_between (lock_after head earlier) (next (lock_after head earlier) e)))
+    ap (open_told names) (history-push true no_bounds head [] earlier (bare e))
+    ∙ open-append names (history_lines true no_bounds head [] earlier)
+    (Happens e ∷ step_told (changes_between (lock_after head earlier) (next (lock_after head earlier) e)) (ended_in head earlier e))
 
-pub no_text : (head : Head) (names : Names) → told names (history_lines true head [] []) ≡ []
+pub no_text : (head : Head) (names : Names) → open_told names (history_lines true no_bounds head [] []) ≡ []
 unfolding history_lines
 no_text head names = refl
 
@@ -136,13 +144,14 @@ module _ (s : SoFar) (row : Row) (right : code_of false s row ≡ None) where
   pub event_head : (e : Event) → (with_row false s row).earlier ≡ entries_in s → (with_row false s row).latest ≡ Some (bare e) → head_in (with_row false s row) ≡ head_in s
   event_head e = of_line (λ t. t.earlier ≡ entries_in s → t.latest ≡ Some (bare e) → head_in t ≡ head_in s) (λ line fine plain earlier latest. adds_event s line e plain earlier latest)
 
-  -- the text of the history grows by the event and its changes
+  -- the text of the history grows by the event, its changes, and the waits that it ended
   pub event_text : (e : Event) → (with_row false s row).earlier ≡ entries_in s → (with_row false s row).latest ≡ Some (bare e)
-      → history_text (with_row false s row) ≡ history_text s ++ told (names_in s) (Happens e ∷ told_changes (changes_between (lock_in s) (next (lock_in s) e)))
+      → history_text (with_row false s row)
+      ≡ history_text s ++ open_told (names_in s) (Happens e ∷ step_told (changes_between (lock_in s) (next (lock_in s) e)) (ended_in (head_in s) (entries_in s) e))
   event_text e earlier latest =
       let t = with_row false s row in
       let head = event_head e earlier latest in
-      (λ i. told (record { resources = (head i).resources; tasks = (head i).tasks }) (history_lines true (head i) [] (earlier i ++ option_to_list (latest i))))
+      (λ i. open_told (record { resources = (head i).resources; tasks = (head i).tasks }) (history_lines true no_bounds (head i) [] (earlier i ++ option_to_list (latest i))))
       ∙ event_more (head_in s) (names_in s) (entries_in s) e
 
   -- a record that adds no entry leaves the text
@@ -155,11 +164,11 @@ module _ (s : SoFar) (row : Row) (right : code_of false s row ≡ None) where
       at : (s.last ≤ 5) ⊎ (6 ≤ s.last) → history_text (with_row false s row) ≡ history_text s
       at (inl near) =
           let none = idle near in
-          ap (λ entries. told (names_in (with_row false s row)) (history_lines true (head_in (with_row false s row)) [] entries)) (same ∙ none) ∙ no_text (head_in (with_row false s row)) (names_in (with_row false s row))
-          ∙ sym (ap (λ entries. told (names_in s) (history_lines true (head_in s) [] entries)) none ∙ no_text (head_in s) (names_in s))
+          ap (λ entries. open_told (names_in (with_row false s row)) (history_lines true no_bounds (head_in (with_row false s row)) [] entries)) (same ∙ none) ∙ no_text (head_in (with_row false s row)) (names_in (with_row false s row))
+          ∙ sym (ap (λ entries. open_told (names_in s) (history_lines true no_bounds (head_in s) [] entries)) none ∙ no_text (head_in s) (names_in s))
       at (inr far) =
           let head = of_line (λ t. head_in t ≡ head_in s) (λ line fine plain. far_same s line fine far) in
-          (λ i. told (record { resources = (head i).resources; tasks = (head i).tasks }) (history_lines true (head i) [] (same i)))
+          (λ i. open_told (record { resources = (head i).resources; tasks = (head i).tasks }) (history_lines true no_bounds (head i) [] (same i)))
 
   -- behind the head the head stays
   pub far_head : 6 ≤ s.last → head_in (with_row false s row) ≡ head_in s

@@ -1,4 +1,4 @@
 pub mod Names
-pub mod Events
+pub mod Followed
 pub mod Replaying
 pub mod Stepping

@@ -1,29 +1,43 @@
 -- What is known while an event list is read and its report is made.
-use Rattle.std.specs.Prelude.{◌≡◌, ◌≤◌, ℕ, true, false, List, [], IfSome}
-use Rattle.rclaim.specs.declared.event.Event.{Event}
+use Rattle.std.specs.Prelude.{◌≡◌, ◌≤◌, ℕ, true, false, List, [], Option, None, IfSome}
+use Rattle.rforms.specs.Faults.{is_ended}
 use Rattle.rforms.specs.Reports.{history_lines}
 use Rattle.rforms.specs.SoFar.{SoFar, entries_in, head_in, names_in}
-use Rattle.rreport.specs.Told.{told}
+use Rattle.rforms.specs.Waits.{events_of, all_ended, no_bounds}
+use Rattle.rreport.specs.Behind.{past_in}
+use Rattle.rreport.specs.Gathered.{KnowsGathered}
+use Rattle.rreport.specs.Open.{open_told}
 use Rattle.rtrace.specs.Knows.{Knows}
-use Rattle.rreplay.specs.Events.{events_of}
+use Rattle.rtrace.specs.declared.reading.Reading.{Reading}
 use Rattle.rreplay.specs.declared.recording.Recording.{Recording}
 use Rattle.rreplay.specs.declared.replaying.Replaying.{Replaying}
+use Rattle.rreplay.specs.declared.replaying.Telling.{Telling}
 
--- the text of the history so far, as a report tells it
-abbrev pub history_text : SoFar → List ℕ
-history_text s = told (names_in s) (history_lines true (head_in s) [] (entries_in s))
+-- the text of the history so far, as a report tells it, with a gap for the bound of each wait
+abbrev pub history_text : SoFar → List (Option ℕ)
+history_text s = open_told (names_in s) (history_lines true no_bounds (head_in s) [] (entries_in s))
 
--- the events so far
-abbrev pub events_in : SoFar → List Event
-events_in s = events_of (entries_in s)
+-- what tells events has the names that were declared, none can follow, and it was told the events so far and the waits that they ended
+pub record KnowsTelling (telling : Telling) (s : SoFar) : Type 0 where
+  pub names : telling.names ≡ names_in s
+  pub far : 6 ≤ s.last
+  pub gathered : KnowsGathered telling.gathered (past_in (head_in s) (entries_in s)) (all_ended (head_in s) (entries_in s))
 
--- the reader knows what was said, the text is that of the history so far, and names stand ready only once none can follow
+-- the reader knows what was said, the text is that of the history so far, and what tells events is there from the first event on
 pub record KnowsReplay (replaying : Replaying) (s : SoFar) : Type 0 where
   pub reading : Knows false replaying.reading s
   pub history : replaying.history ≡ history_text s
-  pub names : IfSome replaying.names (λ names. (names ≡ names_in s) × (6 ≤ s.last))
+  pub telling : IfSome replaying.telling (λ telling. KnowsTelling telling s)
+  pub untold : replaying.telling ≡ None → entries_in s ≡ []
 
--- the same, and the events are kept
+-- the list was read to its end, the text is that of its history, and what tells events is there
+pub record IsToldToEnd (text : List (Option ℕ)) (telling : Telling) (reading : Reading) (s : SoFar) : Type 0 where
+  pub knows : Knows false reading s
+  pub ended : is_ended s ≡ true
+  pub history : text ≡ history_text s
+  pub told : KnowsTelling telling s
+
+-- the same as of a replay, and the events are kept
 pub record KnowsSteps (recording : Recording) (s : SoFar) : Type 0 where
   pub replay : KnowsReplay recording.replaying s
-  pub events : recording.events.items ≡ events_in s
+  pub events : recording.events.items ≡ events_of (entries_in s)

@@ -3,7 +3,7 @@ use Rattle.std.specs.Prelude.{◌≡◌}
 use Rattle.rmodel.specs.Steps.{AreAccepted}
 use Rattle.rforms.specs.Heads.{opening_of}
 use Rattle.rforms.specs.Reports.{Report}
-use Rattle.rreplay.specs.Events.{events_of}
+use Rattle.rforms.specs.Waits.{events_of}
 use Rattle.rreplay.specs.declared.steps.Steps.{Steps}
 
 -- its events, and a machine in the state before them

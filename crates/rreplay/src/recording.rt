@@ -70,6 +70,7 @@ impl Recording {
                 Err(_) => Err(RowErr::Memory),
             },
             Taken::Act(_) => Ok(()),
+            Taken::Wait(_) => Ok(()),
             Taken::Other => Ok(()),
         }
     }

@@ -1,26 +1,36 @@
 // An event list and its report, made in one pass.
-ghost use Rattle.std.specs.Prelude.{◌≡◌, ◌++◌, ◌∷◌, [], ◌<◌, ◌^◌, false, true, length, OnOk, IfOk, IfSome, IsSome, Some, None};
+ghost use Rattle.std.specs.Prelude.{◌≡◌, ◌≤◌, ◌++◌, ◌∷◌, [], ◌<◌, ◌^◌, ℕ, List, false, true, length, OnOk, IfOk, IsSome, Some, None};
 ghost use Rattle.csv.specs.Records.{fields_of};
 ghost use Rattle.rexpand.specs.Groups.{ReadGroups};
 ghost use Rattle.rforms.specs.Faults.{is_ended};
-ghost use Rattle.rforms.specs.Heads.{cap_or};
+ghost use Rattle.rforms.specs.Fields.{Names};
+ghost use Rattle.rforms.specs.Heads.{Head, cap_or, read_groups};
+ghost use Rattle.rforms.specs.Waits.{bound_in};
+ghost use Rattle.rreport.specs.Behind.{IsToldWhole};
 ghost use Rattle.rforms.specs.Lines.{Happens, Ends};
-ghost use Rattle.rforms.specs.Reports.{Report, told_changes, declared_lines};
-ghost use Rattle.rforms.specs.SoFar.{SoFar};
+ghost use Rattle.rforms.specs.Reports.{Report, Entry, declared_lines, history_lines};
+ghost use Rattle.rforms.specs.SoFar.{SoFar, told_in};
 ghost use Rattle.rforms.specs.Takers.{IsFirstFault};
 ghost use Rattle.rforms.specs.Texts.{IsTextOf, report_text};
 ghost use Rattle.rforms.specs.declared.fault.Code.{Code};
 ghost use Rattle.rforms.specs.declared.fault.Fault.{Fault};
-ghost use Rattle.rreport.specs.Told.{told, leaves_from};
-ghost use Rattle.rtrace.specs.Knows.{Knows, changes_in};
+ghost use Rattle.rreport.specs.Gathered.{KnowsGathered};
+ghost use Rattle.rreport.specs.Open.{open_told};
+ghost use Rattle.rreport.specs.Told.{told, step_told, leaves_from};
+ghost use Rattle.rcover.specs.Ended.{ended_by};
+ghost use Rattle.rcover.specs.declared.wait_end.WaitEnd.{WaitEnd};
+ghost use Rattle.rwaits.specs.Past.{Past, start_of, with_event, begun};
+ghost use Rattle.rtrace.specs.Knows.{changes_in};
 ghost use Rattle.rtrace.specs.Takes.{Adds};
+ghost use Rattle.rreplay.specs.Followed.{AreFollowed, IsTold};
 ghost use Rattle.rreplay.specs.Names.{names_read};
+ghost use Rattle.rreplay.specs.Replaying.{IsToldToEnd};
 
 use csv::ByteRecord;
-use rclaim::{Changes, Event};
+use rclaim::Event;
 use rforms::{Code, Records, RowErr, TextErr, take_text};
 use rmodel::Machine;
-use rreport::{NameRows, Page, ending_of, head_of, push_step};
+use rreport::{Gathered, NameRows, OpenText, Page, close_history, ending_of, head_of, push_step};
 use rtrace::{Reading, Taken};
 use std::alloc::{AllocError, Global};
 use std::mem;
@@ -30,10 +40,18 @@ use std::mem;
 pub struct Replayed {
     /// What stands before the history.
     pub head: Page,
-    /// Each event, and what it changes.
+    /// Each event, what it changes, and the waits that it ends.
     pub history: Page,
     /// The ledgers, and the end.
     pub ending: Page,
+}
+
+// What tells events, made at the first one: behind it no name is declared.
+#[derive(Drop)]
+pub(crate) struct Telling {
+    names: NameRows,
+    // The waits so far, until their bounds are known.
+    gathered: Gathered,
 }
 
 /// Takes an event list, and makes the text of its history as it goes: each event is stepped once.
@@ -41,9 +59,8 @@ pub struct Replayed {
 pub struct Replaying {
     pub(crate) alloc: Global,
     pub(crate) reading: Reading,
-    // Made at the first event, behind which no name is declared.
-    names: Option<NameRows>,
-    history: Page,
+    telling: Option<Telling>,
+    history: OpenText,
     // What the latest record told.
     pub(crate) taken: Taken,
 }
@@ -60,8 +77,8 @@ impl Replaying {
         Replaying {
             alloc,
             reading: Reading::new(alloc, false),
-            names: None,
-            history: Page::new(alloc),
+            telling: None,
+            history: OpenText::new(alloc),
             taken: Taken::Other,
         }
     }
@@ -81,7 +98,7 @@ impl Replaying {
                 let told = tell(
                     self.alloc,
                     &self.reading,
-                    &mut self.names,
+                    &mut self.telling,
                     &mut self.history,
                     event,
                 );
@@ -91,6 +108,7 @@ impl Replaying {
                 }
             }
             Taken::Act(_) => Ok(()),
+            Taken::Wait(_) => Ok(()),
             Taken::Other => Ok(()),
         }
     }
@@ -100,67 +118,116 @@ impl Replaying {
         requires { (s : SoFar) × KnowsReplay self.old s × (is_ended s ≡ true) }
         ensures { IfOk result (λ made. (s : SoFar) → KnowsReplay self.old s → is_ended s ≡ true → made.head ++ (made.history ++ made.ending) ≡ report_text (told_in s)) }
     {
-        let names = NameRows::new(self.alloc, &self.reading.resources, &self.reading.tasks)?;
-        let head = head_with(self.alloc, &names, &self.reading)?;
-        let ending = ending_with(self.alloc, &names, &self.reading)?;
-        let history = mem::replace(&mut self.history, Page::new(self.alloc));
-        Ok(Replayed {
-            head,
-            history,
-            ending,
-        })
+        let text = mem::replace(&mut self.history, OpenText::new(self.alloc));
+        match &self.telling {
+            Some(telling) => made_of(self.alloc, text, telling, &self.reading),
+            None => {
+                let telling = telling_of(self.alloc, &self.reading)?;
+                made_of(self.alloc, text, &telling, &self.reading)
+            }
+        }
     }
 }
 
-// Appends an event to the text with what it changed.
+// Appends an event to the text with what it changed and the waits that it ended, and keeps by what their bounds are found.
 fn tell(
     alloc: Global,
     reading: &Reading,
-    names: &mut Option<NameRows>,
-    history: &mut Page,
+    telling: &mut Option<Telling>,
+    history: &mut OpenText,
     event: &Event,
 ) -> Result<(), AllocError>
-    requires { IfSome names.old (λ rows. rows ≡ names_read reading.now) }
-    ensures names { OnOk result (IfSome names.new (λ rows. rows ≡ names_read reading.now)) }
-    ensures text { OnOk result (history.new ≡ history.old ++ told (names_read reading.now) (Happens event.now ∷ told_changes (changes_in reading.now.machine))) }
+    requires there { IsSome reading.now.machine × IsSome reading.now.following }
+    requires told { (p : Past) × (ws : List WaitEnd) × AreFollowed reading.now.following (with_event p event.now) × IsTold telling.old reading.now p ws }
+    ensures there { OnOk result (IsSome telling.new) }
+    ensures text { OnOk result ((p : Past) → AreFollowed reading.now.following (with_event p event.now)
+        → history.new ≡ history.old ++ open_told (names_read reading.now) (Happens event.now ∷ step_told (changes_in reading.now.machine) (ended_by (start_of p) p.events event.now))) }
+    ensures told { OnOk result ((p : Past) (ws : List WaitEnd) → AreFollowed reading.now.following (with_event p event.now) → IsTold telling.old reading.now p ws
+        → IsTold telling.new reading.now (with_event p event.now) (ws ++ ended_by (start_of p) p.events event.now)) }
 {
-    if names.is_none() {
-        make_names(alloc, reading, names)?;
-    }
-    match names {
-        Some(rows) => push(alloc, history, rows, reading, event),
-        None => unreachable!(),
+    match telling {
+        Some(telling) => push(history, telling, reading, event),
+        None => tell_first(alloc, reading, telling, history, event),
     }
 }
 
-// Makes the names that are not there, once: at the first event.
+// The same of the first event. Room for what tells events is left out of the path of each one.
 #[cold]
 #[inline(never)]
-fn make_names(
+fn tell_first(
     alloc: Global,
     reading: &Reading,
-    names: &mut Option<NameRows>,
+    telling: &mut Option<Telling>,
+    history: &mut OpenText,
+    event: &Event,
 ) -> Result<(), AllocError>
-    ensures { OnOk result (IsSome names.new × IfSome names.new (λ rows. rows ≡ names_read reading.now)) }
+    requires none { telling.old ≡ None }
+    requires there { IsSome reading.now.machine × IsSome reading.now.following }
+    requires told { (p : Past) × (ws : List WaitEnd) × AreFollowed reading.now.following (with_event p event.now) × IsTold telling.old reading.now p ws }
+    ensures there { OnOk result (IsSome telling.new) }
+    ensures text { OnOk result ((p : Past) → AreFollowed reading.now.following (with_event p event.now)
+        → history.new ≡ history.old ++ open_told (names_read reading.now) (Happens event.now ∷ step_told (changes_in reading.now.machine) (ended_by (start_of p) p.events event.now))) }
+    ensures told { OnOk result ((p : Past) (ws : List WaitEnd) → AreFollowed reading.now.following (with_event p event.now) → IsTold telling.old reading.now p ws
+        → IsTold telling.new reading.now (with_event p event.now) (ws ++ ended_by (start_of p) p.events event.now)) }
 {
-    *names = Some(NameRows::new(alloc, &reading.resources, &reading.tasks)?);
+    let mut made = telling_of(alloc, reading)?;
+    push(history, &mut made, reading, event)?;
+    *telling = Some(made);
     Ok(())
 }
 
-// Appends an event, and what the machine says that it changed.
+// What tells events, made at the first one.
+fn telling_of(alloc: Global, reading: &Reading) -> Result<Telling, AllocError>
+    ensures names { IfOk result (λ made. made.names ≡ names_read reading.now) }
+    ensures gathered { IfOk result (λ made. (groups : ReadGroups) (cap : ℕ) → KnowsGathered made.gathered (begun groups (length reading.now.tasks) cap) []) }
+{
+    Ok(Telling {
+        names: NameRows::new(alloc, &reading.resources, &reading.tasks)?,
+        gathered: Gathered::new(alloc, reading.tasks.len())?,
+    })
+}
+
+// Appends an event, with what it changed by the machine and the waits that it ended by the follower.
 fn push(
-    alloc: Global,
-    history: &mut Page,
-    rows: &NameRows,
+    history: &mut OpenText,
+    telling: &mut Telling,
     reading: &Reading,
     event: &Event,
 ) -> Result<(), AllocError>
-    ensures { OnOk result (history.new ≡ history.old ++ told rows.now (Happens event.now ∷ told_changes (changes_in reading.now.machine))) }
+    requires there { IsSome reading.now.machine × IsSome reading.now.following }
+    requires told { (p : Past) × (ws : List WaitEnd) × AreFollowed reading.now.following (with_event p event.now) × KnowsGathered telling.old.gathered p ws }
+    ensures names { telling.new.names ≡ telling.old.names }
+    ensures text { OnOk result ((p : Past) → AreFollowed reading.now.following (with_event p event.now)
+        → history.new ≡ history.old ++ open_told telling.old.names (Happens event.now ∷ step_told (changes_in reading.now.machine) (ended_by (start_of p) p.events event.now))) }
+    ensures gathered { OnOk result ((p : Past) (ws : List WaitEnd) → AreFollowed reading.now.following (with_event p event.now) → KnowsGathered telling.old.gathered p ws
+        → KnowsGathered telling.new.gathered (with_event p event.now) (ws ++ ended_by (start_of p) p.events event.now)) }
 {
-    match &reading.machine {
-        Some(machine) => push_step(history, rows, event, machine.changes()),
-        None => push_step(history, rows, event, &Changes::new(alloc)?),
-    }
+    let (Some(machine), Some(following)) = (&reading.machine, &reading.following) else {
+        unreachable!()
+    };
+    let ended = following.ended();
+    push_step(history, &telling.names, event, machine.changes(), ended)?;
+    telling.gathered.tell(event, ended)
+}
+
+// The report of what was read to its end and told whole.
+fn made_of(
+    alloc: Global,
+    text: OpenText,
+    telling: &Telling,
+    reading: &Reading,
+) -> Result<Replayed, AllocError>
+    requires { (s : SoFar) × IsToldToEnd text telling.now reading.now s }
+    ensures { IfOk result (λ made. (s : SoFar) → IsToldToEnd text telling.now reading.now s → made.head ++ (made.history ++ made.ending) ≡ report_text (told_in s)) }
+{
+    let head = head_with(alloc, &telling.names, reading)?;
+    let ending = ending_with(alloc, &telling.names, reading)?;
+    let history = history_with(alloc, text, &telling.gathered, reading)?;
+    Ok(Replayed {
+        head,
+        history,
+        ending,
+    })
 }
 
 impl Records for Replaying {
@@ -202,6 +269,27 @@ fn head_with(alloc: Global, names: &NameRows, reading: &Reading) -> Result<Page,
         Some(groups) => {
             let cap = reading.cap.unwrap_or(reading.tasks.len());
             head_of(alloc, names, groups, cap)
+        }
+        None => unreachable!(),
+    }
+}
+
+// The text of the history that was told whole, with the bounds of its waits.
+fn history_with(
+    alloc: Global,
+    text: OpenText,
+    gathered: &Gathered,
+    reading: &Reading,
+) -> Result<Page, AllocError>
+    requires { (names : Names) × (head : Head) × (entries : List Entry) × IsToldWhole text gathered.now names head entries
+        × (reading.now.groups ≡ Some (read_groups head)) × (cap_or reading.now.tasks reading.now.cap ≡ head.cap) × (1 ≤ head.cap) }
+    ensures { IfOk result (λ page. (names : Names) (head : Head) (entries : List Entry) → IsToldWhole text gathered.now names head entries
+        → reading.now.groups ≡ Some (read_groups head) → cap_or reading.now.tasks reading.now.cap ≡ head.cap → page ≡ told names (history_lines true (bound_in head entries) head [] entries)) }
+{
+    match &reading.groups {
+        Some(groups) => {
+            let cap = reading.cap.unwrap_or(reading.tasks.len());
+            close_history(alloc, text, gathered, groups, cap)
         }
         None => unreachable!(),
     }

@@ -1,8 +1,13 @@
+pub mod Gaps
+pub mod Filling
+pub mod Opening
 pub mod Puts
 pub mod Rows
 pub mod Sets
 pub mod Tables
 pub mod Growing
 pub mod Writing
+pub mod Gathering
+pub mod Closing
 pub mod Stepping
 pub mod Parts

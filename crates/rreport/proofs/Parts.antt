@@ -12,6 +12,7 @@ use Rattle.rforms.specs.Heads.{Head, names_of, is_nil}
 use Rattle.rforms.specs.Lines.{Leaves, Ends}
 use Rattle.rforms.specs.Reports.{Entry, ledger_after, declared_lines, history_lines, ledger_lines}
 use Rattle.rforms.specs.Texts.{report_text}
+use Rattle.rforms.specs.Waits.{bound_in}
 use Rattle.rreport.specs.Report.{ReportFields, told_by, HasItsLedgers}
 use Rattle.rreport.specs.Told.{told, leaves_from}
 use Rattle.rreport.proofs.Growing.{told-append}
@@ -39,16 +40,16 @@ some_length (x ∷ xs) some = omega arith
 -- head, history and ending are the text of the report
 pub parts_are : (r : ReportFields) (names : Names) (groups : List Set) (cap : ℕ) (ledgers : List Ledger) (head history ending : List ℕ)
     → names ≡ names_of (told_by r).head → groups ≡ r.groups.groups → cap ≡ r.cap → ledgers ≡ r.ledgers → HasItsLedgers r
-    → head ≡ told names (declared_lines names.resources groups names.tasks (Some cap)) → history ≡ told names (history_lines true (told_by r).head [] r.entries)
+    → head ≡ told names (declared_lines names.resources groups names.tasks (Some cap)) → history ≡ told names (history_lines true (bound_in (told_by r).head r.entries) (told_by r).head [] r.entries)
     → ending ≡ told names (leaves_from 0 ledgers ++ Ends ∷ []) → head ++ (history ++ ending) ≡ report_text (told_by r)
 parts_are r names groups cap ledgers head history ending named grouped capped same has e f g =
     let h : Head = (told_by r).head in
     let own : Names = names_of h in
     let first : head ≡ told own (declared_lines h.resources h.groups h.tasks (Some h.cap)) =
     e ∙ (λ i. told (named i) (declared_lines (named i).resources (grouped i) (named i).tasks (Some (capped i)))) in
-    let second : history ≡ told own (history_lines true h [] r.entries) = f ∙ ap (λ n. told n (history_lines true h [] r.entries)) named in
+    let second : history ≡ told own (history_lines true (bound_in h r.entries) h [] r.entries) = f ∙ ap (λ n. told n (history_lines true (bound_in h r.entries) h [] r.entries)) named in
     let third : ending ≡ told own (ledger_lines true h r.entries ++ Ends ∷ []) =
     g ∙ (λ i. told (named i) (leaves_from 0 ((same ∙ has) i) ++ Ends ∷ [])) ∙ ap (λ lines. told own (lines ++ Ends ∷ [])) (ledgers_are h r.entries) in
     (λ i. first i ++ (second i ++ third i))
-    ∙ ap (λ t. told own (declared_lines h.resources h.groups h.tasks (Some h.cap)) ++ t) (sym (told-append own (history_lines true h [] r.entries) (ledger_lines true h r.entries ++ Ends ∷ [])))
-    ∙ sym (told-append own (declared_lines h.resources h.groups h.tasks (Some h.cap)) (history_lines true h [] r.entries ++ (ledger_lines true h r.entries ++ Ends ∷ [])))
+    ∙ ap (λ t. told own (declared_lines h.resources h.groups h.tasks (Some h.cap)) ++ t) (sym (told-append own (history_lines true (bound_in h r.entries) h [] r.entries) (ledger_lines true h r.entries ++ Ends ∷ [])))
+    ∙ sym (told-append own (declared_lines h.resources h.groups h.tasks (Some h.cap)) (history_lines true (bound_in h r.entries) h [] r.entries ++ (ledger_lines true h r.entries ++ Ends ∷ [])))

@@ -19,7 +19,7 @@ use Rattle.rforms.specs.Words.{fields_of, yes_or_no}
 use Rattle.rforms.specs.declared.word.Word.TheVariants as word
 
 -- the fields behind the first, each behind its comma, and the end of the line
-abbrev ends : Row → List ℕ
+abbrev pub ends : Row → List ℕ
 ends [] = 10 ∷ []
 ends (field ∷ fields) = behind_comma field ++ ends fields
 
@@ -27,7 +27,7 @@ line_ends : (fields : Row) → flat_map behind_comma fields ++ 10 ∷ [] ≡ end
 line_ends [] = refl
 line_ends (field ∷ fields) = append_assoc (behind_comma field) (flat_map behind_comma fields) (10 ∷ []) ∙ ap (λ xs. behind_comma field ++ xs) (line_ends fields)
 
-line_is : (first : List ℕ) (fields : Row) → line_text (first ∷ fields) ≡ first ++ ends fields
+pub line_is : (first : List ℕ) (fields : Row) → line_text (first ∷ fields) ≡ first ++ ends fields
 line_is first fields = append_assoc first (flat_map behind_comma fields) (10 ∷ []) ∙ ap (λ xs. first ++ xs) (line_ends fields)
 
 -- how a claim is named, behind a comma

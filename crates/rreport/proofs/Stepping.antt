@@ -1,19 +1,25 @@
 -- A history that is stepped through once more.
-use Rattle.std.proofs.Common.{◌≡◌, ℕ, zero, suc, ◌+◌, ◌<◌, true, List, [], ◌∷◌, ◌++◌, take, length, get_or, sym, ap, subst, ◌∙◌, arith, append_assoc}
-use Rattle.std.proofs.lemmas.List.{append-nil, take_more}
-use Rattle.rclaim.specs.Changes.{ChangeLists}
+use Rattle.std.proofs.Common.{◌≡◌, ℕ, zero, suc, ◌+◌, ◌<◌, ◌^◌, true, List, [], ◌∷◌, ◌++◌, take, length, get_or, Option, refl, sym, ap, subst, ◌∙◌, arith, append_assoc}
+use Rattle.std.proofs.lemmas.List.{append-nil, map-append, take_more, length-map, length-take-le}
 use Rattle.rclaim.specs.declared.event.Event.{Event}
-use Rattle.rmodel.specs.State.{LockState}
+use Rattle.rcover.specs.Ended.{ended_by}
 use Rattle.rmodel.specs.Changes.{changes_between}
-use Rattle.rmodel.specs.Steps.{Comes, next}
+use Rattle.rmodel.specs.State.{LockState}
+use Rattle.rmodel.specs.Steps.{AreAccepted, Comes, next}
 use Rattle.rvalue.specs.InTurn.{AllInTurn}
+use Rattle.rwaits.specs.Past.{Past, start_of, state_of, with_event}
 use Rattle.rforms.specs.Fields.{Names}
-use Rattle.rforms.specs.Heads.{Head}
-use Rattle.rforms.specs.Reports.{Entry, lock_after, entry_lines, history_lines, change_lines, IsLawful, IsRightEntry}
+use Rattle.rforms.specs.Heads.{Head, opening_of, read_groups}
+use Rattle.rforms.specs.Reports.{Entry, lock_after, entry_lines, history_lines, change_lines, wait_lines, IsLawful, IsRightEntry}
+use Rattle.rforms.specs.Waits.{events_of, ended_in, ended_from, all_ended, no_bounds}
 use Rattle.rforms.proofs.lists.Histories.{history-push}
-use Rattle.rforms.proofs.written.Reaching.{lock-push}
-use Rattle.rreport.specs.Told.{told, entry_told}
-use Rattle.rreport.proofs.Growing.{grown}
+use Rattle.rforms.proofs.lists.ToldWaits.{all_ended_push}
+use Rattle.rforms.proofs.written.Reaching.{after_is, accepted_from}
+use Rattle.rreport.specs.Behind.{past_in}
+use Rattle.rreport.specs.Open.{open_told}
+use Rattle.rreport.specs.Report.{ReportFields, told_by, IsOverResources}
+use Rattle.rreport.specs.Told.{entry_told}
+use Rattle.rreport.proofs.Opening.{open_grown}
 
 -- what holds of each item in turn holds of the item at a place
 in_turn_at : {A : Type 0} (Fits : List A → A → Type 0) (earlier xs : List A) (i : ℕ) (d : A) → AllInTurn Fits earlier xs → i < length xs → Fits (earlier ++ take i xs) (get_or xs i d)
@@ -22,43 +28,68 @@ in_turn_at Fits earlier (x ∷ xs) zero d all within = subst (λ before. Fits be
 in_turn_at Fits earlier (x ∷ xs) (suc i) d all within =
     subst (λ before. Fits before (get_or xs i d)) (append_assoc earlier (x ∷ []) (take i xs)) (in_turn_at Fits (earlier ++ x ∷ []) xs i d all.1 (omega (arith, within)))
 
-module _ (head : Head) (entries : List Entry) (i : ℕ) (x : Entry) where
-  -- the event of the entry at a place comes to the state that those before it lead to
-  comes_at : IsLawful head entries → i < length entries → x ≡ get_or entries i x → Comes (lock_after head (take i entries)) x.event
-  comes_at lawful within at =
+-- the state behind entries is the one that the lock has after them
+state_is : (head : Head) (entries : List Entry) → state_of (past_in head entries) ≡ lock_after head entries
+state_is head entries = after_is (opening_of head) (events_of entries)
+
+-- the events of a lawful history are accepted, one after another
+pub all_accepted : (head : Head) (entries : List Entry) → IsLawful head entries → AreAccepted (start_of (past_in head entries)) (events_of entries)
+all_accepted head entries lawful = accepted_from head [] entries lawful
+
+module _ (head : Head) (entries : List Entry) (i : ℕ) (x : Entry) (within : i < length entries) (at : x ≡ get_or entries i x) where
+  abbrev before : Past
+  before = past_in head (take i entries)
+
+  -- the event of the entry at a place comes behind those before it
+  pub comes_here : IsLawful head entries → Comes (state_of before) x.event
+  comes_here lawful =
+      subst (λ (s : LockState). Comes s x.event) (sym (state_is head (take i entries)))
       (subst (λ (y : Entry). IsRightEntry head (take i entries) y) (sym at) (in_turn_at (IsRightEntry head) [] entries i x lawful within)).comes
 
-  -- a machine that is there may take it
-  pub comes_here : (state : LockState) (event : Event) (all : List Entry) → entries ≡ all → IsLawful head all → i < length entries → x ≡ get_or entries i x
-      → state ≡ lock_after head (take i entries) → event ≡ x.event → Comes state event
-  comes_here state event all same lawful within at there of =
-      let comes = comes_at (subst (λ (some : List Entry). IsLawful head some) (sym same) lawful) within at in
-      subst (λ (s : LockState). Comes s event) (sym there) (subst (λ (e : Event). Comes (lock_after head (take i entries)) e) (sym of) comes)
+  -- there are fewer events than may be
+  pub few_events : length entries < 2 ^ 63 → length before.events < 2 ^ 63
+  few_events few =
+      let events = length-map (take i entries) (λ (entry : Entry). entry.event) in
+      let front = length-take-le i entries (omega (arith, within)) in
+      omega arith
 
-  more : i < length entries → x ≡ get_or entries i x → take (i + 1) entries ≡ take i entries ++ x ∷ []
-  more within at = take_more entries i x within ∙ ap (λ y. take i entries ++ y ∷ []) (sym at)
+  more : take (i + 1) entries ≡ take i entries ++ x ∷ []
+  more = take_more entries i x within ∙ ap (λ y. take i entries ++ y ∷ []) (sym at)
 
-  -- the state after one entry more
-  pub state_more : i < length entries → x ≡ get_or entries i x → next (lock_after head (take i entries)) x.event ≡ lock_after head (take (i + 1) entries)
-  state_more within at = sym (lock-push head (take i entries) x) ∙ ap (lock_after head) (sym (more within at))
+  -- the events with that of the entry
+  pub past_more : with_event before x.event ≡ past_in head (take (i + 1) entries)
+  past_more = ap (λ (es : List Event). record before { events = es }) (sym (map-append (λ (entry : Entry). entry.event) (take i entries) (x ∷ []))) ∙ ap (past_in head) (sym more)
 
-  entry_is : (changes : ChangeLists) → changes ≡ changes_between (lock_after head (take i entries)) (next (lock_after head (take i entries)) x.event)
-      → entry_told x changes ≡ entry_lines true head (take i entries) x
-  unfolding change_lines
-  entry_is changes is = ap (entry_told x) is
+  -- the waits that ended, with those that the entry's event ended
+  pub ended_more : all_ended head (take i entries) ++ ended_by (start_of before) before.events x.event ≡ all_ended head (take (i + 1) entries)
+  unfolding ended_in
+  ended_more = sym (all_ended_push head (take i entries) x) ∙ ap (all_ended head) (sym more)
+
+  entry_is : entry_told x (changes_between (state_of before) (next (state_of before) x.event)) (ended_by (start_of before) before.events x.event) ≡ entry_lines true no_bounds head (take i entries) x
+  unfolding change_lines wait_lines ended_in
+  entry_is = ap (λ (s : LockState). entry_told x (changes_between s (next s x.event)) (ended_by (start_of before) before.events x.event)) (state_is head (take i entries))
 
   -- the text of one entry more
-  pub text_more : (names : Names) (changes : ChangeLists) (old sofar now : List ℕ) → i < length entries → x ≡ get_or entries i x
-      → changes ≡ changes_between (lock_after head (take i entries)) (next (lock_after head (take i entries)) x.event)
-      → sofar ≡ old ++ told names (history_lines true head [] (take i entries)) → now ≡ sofar ++ told names (entry_told x changes)
-      → now ≡ old ++ told names (history_lines true head [] (take (i + 1) entries))
-  text_more names changes old sofar now within at is e f =
-      grown names old sofar now (history_lines true head [] (take i entries)) (entry_told x changes) e f
-      ∙ ap (λ lines. old ++ told names (history_lines true head [] (take i entries) ++ lines)) (entry_is changes is)
-      ∙ ap (λ lines. old ++ told names lines) (sym (history-push true head [] (take i entries) x))
-      ∙ ap (λ some. old ++ told names (history_lines true head [] some)) (sym (more within at))
+  pub text_more : (names : Names) (old sofar now : List (Option ℕ))
+      → sofar ≡ old ++ open_told names (history_lines true no_bounds head [] (take i entries))
+      → now ≡ sofar ++ open_told names (entry_told x (changes_between (state_of before) (next (state_of before) x.event)) (ended_by (start_of before) before.events x.event))
+      → now ≡ old ++ open_told names (history_lines true no_bounds head [] (take (i + 1) entries))
+  text_more names old sofar now e f =
+      open_grown names old sofar now (history_lines true no_bounds head [] (take i entries)) _ e f
+      ∙ ap (λ lines. old ++ open_told names (history_lines true no_bounds head [] (take i entries) ++ lines)) entry_is
+      ∙ ap (λ lines. old ++ open_told names lines) (sym (history-push true no_bounds head [] (take i entries) x))
+      ∙ ap (λ some. old ++ open_told names (history_lines true no_bounds head [] some)) (sym more)
 
 -- nothing was appended yet
-pub nothing_told : (names : Names) (head : Head) (page : List ℕ) → page ≡ page ++ told names (history_lines true head [] [])
+pub nothing_told : (names : Names) (head : Head) (text : List (Option ℕ)) → text ≡ text ++ open_told names (history_lines true no_bounds head [] [])
 unfolding history_lines
-nothing_told names head page = sym (append-nil page)
+nothing_told names head text = sym (append-nil text)
+
+-- and no wait ended
+pub nothing_ended : (head : Head) → all_ended head [] ≡ []
+unfolding ended_from
+nothing_ended head = refl
+
+-- the groups of a report over its resources are those of its head
+pub groups_are : (r : ReportFields) → IsOverResources r → r.groups ≡ read_groups (told_by r).head
+groups_are r over = λ i. record { q = over i; groups = r.groups.groups }

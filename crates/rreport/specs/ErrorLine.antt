@@ -5,7 +5,7 @@ use Rattle.rmodel.specs.declared.refused.Refused.TheVariants as refused
 use Rattle.rforms.specs.Records.{Row}
 use Rattle.rforms.specs.Texts.{line_text}
 use Rattle.rforms.specs.declared.fault.Code.{Code}
-use Rattle.rforms.specs.declared.fault.Code.TheVariants.{BadField, UnknownName, BadOrder, Refused, WrongChange, WrongShow, WrongLedger, NoEnd}
+use Rattle.rforms.specs.declared.fault.Code.TheVariants.{BadField, UnknownName, BadOrder, Refused, WrongChange, WrongShow, WrongLedger, NoEnd, WrongBound}
 use Rattle.rforms.specs.declared.fault.Refusal.{Refusal}
 use Rattle.rforms.specs.declared.fault.Refusal.TheVariants.{Request, Step}
 use Rattle.rforms.specs.declared.fault.Fault.{Fault}
@@ -32,6 +32,7 @@ code_number WrongChange = 5
 code_number WrongShow = 6
 code_number WrongLedger = 7
 code_number NoEnd = 8
+code_number WrongBound = 9
 
 -- what is told behind the code: of a refused event the number of the refusal
 abbrev pub refusal_fields : Code → Row
@@ -43,6 +44,7 @@ refusal_fields WrongChange = []
 refusal_fields WrongShow = []
 refusal_fields WrongLedger = []
 refusal_fields NoEnd = []
+refusal_fields WrongBound = []
 
 -- the line that is written of an input with this fault
 abbrev pub error_line : Fault Code → List ℕ

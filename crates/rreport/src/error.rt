@@ -36,7 +36,8 @@ fn push_refusal(text: &mut Vec<u8>, code: Code) -> Result<(), AllocError>
         | Code::WrongChange
         | Code::WrongShow
         | Code::WrongLedger
-        | Code::NoEnd => Ok(()),
+        | Code::NoEnd
+        | Code::WrongBound => Ok(()),
     }
 }
 
@@ -62,6 +63,7 @@ pub fn code_number(code: Code) -> u64
         Code::WrongShow => 6,
         Code::WrongLedger => 7,
         Code::NoEnd => 8,
+        Code::WrongBound => 9,
     }
 }
 

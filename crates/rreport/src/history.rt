@@ -1,20 +1,35 @@
-// The text of a history: a machine of its own steps through it once more, and tells what each event changes.
-ghost use Rattle.std.specs.Prelude.{◌≡◌, ◌++◌, [], true, OnOk, IfOk};
-ghost use Rattle.rforms.specs.Heads.{opening_of};
+// The text of a history: a machine of its own steps through it once more, and tells what each event changes; a follower
+// beside it tells which waits each event ends.
+ghost use Rattle.std.specs.Prelude.{◌≡◌, ◌<◌, ◌^◌, ◌++◌, [], true, List, length, OnOk, IfOk};
+ghost use Rattle.rcover.specs.Ended.{ended_by};
+ghost use Rattle.rcover.specs.declared.wait_end.WaitEnd.{WaitEnd};
+ghost use Rattle.rmodel.specs.Changes.{changes_between};
+ghost use Rattle.rmodel.specs.Steps.{Comes, next};
+ghost use Rattle.rwaits.specs.Past.{Past, start_of, state_of, with_event};
 ghost use Rattle.rforms.specs.Reports.{history_lines, IsLawful};
+ghost use Rattle.rforms.specs.Waits.{bound_in, no_bounds, all_ended};
 ghost use Rattle.rforms.specs.Written.{MayBeWritten};
+ghost use Rattle.rreport.specs.Behind.{past_in, AreBehind, TookNext};
+ghost use Rattle.rreport.specs.Gathered.{KnowsGathered};
+ghost use Rattle.rreport.specs.Open.{open_told};
 ghost use Rattle.rreport.specs.Report.{told_by, IsOverResources};
-ghost use Rattle.rreport.specs.Told.{told};
+ghost use Rattle.rreport.specs.Told.{told, entry_told};
 
+use crate::close::close_history;
+use crate::gathered::Gathered;
 use crate::names::NameRows;
+use crate::open::OpenText;
 use crate::page::Page;
 use crate::report::Report;
 use crate::step::push_entry;
+use rclaim::Event;
 use rmodel::Machine;
 use rplain::Plain;
+use rvalue::{Edit, Entry};
+use rwaits::Following;
 use std::alloc::{AllocError, Global};
 
-/// The text of the history of a report: each event, what its section did, and what it changes.
+/// The text of the history of a report: each event, what its section did, what it changes, and the waits that it ends.
 ///
 /// # Errors
 ///
@@ -22,30 +37,74 @@ use std::alloc::{AllocError, Global};
 pub fn history_of(alloc: Global, names: &NameRows, report: &Report) -> Result<Page, AllocError>
     requires may { MayBeWritten (told_by report.now) }
     requires over { IsOverResources report.now }
-    ensures { IfOk result (λ page. page ≡ told names.now (history_lines true (told_by report.now).head [] report.now.entries)) }
+    ensures { IfOk result (λ page. page ≡ told names.now (history_lines true (bound_in (told_by report.now).head report.now.entries) (told_by report.now).head [] report.now.entries)) }
 {
     let groups = report.groups.copy(alloc)?;
     let mut machine = Plain::new(alloc, groups, report.tasks.len(), report.cap)?;
-    let mut page = Page::new(alloc);
-    push_entries(&mut page, names, &mut machine, report)?;
-    Ok(page)
+    let mut following = Following::new(alloc)?;
+    let mut gathered = Gathered::new(alloc, report.tasks.len())?;
+    let mut text = OpenText::new(alloc);
+    push_entries(
+        &mut text,
+        names,
+        &mut machine,
+        &mut following,
+        &mut gathered,
+        report,
+    )?;
+    close_history(alloc, text, &gathered, &report.groups, report.cap)
 }
 
 // Appends the lines of all entries, through which the machine steps.
 fn push_entries(
-    page: &mut Page,
+    text: &mut OpenText,
     names: &NameRows,
     machine: &mut Plain,
+    following: &mut Following,
+    gathered: &mut Gathered,
     report: &Report,
 ) -> Result<(), AllocError>
-    requires opening { machine.old.state ≡ opening_of (told_by report.now).head }
+    requires behind { AreBehind machine.old.state following.old (past_in (told_by report.now).head []) }
+    requires untold { KnowsGathered gathered.old (past_in (told_by report.now).head []) [] }
     requires lawful { IsLawful (told_by report.now).head report.now.entries }
-    ensures { OnOk result (page.new ≡ page.old ++ told names.now (history_lines true (told_by report.now).head [] report.now.entries)) }
+    ensures text { OnOk result (text.new ≡ text.old ++ open_told names.now (history_lines true no_bounds (told_by report.now).head [] report.now.entries)) }
+    ensures gathered { OnOk result (KnowsGathered gathered.new (past_in (told_by report.now).head report.now.entries) (all_ended (told_by report.now).head report.now.entries)) }
 {
     let entries = report.history.entries();
     for entry in entries {
-        machine.step(entry.event).unwrap();
-        push_entry(page, names, entry, machine.changes())?;
+        push_next(text, names, machine, following, gathered, entry)?;
     }
     Ok(())
+}
+
+// Steps by the event of an entry, and appends the lines of the entry.
+fn push_next(
+    text: &mut OpenText,
+    names: &NameRows,
+    machine: &mut Plain,
+    following: &mut Following,
+    gathered: &mut Gathered,
+    entry: &Entry<Edit>,
+) -> Result<(), AllocError>
+    requires { (p : Past) × (ws : List WaitEnd) × AreBehind machine.old.state following.old p × KnowsGathered gathered.old p ws
+        × Comes (state_of p) entry.now.event × (length p.events < 2 ^ 63) }
+    ensures behind { OnOk result ((p : Past) → AreBehind machine.old.state following.old p → Comes (state_of p) entry.now.event
+        → AreBehind machine.new.state following.new (with_event p entry.now.event)) }
+    ensures text { OnOk result ((p : Past) → AreBehind machine.old.state following.old p → Comes (state_of p) entry.now.event
+        → text.new ≡ text.old ++ open_told names.now (entry_told entry.now (changes_between (state_of p) (next (state_of p) entry.now.event)) (ended_by (start_of p) p.events entry.now.event))) }
+    ensures gathered { OnOk result ((p : Past) (ws : List WaitEnd) → AreBehind machine.old.state following.old p → KnowsGathered gathered.old p ws
+        → Comes (state_of p) entry.now.event
+        → KnowsGathered gathered.new (with_event p entry.now.event) (ws ++ ended_by (start_of p) p.events entry.now.event)) }
+{
+    advance(machine, following, &entry.event);
+    push_entry(text, names, entry, machine.changes(), following.ended())?;
+    gathered.tell(&entry.event, following.ended())
+}
+
+// The machine takes an event that comes to it, and the follower follows it.
+fn advance(machine: &mut Plain, following: &mut Following, event: &Event)
+    requires { (p : Past) × AreBehind machine.old.state following.old p × Comes (state_of p) event.now × (length p.events < 2 ^ 63) }
+    ensures { (p : Past) → AreBehind machine.old.state following.old p → Comes (state_of p) event.now → TookNext machine.new following.new p event.now }
+{
+    let _accepted = following.step(machine, event);
 }

@@ -7,23 +7,30 @@
 
 mod act;
 mod change;
+mod close;
 mod ending;
 mod error;
 mod event;
 mod frame;
+mod gathered;
 mod head;
 mod history;
 mod names;
+mod open;
 mod page;
 mod pieces;
 mod report;
 mod step;
+mod wait;
 mod write;
 
+pub use close::close_history;
 pub use ending::ending_of;
 pub use error::{code_number, error_line, refusal_number};
+pub use gathered::Gathered;
 pub use head::head_of;
 pub use names::NameRows;
+pub use open::OpenText;
 pub use page::Page;
 pub use report::Report;
 pub use step::{push_entry, push_step};

@@ -1,9 +1,11 @@
 // A text that grows line by line, with room made ahead.
-ghost use Rattle.std.specs.Prelude.{◌≡◌, ◌≤◌, ◌<◌, ◌+◌, ◌++◌, [], take, vec_len, OnOk, OnErr};
+ghost use Rattle.std.specs.Prelude.{◌≡◌, ◌≤◌, ◌<◌, ◌+◌, ◌++◌, [], length, take, vec_len, OnOk, OnErr};
 ghost use Rattle.rforms.specs.Fields.{Names};
 ghost use Rattle.rforms.specs.Lines.{HasResource, HasGroup, HasTask, HasCap, Happens, Does, Leaves};
 ghost use Rattle.rforms.specs.Reports.{status_lines, grant_line};
 ghost use Rattle.rforms.specs.SetFields.{name_at};
+ghost use Rattle.rforms.specs.Waits.{stage_of, cover_of};
+ghost use Rattle.rreport.specs.Open.{cover_text};
 ghost use Rattle.rreport.specs.Told.{told, told_line};
 
 use crate::LINE_ROOM;
@@ -15,7 +17,9 @@ use crate::frame::{
 };
 use crate::names::NameRows;
 use crate::pieces::put;
+use crate::wait::put_cover;
 use rclaim::{Event, GrantChange, StatusChange};
+use rcover::WaitEnd;
 use rset::ResourceSet;
 use rvalue::{Act, Edit, Ledger};
 use std::alloc::{AllocError, Global};
@@ -53,6 +57,21 @@ impl Page {
             bytes: Vec::new(alloc),
             used: 0,
         }
+    }
+
+    // The text that these bytes are.
+    pub(crate) fn of(bytes: Vec<u8>) -> Page
+        ensures { result ≡ bytes.items }
+    {
+        let used = bytes.len();
+        Page { bytes, used }
+    }
+
+    // The number of its bytes.
+    pub(crate) fn len(&self) -> usize
+        ensures { result ≡ length self.now }
+    {
+        self.used
     }
 
     /// The text.
@@ -152,6 +171,16 @@ impl Page {
     {
         make_room(&mut self.bytes, self.used)?;
         self.used = put_grant(&mut self.bytes, self.used, names, change);
+        Ok(())
+    }
+
+    // Appends how the line of a wait begins, up to its cover.
+    pub(crate) fn push_cover(&mut self, names: &NameRows, wait: &WaitEnd) -> Result<(), AllocError>
+        ensures ok { OnOk result (self.new ≡ self.old ++ cover_text names.now wait.now.seat (stage_of wait.now.which) (cover_of wait.now)) }
+        ensures err { OnErr result (self.new ≡ self.old) }
+    {
+        make_room(&mut self.bytes, self.used)?;
+        self.used = put_cover(&mut self.bytes, self.used, names, wait);
         Ok(())
     }
 

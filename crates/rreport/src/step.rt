@@ -2,89 +2,116 @@
 ghost use Rattle.std.specs.Prelude.{◌≡◌, ◌++◌, ◌∷◌, map, OnOk, flat_map};
 ghost use Rattle.rclaim.specs.declared.changes.StatusChange.{StatusChange};
 ghost use Rattle.rforms.specs.Lines.{Happens, Does};
-ghost use Rattle.rforms.specs.Reports.{told_changes, status_lines, grant_line};
-ghost use Rattle.rreport.specs.Told.{told, entry_told};
+ghost use Rattle.rforms.specs.Reports.{status_lines, grant_line, wait_line};
+ghost use Rattle.rforms.specs.Waits.{no_bounds};
+ghost use Rattle.rreport.specs.Open.{open_told};
+ghost use Rattle.rreport.specs.Told.{entry_told, step_told};
 
 use crate::names::NameRows;
-use crate::page::Page;
+use crate::open::OpenText;
 use rclaim::{Changes, Event, GrantChange, StatusChange};
+use rcover::WaitEnd;
 use rvalue::{Act, Edit, Entry};
 use std::alloc::AllocError;
 
-/// Appends the line of an event, and those of what it changes. A claim that waits has no line.
+/// Appends the line of an event, and those of what it changed and of the waits that it ended, whose bounds stay open. A
+/// claim that waits has no line.
 ///
 /// # Errors
 ///
 /// Want of memory. The text may then have grown by some of these lines.
 pub fn push_step(
-    page: &mut Page,
+    text: &mut OpenText,
     names: &NameRows,
     event: &Event,
     changes: &Changes,
+    ended: &[WaitEnd],
 ) -> Result<(), AllocError>
-    ensures { OnOk result (page.new ≡ page.old ++ told names.now (Happens event.now ∷ told_changes changes.now)) }
+    ensures { OnOk result (text.new ≡ text.old ++ open_told names.now (Happens event.now ∷ step_told changes.now ended.now)) }
 {
-    page.push_event(names, event)?;
-    push_changes(page, names, changes)
+    text.push_event(names, event)?;
+    push_told(text, names, changes, ended)
 }
 
-/// Appends the lines of an entry whose event makes these changes: the event, the acts, and the changes.
+/// Appends the lines of an entry whose event made these changes and ended these waits: the event, the acts, the changes, and
+/// the waits, whose bounds stay open.
 ///
 /// # Errors
 ///
 /// Want of memory. The text may then have grown by some of these lines.
 pub fn push_entry(
-    page: &mut Page,
+    text: &mut OpenText,
     names: &NameRows,
     entry: &Entry<Edit>,
     changes: &Changes,
+    ended: &[WaitEnd],
 ) -> Result<(), AllocError>
-    ensures { OnOk result (page.new ≡ page.old ++ told names.now (entry_told entry.now changes.now)) }
+    ensures { OnOk result (text.new ≡ text.old ++ open_told names.now (entry_told entry.now changes.now ended.now)) }
 {
-    page.push_event(names, &entry.event)?;
-    push_acts(page, names, &entry.acts)?;
-    push_changes(page, names, changes)
+    text.push_event(names, &entry.event)?;
+    push_acts(text, names, &entry.acts)?;
+    push_told(text, names, changes, ended)
 }
 
-// Appends the lines of what a step changes.
-fn push_changes(page: &mut Page, names: &NameRows, changes: &Changes) -> Result<(), AllocError>
-    ensures { OnOk result (page.new ≡ page.old ++ told names.now (told_changes changes.now)) }
+// Appends the lines of what a step changed, and then those of the waits that it ended.
+fn push_told(
+    text: &mut OpenText,
+    names: &NameRows,
+    changes: &Changes,
+    ended: &[WaitEnd],
+) -> Result<(), AllocError>
+    ensures { OnOk result (text.new ≡ text.old ++ open_told names.now (step_told changes.now ended.now)) }
 {
-    push_statuses(page, names, &changes.statuses)?;
-    push_grants(page, names, &changes.grants)
+    push_statuses(text, names, &changes.statuses)?;
+    push_grants(text, names, &changes.grants)?;
+    push_waits(text, names, ended)
 }
 
 // Appends the lines of what a section did.
-fn push_acts(page: &mut Page, names: &NameRows, acts: &[Act<Edit>]) -> Result<(), AllocError>
-    ensures { OnOk result (page.new ≡ page.old ++ told names.now (map Does acts.now)) }
+fn push_acts(text: &mut OpenText, names: &NameRows, acts: &[Act<Edit>]) -> Result<(), AllocError>
+    ensures { OnOk result (text.new ≡ text.old ++ open_told names.now (map Does acts.now)) }
 {
     for act in acts {
-        page.push_act(names, act)?;
+        text.push_act(names, act)?;
     }
     Ok(())
 }
 
 // Appends the lines of new statuses.
 fn push_statuses(
-    page: &mut Page,
+    text: &mut OpenText,
     names: &NameRows,
     changes: &[StatusChange],
 ) -> Result<(), AllocError>
-    ensures { OnOk result (page.new ≡ page.old
-        ++ told names.now (flat_map (λ (c : StatusChange). status_lines c.seat c.write_half c.status) changes.now)) }
+    ensures { OnOk result (text.new ≡ text.old
+        ++ open_told names.now (flat_map (λ (c : StatusChange). status_lines c.seat c.write_half c.status) changes.now)) }
 {
     for change in changes {
-        page.push_status(names, change)?;
+        text.push_status(names, change)?;
     }
     Ok(())
 }
 
 // Appends the lines of grants.
-fn push_grants(page: &mut Page, names: &NameRows, changes: &[GrantChange]) -> Result<(), AllocError>
-    ensures { OnOk result (page.new ≡ page.old ++ told names.now (map grant_line changes.now)) }
+fn push_grants(
+    text: &mut OpenText,
+    names: &NameRows,
+    changes: &[GrantChange],
+) -> Result<(), AllocError>
+    ensures { OnOk result (text.new ≡ text.old ++ open_told names.now (map grant_line changes.now)) }
 {
     for change in changes {
-        page.push_grant(names, change)?;
+        text.push_grant(names, change)?;
+    }
+    Ok(())
+}
+
+// Appends the lines of waits, with a gap for the bound of each.
+fn push_waits(text: &mut OpenText, names: &NameRows, ended: &[WaitEnd]) -> Result<(), AllocError>
+    ensures { OnOk result (text.new ≡ text.old ++ open_told names.now (map (wait_line no_bounds) ended.now)) }
+{
+    for wait in ended {
+        text.push_wait(names, wait)?;
     }
     Ok(())
 }

@@ -18,17 +18,22 @@ use Rattle.rvalue.specs.declared.act.Act.TheVariants.{Edited, Shown}
 use Rattle.rvalue.specs.declared.ledger.Edit.{Edit}
 use Rattle.rvalue.specs.declared.ledger.Ledger.{Ledger}
 use Rattle.rvalue.proofs.ValueLemmas.{value_within-append, value_of-longer}
-use Rattle.rforms.specs.Heads.{Head, opening_of}
+use Rattle.rplain.specs.Machine.{Standing}
+use Rattle.rwaits.specs.Follows.{Follows}
+use Rattle.rwaits.specs.Past.{Past}
+use Rattle.rwaits.specs.declared.following.Following.{Following}
+use Rattle.rforms.specs.Heads.{Head, opening_of, read_groups}
+use Rattle.rforms.specs.Waits.{events_of}
 use Rattle.rforms.specs.Lines.{Does}
 use Rattle.rforms.specs.Reports.{Entry, lock_after, ledger_after}
 use Rattle.rforms.specs.SoFar.{SoFar, head_in, entries_in, with_act, with_line}
 use Rattle.rforms.specs.Faults.{line_code, is_right_in, is_answered, same_answer}
 use Rattle.rforms.specs.declared.fault.Code.TheVariants.{WrongShow}
-use Rattle.rforms.proofs.facts.Choices.{some_is}
+use Rattle.rforms.proofs.facts.Choices.{some_is, some_none}
 use Rattle.rtrace.specs.declared.reading.Reading.{Reading}
-use Rattle.rtrace.specs.Knows.{Knows, IsOpen, may_do}
+use Rattle.rtrace.specs.Knows.{Knows, IsOpen, may_do, due_left, due_list, changes_in, ended_at, past_in, StandBehind}
 use Rattle.rtrace.proofs.Codes.{act_judged}
-use Rattle.rtrace.proofs.Steps.{groups_on}
+use Rattle.rtrace.proofs.Steps.{groups_on, events_push}
 
 pub not_six : (n : ℕ) → (n ≡ 6 → ⊥) → ((n == 6) ≡ false) × ((nat_le 6 n && nat_le n 6) ≡ false)
 not_six n h = (grind (arith, nat_tests), grind (arith, nat_tests))
@@ -94,6 +99,13 @@ still_within earlier (event.Rise seat) acts (Edited place edit done) l stands wa
 still_within earlier (event.Issue seat r) acts act l stands was = absurd (true≢false (sym stands))
 still_within earlier (event.Ask seat part) acts act l stands was = absurd (true≢false (sym stands))
 
+-- an act changes nothing of the events
+act_stand : (machine : Option Standing) (f : Option Following) (x y : Entry) (p q : Past) → StandBehind machine f (Some x) p → p ≡ q → StandBehind machine f (Some y) q
+act_stand None None x y p q h same = absurd (some_none (sym h.0))
+act_stand (Some m) (Some g) x y p q h same = (refl, subst (Follows g) same h.1)
+act_stand None (Some g) x y p q h same = absurd h
+act_stand (Some m) None x y p q h same = absurd h
+
 lock_same : (head : Head) (earlier : List Entry) (x y : Entry) → x.event ≡ y.event → lock_after head (earlier ++ x ∷ []) ≡ lock_after head (earlier ++ y ∷ [])
 lock_same head earlier x y same =
     ap (fold next (opening_of head)) (map-append (λ (z : Entry). z.event) earlier (x ∷ []) ∙ ap (λ e. map (λ (z : Entry). z.event) earlier ++ e ∷ []) same ∙ sym (map-append (λ (z : Entry). z.event) earlier (y ∷ [])))
@@ -143,6 +155,9 @@ module _ (whole : Bool) (old : Reading) (s : SoFar) (h : Knows whole old s) (is 
       let many = h.ledgers.many in
       let size : length new.ledgers.items ≡ length s.resources = ap length are ∙ length-set old.ledgers.items (place_of act) (value_after_act value_after ledger act) ∙ many in
       let last = h.last in
+      let same_events : events_of (entries_in s) ≡ events_of (s.earlier ++ after ∷ []) =
+      ap (λ (xs : List Entry). events_of xs) were ∙ events_push s.earlier entry ∙ sym (events_push s.earlier after) in
+      let same_past : past_in s ≡ past_in t = λ i. record { groups = read_groups (head_in s); seats = length s.tasks; cap = (head_in s).cap; events = same_events i } in
       let knows : Knows whole (record old { ledgers = new.ledgers }) t = record {
         kind = h.kind;
         last = last ∙ six;
@@ -157,7 +172,8 @@ module _ (whole : Bool) (old : Reading) (s : SoFar) (h : Knows whole old s) (is 
         some_task = λ _. h.some_task (omega (arith, six));
         idle = λ e. absurd (omega (arith, e));
         lock = h.lock ∙ ap (lock_after (head_in s)) were ∙ lock_same (head_in s) s.earlier entry after refl;
-        due = λ _. h.due (omega (arith, six));
+        stand = act_stand old.machine old.following entry after (past_in s) (past_in t) (subst (λ (l : Option Entry). StandBehind old.machine old.following l (past_in s)) o.is h.stand) same_past;
+        due = λ _. h.due (omega (arith, six)) ∙ ap (λ (l : Option Entry). due_left whole old.told (due_list (changes_in old.machine) (ended_at (head_in s) s.earlier l))) o.is;
         changes = λ x same. h.changes entry o.is ∙ ap (λ (y : Entry). changes_between (lock_after (head_in s) s.earlier) (next (lock_after (head_in s) s.earlier) y.event)) (some_is same);
         active = h.active;
         ledgers = record {

@@ -13,7 +13,7 @@ use Rattle.rmodel.specs.Claims.{satisfied_by}
 use Rattle.rvalue.specs.declared.ledger.Ledger.{Ledger}
 use Rattle.rforms.specs.Heads.{is_nil}
 use Rattle.rforms.specs.Reports.{status_line}
-use Rattle.rforms.specs.Lines.{Line, Happens, Does, BecomesEntitled, BecomesSatisfied, Grants, Leaves, Ends, word_of}
+use Rattle.rforms.specs.Lines.{Line, Happens, Does, BecomesEntitled, BecomesSatisfied, Grants, Waits, Leaves, Ends, word_of}
 use Rattle.rforms.specs.Events.{refusal_in}
 use Rattle.rforms.specs.Walks.{when, first_of}
 use Rattle.rforms.specs.SoFar.{SoFar, stands, lock_in, ledgers_due, at_changes, with_line}
@@ -107,6 +107,7 @@ unfolding line_code change_causes
 change_is whole s (BecomesEntitled seat half) h = refl
 change_is whole s (BecomesSatisfied seat half) h = refl
 change_is whole s (Grants seat set) h = refl
+change_is whole s (Waits seat which cover bound) h = refl
 change_is whole s _ h = absurd (true≢false (sym h))
 
 -- nothing is due behind the end
@@ -152,6 +153,7 @@ pub with_change : (whole : Bool) (s : SoFar) (line : Line) → is_change line �
 with_change whole s (BecomesEntitled seat half) h = refl
 with_change whole s (BecomesSatisfied seat half) h = refl
 with_change whole s (Grants seat set) h = refl
+with_change whole s (Waits seat which cover bound) h = refl
 with_change whole s _ h = absurd (true≢false (sym h))
 
 -- ---- acts

@@ -1,10 +1,10 @@
 -- An event in its place.
-use Rattle.std.proofs.Common.{◌≡◌, ◌≢◌, ℕ, ◌≤◌, ◌==◌, Bool, true, false, ◌&&◌, cond, nat_le, List, [], ◌∷◌, ◌++◌, map, fold, Option, Some, None, refl, sym, ap, ◌∙◌, arith, true≢false}
+use Rattle.std.proofs.Common.{◌≡◌, ◌≢◌, ℕ, ◌≤◌, ◌==◌, Bool, true, false, ◌&&◌, cond, nat_le, List, [], ◌∷◌, ◌++◌, length, map, fold, Option, Some, None, refl, sym, ap, subst, ◌∙◌, arith, true≢false}
 use Rattle.std.specs.Prelude.{option_map}
 use Rattle.std.specs.List.{flat_map}
 use Rattle.std.specs.FinSet.{empty, union, len, empty_of_len}
 use Rattle.std.proofs.lemmas.Bool.Decides.{nat_tests}
-use Rattle.std.proofs.lemmas.List.{map-append}
+use Rattle.std.proofs.lemmas.List.{map-append, length-map}
 use Rattle.std.proofs.lemmas.List.Sums.{fold_push}
 use Rattle.rset.specs.Sets.{Set}
 use Rattle.rset.proofs.SetMembers.{contains_union, contains_empty}
@@ -22,7 +22,7 @@ use Rattle.rmodel.specs.Claims.{is_admitted, active_by}
 use Rattle.rmodel.specs.Changes.{changes_between, AreActive}
 use Rattle.rmodel.specs.Holds.{holds_of}
 use Rattle.rmodel.specs.State.{LockState}
-use Rattle.rmodel.specs.Steps.{refusal, next, Fits}
+use Rattle.rmodel.specs.Steps.{refusal, next, after, Fits}
 use Rattle.rmodel.specs.declared.granted.Granted.{Granted}
 use Rattle.rvalue.specs.Lawful.{stands_with, is_held}
 use Rattle.rvalue.specs.Ledgers.{opening_ledger, value_after}
@@ -30,9 +30,13 @@ use Rattle.rvalue.specs.declared.act.Act.{Act}
 use Rattle.rvalue.specs.declared.act.Act.TheVariants.{Edited, Shown}
 use Rattle.rvalue.specs.declared.ledger.Edit.{Edit}
 use Rattle.rvalue.proofs.ValueLemmas.{value_of-longer}
-use Rattle.rforms.specs.Heads.{Head, opening_of}
+use Rattle.rwaits.specs.Follows.{Follows}
+use Rattle.rwaits.specs.Past.{state_of, with_event}
+use Rattle.rwaits.specs.declared.following.Following.{Following}
+use Rattle.rforms.specs.Heads.{Head, opening_of, read_groups}
 use Rattle.rforms.specs.Lines.{Line, Happens}
-use Rattle.rforms.specs.Reports.{Entry, lock_after, ledger_after, status_lines, status_line, grant_line, change_lines}
+use Rattle.rforms.specs.Reports.{Entry, lock_after, ledger_after, status_lines, status_line, grant_line, wait_line, change_lines, wait_lines}
+use Rattle.rforms.specs.Waits.{events_of, ended_in, no_bounds}
 use Rattle.rforms.specs.Events.{request_refusal, refusal_by, refusal_in}
 use Rattle.rforms.specs.SoFar.{SoFar, head_in, entries_in, lock_in, event_place, bare, with_line}
 use Rattle.rforms.specs.Walks.{first_of}
@@ -43,10 +47,10 @@ use Rattle.rforms.specs.declared.fault.Refusal.{Refusal}
 use Rattle.rforms.specs.declared.fault.Refusal.TheVariants.{Request, Step}
 use Rattle.rforms.proofs.facts.Choices.{some_is}
 use Rattle.rtrace.specs.declared.reading.Reading.{Reading}
-use Rattle.rtrace.specs.Knows.{Knows, may_do, due_changes}
+use Rattle.rtrace.specs.Knows.{Knows, may_do, due_left, due_list, past_in}
 use Rattle.rtrace.specs.Takes.{place_code, FitsTold, event_admitted, stepped, shown_by, edited_by, noted}
 use Rattle.rtrace.proofs.Codes.{plain_causes, place_code_is, placed, refused_code, no_plain_code, follows_both, event_is}
-use Rattle.rtrace.proofs.Steps.{groups_on}
+use Rattle.rtrace.proofs.Steps.{groups_on, events_push}
 
 -- ---- requests
 
@@ -104,10 +108,12 @@ all_told : (changes : List StatusChange) → AreActive changes → flat_map (λ 
 all_told [] active = refl
 all_told (c ∷ changes) active = λ i. one_told c.seat c.write_half c.status active.0 i ++ all_told changes active.1 i
 
-due_is : (whole : Bool) (s : LockState) (e : Event) → AreActive (changes_between s (next s e)).statuses → change_lines whole s e ≡ due_changes whole 0 (changes_between s (next s e))
-unfolding change_lines
-due_is true s e active = ap (λ (lines : List Line). lines ++ map grant_line (changes_between s (next s e)).grants) (all_told (changes_between s (next s e)).statuses active)
-due_is false s e active = refl
+pub due_is : (whole : Bool) (head : Head) (earlier : List Entry) (s : LockState) (e : Event) → AreActive (changes_between s (next s e)).statuses
+    → change_lines whole s e ++ wait_lines whole no_bounds head earlier e ≡ due_left whole 0 (due_list (changes_between s (next s e)) (ended_in head earlier e))
+unfolding change_lines wait_lines
+due_is true head earlier s e active =
+    ap (λ (lines : List Line). (lines ++ map grant_line (changes_between s (next s e)).grants) ++ map (wait_line no_bounds) (ended_in head earlier e)) (all_told (changes_between s (next s e)).statuses active)
+due_is false head earlier s e active = refl
 
 lock_push : (head : Head) (entries : List Entry) (x : Entry) → lock_after head (entries ++ x ∷ []) ≡ next (lock_after head entries) x.event
 lock_push head entries x = ap (fold next (opening_of head)) (map-append (λ (z : Entry). z.event) entries (x ∷ [])) ∙ fold_push next (opening_of head) (map (λ (z : Entry). z.event) entries) x.event
@@ -132,7 +138,7 @@ event_low (event.Finish seat) = omega arith
 event_low (event.Rise seat) = omega arith
 event_low (event.Ask seat part) = omega arith
 
-event_high : (e : Event) → event_place e ≤ 7
+pub event_high : (e : Event) → event_place e ≤ 7
 event_high (event.Issue seat r) = omega arith
 event_high (event.Finish seat) = omega arith
 event_high (event.Rise seat) = omega arith
@@ -150,9 +156,9 @@ module _ (whole : Bool) (old : Reading) (s : SoFar) (h : Knows whole old s) (e :
   pub happen_refused : (cause : Refusal) → refusal_in (lock_in s) e ≡ Some cause → line_code whole s (Happens e) ≡ Some (Refused cause)
   happen_refused cause is = code_by (Some cause) is ∙ refused_code (is_change_due s) (nat_le 4 s.last && nat_le s.last 7) false cause here
 
-  pub happen_taken : (state : LockState) (held : Granted) → state ≡ lock_in s → refusal_in state e ≡ None → AreActive (changes_between state (next state e)).statuses → (whole ≡ true → held ≡ holds_of state.claims (seat_of e))
-      → (line_code whole s (Happens e) ≡ None) × Knows whole (noted (record old { machine = Some (stepped state e) }) e held) (with_line whole s (Happens e))
-  happen_taken state held is free active holds =
+  pub happen_taken : (state : LockState) (held : Granted) (follower : Following) → Follows follower (with_event (past_in s) e) → state ≡ lock_in s → refusal_in state e ≡ None → AreActive (changes_between state (next state e)).statuses → (whole ≡ true → held ≡ holds_of state.claims (seat_of e))
+      → (line_code whole s (Happens e) ≡ None) × Knows whole (noted (record old { machine = Some (stepped state e); following = Some follower }) e held) (with_line whole s (Happens e))
+  happen_taken state held follower follows is free active holds =
       let both = follows_both 4 s.last 7 at.1 in
       let low = event_low e in
       let high = event_high e in
@@ -172,7 +178,8 @@ module _ (whole : Bool) (old : Reading) (s : SoFar) (h : Knows whole old s) (e :
           some_task = λ _. h.some_task both.0;
           idle = λ early. absurd (omega (arith, early, low));
           lock = ap (λ (l : LockState). next l e) is ∙ sym (lock_push (head_in s) (entries_in s) (bare e));
-          due = λ _. ap (λ (l : LockState). change_lines whole l e) (sym is) ∙ due_is whole state e active;
+          stand = (refl, subst (λ (es : List Event). Follows follower (record { groups = read_groups (head_in s); seats = length s.tasks; cap = (head_in s).cap; events = es })) (sym (events_push (entries_in s) (bare e))) follows);
+          due = λ _. ap (λ (l : LockState). change_lines whole l e ++ wait_lines whole no_bounds (head_in s) (entries_in s) e) (sym is) ∙ due_is whole (head_in s) (entries_in s) state e active;
           changes = λ entry same. (λ i. changes_between (is i) (next (is i) ((some_is same) i).event));
           active = active;
           ledgers = record { many = many; each = λ l small. h.ledgers.each l small ∙ ap Some (sym (bare_within (entries_in s) e l)) };
@@ -191,3 +198,16 @@ pub event_misplaced : (whole : Bool) (s : SoFar) (e : Event) (code : Code) → p
 event_misplaced whole s e code h =
     event_is whole s e ∙ place_code_is (is_change_due s) (nat_le 4 s.last && nat_le s.last 7) false false (cond (is_change_due s) None (refusal_in (lock_in s) e)) code
     (λ due. ap (λ d. cond d None (refusal_in (lock_in s) e)) due) h
+
+-- ---- the events so far
+
+-- the state behind events is the same, whichever way they are gone over
+after_is : (s : LockState) (es : List Event) → after s es ≡ fold next s es
+after_is s [] = refl
+after_is s (e ∷ es) = after_is (next s e) es
+
+pub past_state : (s : SoFar) → state_of (past_in s) ≡ lock_in s
+past_state s = after_is (opening_of (head_in s)) (events_of (entries_in s))
+
+pub past_many : (s : SoFar) → length (past_in s).events ≡ length (entries_in s)
+past_many s = length-map (entries_in s) (λ (x : Entry). x.event)

@@ -9,7 +9,10 @@ use Rattle.rset.specs.declared.TheConstants.{RESOURCES, SEATS}
 use Rattle.rmodel.specs.Changes.{AreActive}
 use Rattle.rvalue.specs.Ledgers.{opening_ledger}
 use Rattle.rvalue.specs.declared.ledger.Ledger.{Ledger}
-use Rattle.rforms.specs.Heads.{read_groups, is_bad_name}
+use Rattle.rplain.specs.Machine.{Standing}
+use Rattle.rwaits.specs.declared.following.Following.{Following}
+use Rattle.rforms.specs.Heads.{Head, read_groups, is_bad_name}
+use Rattle.rforms.specs.Waits.{events_of}
 use Rattle.rforms.specs.Lines.{Line, Opens, HasResource, HasGroup, HasTask, HasCap}
 use Rattle.rforms.specs.Reports.{Entry, lock_after, ledger_after}
 use Rattle.rforms.specs.Walks.{first_of}
@@ -18,7 +21,8 @@ use Rattle.rforms.specs.Faults.{line_code, is_change_due}
 use Rattle.rforms.specs.declared.fault.Code.{Code}
 use Rattle.rforms.proofs.facts.Choices.{some_none}
 use Rattle.rtrace.specs.declared.reading.Reading.{Reading}
-use Rattle.rtrace.specs.Knows.{Knows, known_groups, state_in, due_changes, changes_in}
+use Rattle.rtrace.specs.Knows.{Knows, known_groups, state_in, due_left, due_list, changes_in, ended_at, past_in, StandBehind}
+use Rattle.rtrace.proofs.Steps.{none_behind}
 use Rattle.rexpand.specs.Groups.{ReadGroups}
 use Rattle.rtrace.specs.Takes.{place_code, AreMade}
 use Rattle.rtrace.proofs.Codes.{plain_causes, place_code_is, placed, no_plain_code, follows_both}
@@ -62,6 +66,7 @@ pub record Begins (whole : Bool) (reading : Reading) (s : SoFar) : Type 0 where
   pub some_resource : 2 ≤ s.last → 0 < length s.resources
   pub some_task : 4 ≤ s.last → 0 < length s.tasks
   pub machine : reading.machine ≡ None
+  pub following : reading.following ≡ None
   pub earlier : s.earlier ≡ []
   pub latest : s.latest ≡ None
   pub told : reading.told ≡ 0
@@ -69,9 +74,9 @@ pub record Begins (whole : Bool) (reading : Reading) (s : SoFar) : Type 0 where
   pub many : length reading.ledgers.items ≡ length s.resources
   pub each : (l : ℕ) → l < length s.resources → slice_get reading.ledgers.items l ≡ Some opening_ledger
 
-none_due : (whole : Bool) → due_changes whole 0 (changes_in None) ≡ []
-none_due true = refl
-none_due false = refl
+none_due : (whole : Bool) (head : Head) (earlier : List Entry) → due_left whole 0 (due_list (changes_in None) (ended_at head earlier None)) ≡ []
+none_due true head earlier = refl
+none_due false head earlier = refl
 
 pub begun : (whole : Bool) (reading : Reading) (s : SoFar) → Begins whole reading s → Knows whole reading s
 begun whole reading s b =
@@ -91,7 +96,9 @@ begun whole reading s b =
       some_task = b.some_task;
       idle = λ _. (b.machine, b.earlier, b.latest, b.told);
       lock = ap (state_in s) b.machine ∙ ap (lock_after (head_in s)) (sym none);
-      due = λ _. b.due ∙ sym (none_due whole) ∙ (λ i. due_changes whole (sym b.told i) (changes_in (sym b.machine i)));
+      stand = subst (λ (m : Option Standing). StandBehind m reading.following s.latest (past_in s)) (sym b.machine)
+          (subst (λ (f : Option Following). StandBehind None f s.latest (past_in s)) (sym b.following) (b.latest, ap (λ xs. events_of xs) none));
+      due = λ _. b.due ∙ sym (none_due whole (head_in s) s.earlier) ∙ (λ i. due_left whole (sym b.told i) (due_list (changes_in (sym b.machine i)) (ended_at (head_in s) s.earlier (sym b.latest i))));
       changes = λ entry same. absurd (some_none (sym b.latest ∙ same));
       active = subst (λ m. AreActive (changes_in m).statuses) (sym b.machine) tt;
       ledgers = record { many = b.many; each = λ l small. b.each l small ∙ ap (λ (xs : List Entry). Some (ledger_after xs l)) (sym none) };
@@ -116,10 +123,11 @@ begins whole reading s h low =
       some_resource = h.some_resource;
       some_task = h.some_task;
       machine = idle.0;
+      following = (none_behind reading.machine reading.following s.latest (past_in s) h.stand idle.0).0;
       earlier = idle.1;
       latest = idle.2;
       told = idle.3;
-      due = h.due (omega (arith, low)) ∙ (λ i. due_changes whole (idle.3 i) (changes_in (idle.0 i))) ∙ none_due whole;
+      due = h.due (omega (arith, low)) ∙ (λ i. due_left whole (idle.3 i) (due_list (changes_in (idle.0 i)) (ended_at (head_in s) s.earlier (idle.2 i)))) ∙ none_due whole (head_in s) s.earlier;
       many = h.ledgers.many;
       each = λ l small. h.ledgers.each l small ∙ ap (λ (xs : List Entry). Some (ledger_after xs l)) none;
     }
@@ -191,6 +199,7 @@ module _ (whole : Bool) (old : Reading) (s : SoFar) (h : Knows whole old s) wher
           some_resource = λ e. absurd (omega (arith, e));
           some_task = λ e. absurd (omega (arith, e));
           machine = b.machine;
+          following = b.following;
           earlier = b.earlier;
           latest = b.latest;
           told = b.told;
@@ -224,6 +233,7 @@ module _ (whole : Bool) (old : Reading) (s : SoFar) (h : Knows whole old s) wher
           some_resource = λ _. some_push s.resources name;
           some_task = λ e. absurd (omega (arith, e));
           machine = b.machine;
+          following = b.following;
           earlier = b.earlier;
           latest = b.latest;
           told = b.told;
@@ -253,6 +263,7 @@ module _ (whole : Bool) (old : Reading) (s : SoFar) (h : Knows whole old s) wher
           some_resource = λ _. b.some_resource there.0;
           some_task = λ _. some_push s.tasks name;
           machine = b.machine;
+          following = b.following;
           earlier = b.earlier;
           latest = b.latest;
           told = b.told;
@@ -282,6 +293,7 @@ module _ (whole : Bool) (old : Reading) (s : SoFar) (h : Knows whole old s) wher
           some_resource = λ _. b.some_resource there.0;
           some_task = λ e. absurd (omega (arith, e));
           machine = b.machine;
+          following = b.following;
           earlier = b.earlier;
           latest = b.latest;
           told = b.told;
@@ -309,6 +321,7 @@ module _ (whole : Bool) (old : Reading) (s : SoFar) (h : Knows whole old s) wher
           some_resource = λ _. b.some_resource (omega (arith, there.0));
           some_task = λ _. b.some_task there.0;
           machine = b.machine;
+          following = b.following;
           earlier = b.earlier;
           latest = b.latest;
           told = b.told;

@@ -1,6 +1,7 @@
 pub mod Due
 pub mod Codes
 pub mod Steps
+pub mod DueWaits
 pub mod LedgerSteps
 pub mod ActSteps
 pub mod EventSteps
@@ -9,3 +10,7 @@ pub mod Results
 pub mod Writable
 pub mod RowSteps
 pub mod Whole
+pub mod BoundSteps
+pub mod WaitSteps
+pub mod ToldSteps
+pub mod Keeping

@@ -1,6 +1,6 @@
 -- From a record to its line.
 use Rattle.std.proofs.Common.{◌≡◌, ℕ, ◌≤◌, ◌<◌, ◌^◌, ◌==◌, Bool, true, false, not, ◌&&◌, cond, nat_le, nat_lt, List, [], ◌∷◌, length, Option, Some, None, refl, sym, ap, subst, ◌∙◌, arith, IsTrue, true≢false}
-use Rattle.std.specs.Prelude.{option_map, is_none, find, IsSome}
+use Rattle.std.specs.Prelude.{option_map, option_and_then, is_none, find, IsSome}
 use Rattle.std.proofs.lemmas.Bool.{and_parts, leb-true}
 use Rattle.std.proofs.lemmas.Bool.Decides.{nat_tests}
 use Rattle.std.specs.List.{AllByRecursion}
@@ -30,6 +30,7 @@ use Rattle.rforms.specs.Events.{refusal_by, refusal_in}
 use Rattle.rforms.specs.SoFar.{SoFar, at_groups, head_in, entries_in, lock_in, names_in, with_line, with_meaning, with_row}
 use Rattle.rforms.specs.Walks.{when, or_else, first_of}
 use Rattle.rforms.specs.Faults.{line_code, code_of, code_by, code_of_meaning, is_group_more, is_change}
+use Rattle.rforms.specs.WrongBounds.{bound_told, bound_said}
 use Rattle.rforms.specs.declared.word.Word.{Word}
 use Rattle.rforms.specs.declared.word.Word.TheVariants as word
 use Rattle.rforms.specs.declared.fault.Code.{Code}
@@ -147,6 +148,10 @@ module _ (whole : Bool) (old : Reading) (s : SoFar) (h : Knows whole old s) (row
   unfolding with_row meaning
   row_adds line said = ap (with_meaning whole s) (ap (meant_as (names_in s) row) here ∙ ap (λ (n : Names). meant_as n row (Some w)) (sym same_names) ∙ said.meant)
 
+  pub row_bound : (line : Line) → Says (names_by old.resources old.tasks) w row line → bound_said whole (names_in s) row ≡ bound_told line
+  unfolding meaning
+  row_bound line said = ap (option_and_then bound_told) (ap (meant_as (names_in s) row) here ∙ ap (λ (n : Names). meant_as n row (Some w)) (sym same_names) ∙ said.meant)
+
   pub row_wrong : is_group_more s w ≡ false → (code : Code) → IsWrong (names_by old.resources old.tasks) w row code → code_of whole s row ≡ Some code
   row_wrong more BadField wrong = by_word ∙ ap (λ b. first_of (when (not b) BadField ∷ when (is_group_more s w) BadField ∷ code_of_meaning whole s (meant_as (names_in s) row (Some w)) ∷ [])) wrong
   row_wrong more UnknownName wrong =
@@ -252,6 +257,7 @@ module _ (s : LockState) (names : Names) (resources : s.groups.q ≡ length name
   fits_line (word.Entitled half) v good = tt
   fits_line (word.Satisfied half) v good = tt
   fits_line word.Grant v good = tt
+  fits_line (word.Wait which) v good = tt
   fits_line word.Ledger v good = tt
   fits_line word.End v good = tt
 

@@ -1,5 +1,6 @@
 -- A whole text that was read.
 use Rattle.std.proofs.Common.{◌≡◌, ℕ, suc, ◌+◌, ◌<◌, Bool, true, false, cond, nat_lt, List, [], ◌∷◌, ◌++◌, length, map, Some, None, refl, sym, ap, subst, ◌∙◌, arith}
+use Rattle.std.proofs.lemmas.Bool.{eqb-true}
 use Rattle.std.specs.Prelude.{option_to_list, slice_get, unwrap_or, Result, Ok, Err, IfOk}
 use Rattle.std.specs.List.{range_with_len}
 use Rattle.rexpand.specs.Groups.{ReadGroups}
@@ -7,14 +8,24 @@ use Rattle.rvalue.specs.declared.ledger.Ledger.{Ledger}
 use Rattle.rforms.specs.Heads.{read_groups}
 use Rattle.rforms.specs.Records.{Row, AreRowsOf}
 use Rattle.rforms.specs.Texts.{IsTextOf}
-use Rattle.rforms.specs.Faults.{read_all}
+use Rattle.rforms.specs.Walks.{or_else}
+use Rattle.rforms.specs.WrongBounds.{first_wrong_bound, wrong_bound}
+use Rattle.rforms.specs.Faults.{code_of, is_ended, first_record_fault, read_all}
 use Rattle.rforms.specs.Reports.{Report, Spells, ledger_after}
-use Rattle.rforms.specs.SoFar.{SoFar, at_groups, head_in, entries_in, told_in}
+use Rattle.rforms.specs.SoFar.{SoFar, nothing_yet, at_groups, head_in, entries_in, told_in, with_row}
 use Rattle.rforms.proofs.facts.Choices.{some_is, some_none}
 use Rattle.rtrace.specs.declared.reading.Reading.{Reading}
 use Rattle.rtrace.specs.declared.collect.Collecting.{Collecting}
 use Rattle.rreport.specs.Report.{ReportFields, told_by, IsOverResources, HasItsLedgers}
-use Rattle.rtrace.specs.Collects.{KnowsAll, IsFinished}
+use Rattle.rforms.specs.Takers.{HasTaken, IsFirstFault, list_code, is_list_done}
+use Rattle.rforms.specs.declared.fault.Code.TheVariants.{NoEnd, WrongBound}
+use Rattle.rforms.proofs.facts.Walks.{no_fault}
+use Rattle.rforms.proofs.forth.Rows.{right_bounds}
+use Rattle.rforms.proofs.texts.Lists.{list_faults}
+use Rattle.rtrace.specs.declared.count.Counting.{Counting}
+use Rattle.rtrace.specs.Counts.{IsCountOf}
+use Rattle.rtrace.specs.Collects.{KnowsAll, KnowsCount, IsFinished}
+use Rattle.rtrace.proofs.BoundSteps.{told_by_taken, told_are_ended}
 
 -- a list whose items are those of a function, by number
 each_is : (f : ℕ → Ledger) (xs : List Ledger) (a n : ℕ) → length xs ≡ n → ((l : ℕ) → l < n → slice_get xs l ≡ Some (f (a + l))) → xs ≡ map f (range_with_len a n)
@@ -48,10 +59,42 @@ finished_is whole old new s h same kept r made =
           ∙ (λ i. map (ledger_after (sym entries i)) (range_with_len 0 (sym many i))),
     )
 
+-- the report of a text that spells what was said
+pub read_whole_at : (whole : Bool) (bytes : List ℕ) (rows : List Row) (r : ReportFields) → AreRowsOf bytes rows → Spells whole rows (told_in (read_all whole rows))
+    → (told_by r ≡ told_in (read_all whole rows)) × IsOverResources r × HasItsLedgers r → IsTextOf whole bytes (told_by r) × IsOverResources r × HasItsLedgers r
+read_whole_at whole bytes rows r are spells is = ((rows, are, subst (λ (x : Report). Spells whole rows x) (sym is.0) spells), is.1, is.2)
+
 -- the report of a text that was taken
 pub read_whole : {E : Type 0} (whole : Bool) (bytes : List ℕ) (taker : Collecting) (rows : List Row) (made : Result ReportFields E) → AreRowsOf bytes rows → Spells whole rows (told_in (read_all whole rows)) → KnowsAll whole taker (read_all whole rows)
     → IfOk made (λ r. (w : Bool) (s : SoFar) → KnowsAll w taker s → (told_by r ≡ told_in s) × IsOverResources r × HasItsLedgers r) → IfOk made (λ r. IsTextOf whole bytes (told_by r) × IsOverResources r × HasItsLedgers r)
 read_whole whole bytes taker rows (Ok r) are spells knows h =
-    let is = h whole (read_all whole rows) knows in
-    ((rows, are, subst (λ (x : Report). Spells whole rows x) (sym is.0) spells), is.1, is.2)
+    read_whole_at whole bytes rows r are spells (h whole (read_all whole rows) knows)
 read_whole whole bytes taker rows (Err e) are spells knows h = tt
+
+-- ---- reports
+
+module _ {T : Type 0} (K : T → List Row → Type 0) (bytes : List ℕ) (taker : T) (h : HasTaken (list_code true) (is_list_done true) NoEnd K bytes taker) where
+  faultless : first_record_fault true h.rows ≡ None
+  faultless = sym (list_faults true h.rows) ∙ h.right
+
+  -- the report has ended
+  pub taken_nine : (read_all true h.rows).last ≡ 9
+  taken_nine = eqb-true (read_all true h.rows).last 9 (no_fault (code_of true) (with_row true) is_ended NoEnd 1 nothing_yet h.rows faultless).1
+
+  -- where a bound is wrong, the first one is the first fault
+  pub wrong_is : (line : ℕ) → Some (wrong_bound line) ≡ first_wrong_bound true h.rows → IsFirstFault true bytes (record { line = line; code = WrongBound })
+  wrong_is line wrong = (h.rows, h.are, ap (λ o. or_else o (first_wrong_bound true h.rows)) faultless ∙ sym wrong)
+
+  -- and where none is, the records spell what was said
+  pub right_spells : first_wrong_bound true h.rows ≡ None → Spells true h.rows (told_in (read_all true h.rows))
+  right_spells right = right_bounds true h.rows (told_by_taken K bytes taker h) right
+
+-- how much a report tells whose bounds are right
+pub counts_of : (bytes : List ℕ) (taker : Counting) (h : HasTaken (list_code true) (is_list_done true) NoEnd KnowsCount bytes taker) → first_wrong_bound true h.rows ≡ None
+    → IsCountOf bytes (record { events = taker.events; waits = taker.waits })
+counts_of bytes taker h right = record {
+  report = told_in (read_all true h.rows);
+  spelled = (h.rows, h.are, right_spells KnowsCount bytes taker h right);
+  events = h.knows.events;
+  waits = h.knows.waits ∙ told_are_ended h.rows (told_by_taken KnowsCount bytes taker h);
+}

@@ -1,12 +1,19 @@
 -- What the takers of whole texts know.
-use Rattle.std.specs.Prelude.{◌≡◌, Bool, true, false, length, Some, unwrap_or}
-use Rattle.rforms.specs.SoFar.{SoFar, entries_in}
+use Rattle.std.specs.Prelude.{◌≡◌, ℕ, Bool, true, false, List, ◌++◌, length, Option, Some, None, option_map, option_to_list, unwrap_or}
+use Rattle.rbound.specs.Bounds.{Numbers}
+use Rattle.rforms.specs.Records.{Row}
+use Rattle.rforms.specs.SoFar.{SoFar, nothing_yet, entries_in, bare, with_act}
+use Rattle.rforms.specs.Faults.{read_all}
+use Rattle.rforms.specs.WrongBounds.{bounds_said}
 use Rattle.rtrace.specs.Knows.{Knows}
+use Rattle.rtrace.specs.ToldBounds.{KnowsBounds}
 use Rattle.rreport.specs.Report.{ReportFields}
 use Rattle.rtrace.specs.declared.collect.Collecting.{Collecting}
 use Rattle.rtrace.specs.declared.lists.ListTaker.{ListTaker}
 use Rattle.rtrace.specs.declared.lists.ReportTaker.{ReportTaker}
 use Rattle.rtrace.specs.declared.count.Counting.{Counting}
+use Rattle.rtrace.specs.declared.taken.Taken.{Taken}
+use Rattle.rtrace.specs.declared.taken.Taken.TheVariants as taken
 
 -- all that was said so far is kept
 pub record KnowsAll (whole : Bool) (taker : Collecting) (s : SoFar) : Type 0 where
@@ -17,13 +24,40 @@ pub record KnowsAll (whole : Bool) (taker : Collecting) (s : SoFar) : Type 0 whe
 abbrev pub KnowsList : ListTaker → SoFar → Type 0
 KnowsList taker s = KnowsAll false taker.inner s
 
-abbrev pub KnowsReport : ReportTaker → SoFar → Type 0
-KnowsReport taker s = KnowsAll true taker.inner s
+-- 1 for a bound that is told
+abbrev pub one_if_told : Option Numbers → ℕ
+one_if_told None = 0
+one_if_told (Some bound) = 1
 
--- the events of a report are counted
-pub record KnowsCount (taker : Counting) (s : SoFar) : Type 0 where
-  pub knows : Knows true taker.reading s
-  pub events : taker.events ≡ length (entries_in s)
+-- 1 for an event
+abbrev pub one_if_event : Taken → ℕ
+one_if_event (taken.Event e) = 1
+one_if_event (taken.Act act) = 0
+one_if_event (taken.Wait told) = 0
+one_if_event taken.Other = 0
+
+-- how many waits these records of a report tell
+abbrev pub waits_told : List Row → ℕ
+waits_told rows = length (bounds_said true 1 nothing_yet rows)
+
+-- what was taken is kept, where the reader has taken it
+abbrev pub Keeps : Taken → Collecting → Collecting → Type 0
+Keeps (taken.Event e) old new = (new.reading ≡ old.reading) × (new.history.entries ≡ old.history.entries ++ option_to_list old.latest) × (new.latest ≡ Some (bare e))
+Keeps (taken.Act act) old new = (new.reading ≡ old.reading) × (new.history.entries ≡ old.history.entries) × (new.latest ≡ option_map (with_act act) old.latest)
+Keeps (taken.Wait told) old new = new ≡ old
+Keeps taken.Other old new = new ≡ old
+
+-- all that these records of a report have said is kept, and what they tell of bounds
+pub record KnowsReport (taker : ReportTaker) (rows : List Row) : Type 0 where
+  pub knows : KnowsAll true taker.inner (read_all true rows)
+  pub bounds : KnowsBounds taker.bounds rows
+
+-- the events and the waits that these records of a report tell are counted, and what they tell of bounds is kept
+pub record KnowsCount (taker : Counting) (rows : List Row) : Type 0 where
+  pub knows : Knows true taker.reading (read_all true rows)
+  pub bounds : KnowsBounds taker.bounds rows
+  pub events : taker.events ≡ length (entries_in (read_all true rows))
+  pub waits : taker.waits ≡ waits_told rows
 
 -- a report is made of what is kept, the latest entry being kept too
 pub record IsFinished (taker : Collecting) (r : ReportFields) : Type 0 where

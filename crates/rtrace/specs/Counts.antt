@@ -1,12 +1,13 @@
 -- How much a report tells.
 use Rattle.std.specs.Prelude.{◌≡◌, ℕ, true, List, length}
 use Rattle.rforms.specs.Reports.{Report}
+use Rattle.rforms.specs.Waits.{all_ended}
 use Rattle.rforms.specs.Texts.{IsTextOf}
 use Rattle.rtrace.specs.declared.count.AuditCounts.{AuditCounts}
 
--- the text is of a report that tells so much: each of its events, and no wait yet
+-- the text is of a report that tells so much: each of its events, and each wait that they ended
 pub record IsCountOf (text : List ℕ) (counts : AuditCounts) : Type 0 where
   pub report : Report
   pub spelled : IsTextOf true text report
   pub events : counts.events ≡ length report.entries
-  pub waits : counts.waits ≡ 0
+  pub waits : counts.waits ≡ length (all_ended report.head report.entries)

@@ -1,5 +1,5 @@
 -- What a reader keeps of what the records so far have said.
-use Rattle.std.specs.Prelude.{◌≡◌, ◌≤◌, ◌<◌, ℕ, Bool, true, ◌&&◌, nat_lt, List, [], ◌++◌, drop, length, map, slice_get, Option, Some, None, IfSome, if◌then◌else◌}
+use Rattle.std.specs.Prelude.{◌≡◌, ◌≤◌, ◌<◌, ℕ, Bool, true, ◌&&◌, nat_lt, List, [], ◌++◌, ◌-◌, drop, filter, length, map, slice_get, Option, Some, None, IfSome, IsSome, if◌then◌else◌}
 use Rattle.std.specs.FinSet.{contains}
 use Rattle.rset.specs.Sets.{Set}
 use Rattle.rset.specs.declared.TheConstants.{SEATS}
@@ -16,9 +16,15 @@ use Rattle.rvalue.specs.Ledgers.{value_after}
 use Rattle.rvalue.specs.declared.act.Act.{Act}
 use Rattle.rvalue.specs.declared.act.Act.TheVariants.{Edited, Shown}
 use Rattle.rvalue.specs.declared.ledger.Edit.{Edit}
-use Rattle.rforms.specs.Heads.{read_groups, opening_of}
+use Rattle.rcover.specs.declared.wait_end.WaitEnd.{WaitEnd}
+use Rattle.rwaits.specs.Follows.{Follows}
+use Rattle.rwaits.specs.Past.{Past}
+use Rattle.rwaits.specs.declared.following.Following.{Following}
+use Rattle.rforms.specs.Heads.{Head, read_groups, opening_of}
 use Rattle.rforms.specs.Lines.{Line}
-use Rattle.rforms.specs.Reports.{Entry, lock_after, ledger_after, reads_of, writes_of, status_line, grant_line, ledger_lines}
+use Rattle.rforms.specs.Reports.{Entry, lock_after, ledger_after, reads_of, writes_of, status_line, grant_line, wait_line, ledger_lines}
+use Rattle.rforms.specs.ToldWaits.{tells_wait}
+use Rattle.rforms.specs.Waits.{events_of, ended_in, no_bounds}
 use Rattle.rforms.specs.SoFar.{SoFar, at_groups, head_in, lock_in, entries_in}
 use Rattle.rtrace.specs.declared.reading.Reading.{Reading}
 
@@ -40,9 +46,37 @@ changes_in (Some machine) = machine.last
 abbrev pub change_list : ChangeLists → List Line
 change_list changes = map status_line changes.statuses ++ map grant_line changes.grants
 
--- the lines that are due of changes of which so many were told; an event list has none
-abbrev pub due_changes : Bool → ℕ → ChangeLists → List Line
-due_changes whole told changes = if whole then drop told (change_list changes) else []
+-- the waits that an entry behind earlier ones ended, if it is there
+abbrev pub ended_at : Head → List Entry → Option Entry → List WaitEnd
+ended_at head earlier None = []
+ended_at head earlier (Some entry) = ended_in head earlier entry.event
+
+-- the waits that the latest event ended
+abbrev pub last_ended : SoFar → List WaitEnd
+last_ended s = ended_at (head_in s) s.earlier s.latest
+
+-- the waits of the latest event that are due: the last ones, as many as lines that are due tell waits
+abbrev pub waits_due : SoFar → List WaitEnd
+waits_due s = drop (length (last_ended s) - length (filter tells_wait s.due)) (last_ended s)
+
+-- the lines that tell changes, and behind them those that tell waits, without bounds
+abbrev pub due_list : ChangeLists → List WaitEnd → List Line
+due_list changes ends = change_list changes ++ map (wait_line no_bounds) ends
+
+-- those that are due once so many were told; an event list has none
+abbrev pub due_left : Bool → ℕ → List Line → List Line
+due_left whole told lines = if whole then drop told lines else []
+
+-- the events so far, as one is told them who follows them
+abbrev pub past_in : SoFar → Past
+past_in s = record { groups = read_groups (head_in s); seats = length s.tasks; cap = (head_in s).cap; events = events_of (entries_in s) }
+
+-- a follower stands beside a machine behind the events so far, of which the latest entry has the last; before the first event there is neither
+abbrev pub StandBehind : Option Standing → Option Following → Option Entry → Past → Type 0
+StandBehind None None latest p = (latest ≡ None) × (p.events ≡ [])
+StandBehind (Some machine) (Some following) latest p = IsSome latest × Follows following p
+StandBehind None (Some following) latest p = ⊥
+StandBehind (Some machine) None latest p = ⊥
 
 -- of these resources the acts of an entry may be: shows of the first, edits of the second
 abbrev pub may_do : Set → Set → Act Edit → Bool
@@ -77,7 +111,8 @@ pub record Knows (whole : Bool) (reading : Reading) (s : SoFar) : Type 0 where
   pub some_task : 4 ≤ s.last → 0 < length s.tasks
   pub idle : s.last ≤ 5 → (reading.machine ≡ None) × (s.earlier ≡ []) × (s.latest ≡ None) × (reading.told ≡ 0)
   pub lock : state_in s reading.machine ≡ lock_in s
-  pub due : s.last ≤ 7 → s.due ≡ due_changes whole reading.told (changes_in reading.machine)
+  pub stand : StandBehind reading.machine reading.following s.latest (past_in s)
+  pub due : s.last ≤ 7 → s.due ≡ due_left whole reading.told (due_list (changes_in reading.machine) (last_ended s))
   pub changes : (entry : Entry) → s.latest ≡ Some entry
       → changes_in reading.machine ≡ changes_between (lock_after (head_in s) s.earlier) (next (lock_after (head_in s) s.earlier) entry.event)
   pub active : AreActive (changes_in reading.machine).statuses

@@ -1,4 +1,5 @@
 pub mod Knows
 pub mod Takes
+pub mod ToldBounds
 pub mod Collects
 pub mod Counts

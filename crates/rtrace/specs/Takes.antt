@@ -1,5 +1,5 @@
 -- What it is to take a line, or a record, and to tell what is wrong with it.
-use Rattle.std.specs.Prelude.{◌≡◌, ◌<◌, ◌^◌, ℕ, Bool, true, ◌&&◌, nat_le, ◌==◌, List, [], length, Option, Some, None, IsSome, IsTrue, option_map, if◌then◌else◌}
+use Rattle.std.specs.Prelude.{◌≡◌, ◌<◌, ◌^◌, ℕ, Bool, true, ◌&&◌, nat_le, ◌==◌, List, [], ◌∷◌, length, Option, Some, None, IsSome, IsTrue, option_map, if◌then◌else◌}
 use Rattle.std.specs.FinSet.{union, empty}
 use Rattle.rset.specs.Sets.{Set, all_below}
 use Rattle.rexpand.specs.Groups.{ReadGroups}
@@ -12,16 +12,19 @@ use Rattle.rplain.specs.Machine.{Standing}
 use Rattle.rmodel.specs.State.{LockState}
 use Rattle.rmodel.specs.Steps.{next}
 use Rattle.rmodel.specs.declared.granted.Granted.{Granted}
+use Rattle.rcover.specs.declared.wait_end.WaitEnd.{WaitEnd}
 use Rattle.rforms.specs.Records.{Row}
 use Rattle.rforms.specs.Lines.{Line}
-use Rattle.rforms.specs.SoFar.{SoFar, at_tasks, at_changes, at_ledgers, entries_in, event_place, bare, with_act, with_line, with_row}
+use Rattle.rbound.specs.Bounds.{Numbers, numbers_in}
+use Rattle.rforms.specs.WrongBounds.{bound_said}
+use Rattle.rforms.specs.SoFar.{SoFar, names_in, at_tasks, at_changes, at_ledgers, entries_in, event_place, bare, with_act, with_line, with_row}
 use Rattle.rforms.specs.Faults.{line_code, code_of, is_change_due}
 use Rattle.rforms.specs.declared.fault.Code.{Code}
 use Rattle.rforms.specs.declared.fault.Code.TheVariants.{BadOrder, WrongChange}
 use Rattle.rtrace.specs.declared.reading.Reading.{Reading}
 use Rattle.rtrace.specs.declared.taken.Taken.{Taken}
 use Rattle.rtrace.specs.declared.taken.Taken.TheVariants as taken
-use Rattle.rtrace.specs.Knows.{Knows}
+use Rattle.rtrace.specs.Knows.{Knows, waits_due}
 
 -- what is wrong with the place of a line that tells no change and is no act, and that may come behind these places
 abbrev pub place_code : SoFar → ℕ → ℕ → Option Code
@@ -38,11 +41,25 @@ Takes old new line = (whole : Bool) (s : SoFar) → Knows whole old s → (line_
 abbrev pub Refuses : Reading → Line → Code → Type 0
 Refuses old line code = (whole : Bool) (s : SoFar) → Knows whole old s → line_code whole s line ≡ Some code
 
--- what was taken adds this to the entries
+-- whatever was said, this wait is the first of those that are due, and the line tells it
+abbrev pub IsFirstDue : Reading → Line → WaitEnd → Type 0
+IsFirstDue old line due = (whole : Bool) (s : SoFar) → Knows whole old s → waits_due s ≡ due ∷ waits_due (with_line whole s line)
+
+-- what was taken adds this to the entries; a wait is the first of those that are due, and due no more
 abbrev pub Adds : Taken → SoFar → SoFar → Type 0
 Adds (taken.Event e) s t = (t.earlier ≡ entries_in s) × (t.latest ≡ Some (bare e))
 Adds (taken.Act act) s t = (t.earlier ≡ s.earlier) × (t.latest ≡ option_map (with_act act) s.latest) × IsSome s.latest
+Adds (taken.Wait told) s t = (t.earlier ≡ s.earlier) × (t.latest ≡ s.latest) × (waits_due s ≡ told.wait ∷ waits_due t)
 Adds taken.Other s t = (t.earlier ≡ s.earlier) × (t.latest ≡ s.latest)
+
+-- the bound that what was taken tells, if it tells a wait
+abbrev pub bound_of : Taken → Option Numbers
+bound_of (taken.Wait told) = Some (numbers_in told.bound)
+bound_of _ = None
+
+-- a record tells the bound that what was taken tells
+abbrev pub TellsBound : Reading → Row → Taken → Type 0
+TellsBound old row what = (whole : Bool) (s : SoFar) → Knows whole old s → bound_said whole (names_in s) row ≡ bound_of what
 
 -- the same of a record
 abbrev pub TakesRow : Reading → Reading → Row → Taken → Type 0

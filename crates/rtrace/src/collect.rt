@@ -29,7 +29,7 @@ pub struct Collecting {
 impl Collecting {
     ghost use Rattle.rforms.specs.SoFar.{SoFar, nothing_yet, entries_in, told_in, with_row, bare, with_act};
     ghost use Rattle.rforms.specs.Faults.{code_of, is_ended};
-    ghost use Rattle.rtrace.specs.Collects.{KnowsAll, IsFinished};
+    ghost use Rattle.rtrace.specs.Collects.{KnowsAll, Keeps, IsFinished};
 
     /// Nothing was taken. No memory is taken.
     pub fn new(alloc: Global, whole: bool) -> Collecting
@@ -43,7 +43,7 @@ impl Collecting {
         }
     }
 
-    /// Takes the next record.
+    /// Takes the next record, and keeps what it tells.
     ///
     /// # Errors
     ///
@@ -57,21 +57,33 @@ impl Collecting {
         if let Err(e) = self.reading.take(self.alloc, fields, &mut taken) {
             return Err(e);
         }
+        if self.keep_taken(taken).is_err() {
+            return Err(RowErr::Memory);
+        }
+        Ok(())
+    }
+
+    /// Keeps what a record told that the reader took.
+    ///
+    /// # Errors
+    ///
+    /// Want of memory.
+    pub fn keep_taken(&mut self, taken: Taken) -> Result<(), AllocError>
+        ensures { OnOk result (Keeps taken self.old self.new) }
+    {
         match taken {
             Taken::Event(event) => self.begin(event),
             Taken::Act(act) => self.add(act),
+            Taken::Wait(_) => Ok(()),
             Taken::Other => Ok(()),
         }
     }
 
     // Begins the entry of an event.
-    fn begin(&mut self, event: Event) -> Result<(), RowErr>
-        ensures begun { OnOk result ((self.new.reading ≡ self.old.reading) × (self.new.history.entries ≡ self.old.history.entries ++ option_to_list self.old.latest) × (self.new.latest ≡ Some (bare event))) }
-        ensures memory { (code : Code) → result ≡ Err (RowErr.Bad code) → ⊥ }
+    fn begin(&mut self, event: Event) -> Result<(), AllocError>
+        ensures { OnOk result ((self.new.reading ≡ self.old.reading) × (self.new.history.entries ≡ self.old.history.entries ++ option_to_list self.old.latest) × (self.new.latest ≡ Some (bare event))) }
     {
-        if self.keep().is_err() {
-            return Err(RowErr::Memory);
-        }
+        self.keep()?;
         self.latest = Some(Entry {
             event,
             acts: Vec::new(self.alloc),
@@ -91,17 +103,14 @@ impl Collecting {
     }
 
     // Adds an act to the latest entry.
-    fn add(&mut self, act: Act<Edit>) -> Result<(), RowErr>
-        ensures added { OnOk result ((self.new.reading ≡ self.old.reading) × (self.new.history ≡ self.old.history) × (self.new.latest ≡ option_map (with_act act) self.old.latest)) }
-        ensures memory { (code : Code) → result ≡ Err (RowErr.Bad code) → ⊥ }
+    fn add(&mut self, act: Act<Edit>) -> Result<(), AllocError>
+        ensures { OnOk result ((self.new.reading ≡ self.old.reading) × (self.new.history.entries ≡ self.old.history.entries) × (self.new.latest ≡ option_map (with_act act) self.old.latest)) }
     {
         let Some(entry) = self.latest.take() else {
-            return Err(RowErr::Memory);
+            return Ok(());
         };
         let Entry { event, mut acts } = entry;
-        if acts.push(act).is_err() {
-            return Err(RowErr::Memory);
-        }
+        acts.push(act)?;
         self.latest = Some(Entry { event, acts });
         Ok(())
     }
@@ -143,6 +152,7 @@ impl Collecting {
             tasks,
             cap,
             machine: _,
+            following: _,
             ledgers,
             shown: _,
             edited: _,

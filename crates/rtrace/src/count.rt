@@ -1,36 +1,40 @@
 // Checking a report, with no more kept than is needed to judge it.
-ghost use Rattle.std.specs.Prelude.{◌≡◌, ◌≤◌, ◌<◌, ◌+◌, ◌^◌, ℕ, length, IfOk, IsErrOf, true, [], List};
+ghost use Rattle.std.specs.Prelude.{◌≡◌, ◌≤◌, ◌<◌, ◌+◌, ◌^◌, ℕ, length, IfOk, IfErr, IsErrOf, true, [], List};
 ghost use Rattle.io_ends.specs.Faults.{Rose};
 ghost use Rattle.io_ends.specs.Ends.{Took, TookAtMost};
-ghost use Rattle.rforms.specs.SoFar.{nothing_yet};
-ghost use Rattle.rforms.specs.Takers.{IsFirstFault};
+ghost use Rattle.rforms.specs.Takers.{IsFirstFault, HasTaken, list_code, is_list_done};
 ghost use Rattle.rforms.specs.declared.fault.Code.{Code};
 ghost use Rattle.rforms.specs.declared.fault.Code.TheVariants.{NoEnd};
 ghost use Rattle.rforms.specs.declared.fault.Fault.{Fault};
 ghost use Rattle.rstream.specs.Coming.{CameWhole};
-ghost use Rattle.rtrace.specs.Collects.{KnowsCount};
+ghost use Rattle.rstream.specs.Errors.{IsOfText};
+ghost use Rattle.rtrace.specs.Collects.{KnowsCount, one_if_told, one_if_event};
 ghost use Rattle.rtrace.specs.Counts.{IsCountOf};
+ghost use Rattle.rtrace.specs.Takes.{bound_of};
 
+use crate::bounds::BoundsKept;
 use crate::reading::Reading;
 use crate::taken::Taken;
 use csv::ByteRecord;
 use io_ends::Source;
-use rforms::{Code, Records, RowErr};
+use rforms::{Code, Fault, Records, RowErr};
 use rstream::{StreamErr, take_source};
 use std::alloc::Global;
 
-/// Takes the records of a report, and counts its events.
+/// Takes the records of a report, counts its events and its waits, and keeps what it tells of bounds.
 #[derive(Drop)]
 pub struct Counting {
     pub alloc: Global,
     pub reading: Reading,
+    pub bounds: BoundsKept,
     pub events: u64,
+    pub waits: u64,
     /// What the latest record told.
     pub taken: Taken,
 }
 
 impl Records for Counting {
-    ghost use Rattle.rforms.specs.Takers.{list_code, is_list_done, KnowsSaid};
+    ghost use Rattle.rforms.specs.Takers.{list_code, is_list_done};
     ghost use Rattle.rtrace.specs.Collects.{KnowsCount};
 
     type Code = Code;
@@ -41,15 +45,17 @@ impl Records for Counting {
 
     ghost no_end = { NoEnd };
 
-    ghost knows = { KnowsSaid true KnowsCount };
+    ghost knows = { KnowsCount };
 
     fn take(&mut self, fields: &ByteRecord) -> Result<(), RowErr> {
         if let Err(e) = self.reading.take(self.alloc, fields, &mut self.taken) {
             return Err(e);
         }
-        if let Taken::Event(_) = &self.taken {
-            self.events += 1;
-        }
+        let Ok(()) = self.bounds.take(self.alloc, &self.reading, &self.taken) else {
+            return Err(RowErr::Memory);
+        };
+        self.events += one_if_event(&self.taken);
+        self.waits += one_if_wait(&self.taken);
         Ok(())
     }
 
@@ -65,14 +71,42 @@ impl Records for Counting {
 impl Counting {
     /// Nothing was read. No memory is taken.
     pub fn new(alloc: Global) -> Counting
-        ensures { KnowsCount result nothing_yet }
+        ensures { KnowsCount result [] }
     {
         Counting {
             alloc,
             reading: Reading::new(alloc, true),
+            bounds: BoundsKept::new(),
             events: 0,
+            waits: 0,
             taken: Taken::Other,
         }
+    }
+}
+
+// 1 for an event.
+fn one_if_event(taken: &Taken) -> u64
+    ensures value { result ≡ one_if_event taken.now }
+    ensures few { result ≤ 1 }
+{
+    match taken {
+        Taken::Event(_) => 1,
+        Taken::Act(_) => 0,
+        Taken::Wait(_) => 0,
+        Taken::Other => 0,
+    }
+}
+
+// 1 for a wait.
+fn one_if_wait(taken: &Taken) -> u64
+    ensures value { result ≡ one_if_told (bound_of taken.now) }
+    ensures few { result ≤ 1 }
+{
+    match taken {
+        Taken::Event(_) => 0,
+        Taken::Act(_) => 0,
+        Taken::Wait(_) => 1,
+        Taken::Other => 0,
     }
 }
 
@@ -81,7 +115,7 @@ impl Counting {
 pub struct AuditCounts {
     /// How many events.
     pub events: u64,
-    /// How many waits. No report tells one yet.
+    /// How many waits that are over.
     pub waits: u64,
 }
 
@@ -122,7 +156,7 @@ pub fn count_stream<S: Source>(
     limit: u64,
     counting: &mut Counting,
 ) -> Result<AuditCounts, StreamErr>
-    requires { KnowsCount counting.old nothing_yet }
+    requires { KnowsCount counting.old [] }
     ensures right { IfOk result (λ counts. (text : List ℕ) × CameWhole (S.left source.old) (S.left source.new) text × IsCountOf text counts) }
     ensures bad { (fault : Fault Code) → result ≡ Err (StreamErr.Bad fault) → (text : List ℕ) × CameWhole (S.left source.old) (S.left source.new) text × IsFirstFault true text fault }
     ensures fault { IsErrOf result StreamErr.ReadFault → Rose (S.faults source.old) (S.faults source.new) }
@@ -132,10 +166,30 @@ pub fn count_stream<S: Source>(
     ensures counted { S.faults source.old ≤ S.faults source.new }
 {
     match take_source(alloc, source, limit, counting) {
-        Ok(()) => Ok(AuditCounts {
-            events: counting.events,
-            waits: 0,
-        }),
+        Ok(()) => counted(counting),
         Err(e) => Err(e),
+    }
+}
+
+// How much a report tells that was taken, or the first record that told a wrong bound.
+fn counted(counting: &Counting) -> Result<AuditCounts, StreamErr>
+    requires { (text : List ℕ) × HasTaken (list_code true) (is_list_done true) NoEnd KnowsCount text counting.now }
+    ensures right { IfOk result (λ counts. (text : List ℕ) → HasTaken (list_code true) (is_list_done true) NoEnd KnowsCount text counting.now → IsCountOf text counts) }
+    ensures bad { (fault : Fault Code) → result ≡ Err (StreamErr.Bad fault) → (text : List ℕ) → HasTaken (list_code true) (is_list_done true) NoEnd KnowsCount text counting.now → IsFirstFault true text fault }
+    ensures text { IfErr result IsOfText }
+{
+    match counting
+        .bounds
+        .first_wrong(counting.alloc, &counting.reading)
+    {
+        Ok(None) => Ok(AuditCounts {
+            events: counting.events,
+            waits: counting.waits,
+        }),
+        Ok(Some(line)) => Err(StreamErr::Bad(Fault {
+            line,
+            code: Code::WrongBound,
+        })),
+        Err(_) => Err(StreamErr::Memory),
     }
 }

@@ -1,13 +1,15 @@
 // The events: each is stepped once.
-ghost use Rattle.std.specs.Prelude.{◌≡◌, ◌<◌, ◌^◌, length, Bool, true, OnOk, IfErr, IsSome, Some, None};
+ghost use Rattle.std.specs.Prelude.{◌≡◌, ◌<◌, ◌^◌, length, Bool, true, OnOk, IfErr, IfSome, IsSome, Some, None};
 ghost use Rattle.rclaim.specs.Events.{seat_of};
 ghost use Rattle.rmodel.specs.Changes.{AreActive};
 ghost use Rattle.rmodel.specs.Holds.{holds_of};
+ghost use Rattle.rwaits.specs.Follows.{Follows};
+ghost use Rattle.rwaits.specs.Past.{Past, state_of, with_event};
 ghost use Rattle.rforms.specs.Events.{refusal_in};
 ghost use Rattle.rforms.specs.Lines.{Happens};
 ghost use Rattle.rforms.specs.SoFar.{SoFar, lock_in, entries_in};
 ghost use Rattle.rforms.specs.declared.fault.Code.{Code};
-ghost use Rattle.rtrace.specs.Knows.{Knows, state_in, changes_in};
+ghost use Rattle.rtrace.specs.Knows.{Knows, state_in, changes_in, past_in};
 ghost use Rattle.rtrace.specs.Takes.{Takes, Refuses, IsReady, IsPlaced, FitsTold, event_admitted, stepped, noted};
 
 use crate::place::{AT_ACTS, AT_CHANGES};
@@ -18,18 +20,21 @@ use rforms::{Code, Refusal, RowErr};
 use rmodel::{Granted, Machine, admit};
 use rplain::Plain;
 use rset::ResourceSet;
+use rwaits::Following;
 use std::alloc::{AllocError, Global};
 
-/// One step of the machine, by an event whose request is right by itself.
-pub fn apply(machine: &mut Plain, event: &Event) -> Result<(), Refusal>
-    requires { FitsTold machine.old.state event.now }
+/// One step of the machine, by an event whose request is right by itself, and of what follows it.
+pub fn apply(machine: &mut Plain, following: &mut Following, event: &Event) -> Result<(), Refusal>
+    requires fits { FitsTold machine.old.state event.now }
+    requires known { (p : Past) × Follows following.old p × (machine.old.state ≡ state_of p) × (length p.events < 2 ^ 63) }
     ensures stepped { OnOk result ((refusal_in machine.old.state event.now ≡ None) × (machine.new ≡ stepped machine.old.state event.now) × AreActive (stepped machine.old.state event.now).last.statuses) }
+    ensures followed { OnOk result ((p : Past) → Follows following.old p → machine.old.state ≡ state_of p → Follows following.new (with_event p event.now)) }
     ensures refused { IfErr result (λ cause. refusal_in machine.old.state event.now ≡ Some cause) }
 {
     if !is_admitted(machine.groups(), event) {
         return Err(Refusal::Request(RequestErr::Undeclared));
     }
-    match machine.step(*event) {
+    match following.step(machine, event) {
         Ok(()) => Ok(()),
         Err(cause) => Err(Refusal::Step(cause)),
     }
@@ -79,8 +84,11 @@ impl Reading {
         let Some(machine) = &mut self.machine else {
             return Err(RowErr::Memory);
         };
+        let Some(following) = &mut self.following else {
+            return Err(RowErr::Memory);
+        };
         let held = held_before(whole, machine, event);
-        match apply(machine, event) {
+        match apply(machine, following, event) {
             Ok(()) => {
                 self.note(event, held);
                 Ok(())
@@ -89,12 +97,13 @@ impl Reading {
         }
     }
 
-    // Makes the machine, if it is not there: all names are declared by now.
+    // Makes the machine and what follows it, if they are not there: all names are declared by now.
     fn make_machine(&mut self, alloc: Global) -> Result<(), AllocError>
         requires ready { IsReady self.old }
         requires placed { IsPlaced self.old }
         ensures made { OnOk result (IsSome self.new.machine × ((whole : Bool) (s : SoFar) → Knows whole self.old s → (state_in s self.new.machine ≡ lock_in s) × (changes_in self.new.machine ≡ changes_in self.old.machine))) }
-        ensures others { self.new ≡ record self.old { machine = self.new.machine } }
+        ensures followed { OnOk result ((whole : Bool) (s : SoFar) → Knows whole self.old s → IfSome self.new.following (λ f. Follows f (past_in s))) }
+        ensures others { self.new ≡ record self.old { machine = self.new.machine; following = self.new.following } }
     {
         if self.machine.is_none() {
             self.make_first(alloc)
@@ -103,7 +112,7 @@ impl Reading {
         }
     }
 
-    // Makes the machine that is not there. Room for one is left out of the path of each event.
+    // Makes the machine that is not there, and what follows it. Room for them is left out of the path of each event.
     #[cold]
     #[inline(never)]
     fn make_first(&mut self, alloc: Global) -> Result<(), AllocError>
@@ -111,7 +120,8 @@ impl Reading {
         requires placed { IsPlaced self.old }
         requires none { self.old.machine ≡ None }
         ensures made { OnOk result (IsSome self.new.machine × ((whole : Bool) (s : SoFar) → Knows whole self.old s → (state_in s self.new.machine ≡ lock_in s) × (changes_in self.new.machine ≡ changes_in self.old.machine))) }
-        ensures others { self.new ≡ record self.old { machine = self.new.machine } }
+        ensures followed { OnOk result ((whole : Bool) (s : SoFar) → Knows whole self.old s → IfSome self.new.following (λ f. Follows f (past_in s))) }
+        ensures others { self.new ≡ record self.old { machine = self.new.machine; following = self.new.following } }
     {
         let Some(groups) = &self.groups else {
             return Ok(());
@@ -119,7 +129,9 @@ impl Reading {
         let groups = groups.copy(alloc)?;
         let tasks = self.tasks.len();
         let cap = self.cap.unwrap_or(tasks);
-        self.machine = Some(Plain::new(alloc, groups, tasks, cap)?);
+        let machine = Plain::new(alloc, groups, tasks, cap)?;
+        self.following = Some(Following::new(alloc)?);
+        self.machine = Some(machine);
         Ok(())
     }
 

@@ -1,6 +1,10 @@
 // Reading a whole text.
-ghost use Rattle.std.specs.Prelude.{◌≡◌, Bool, true, false, IfOk};
-ghost use Rattle.rforms.specs.Takers.{IsFirstFault};
+ghost use Rattle.std.specs.Prelude.{◌≡◌, ◌<◌, ◌^◌, ◌++◌, ◌∷◌, [], ℕ, List, length, true, false, OnOk, IfOk};
+ghost use Rattle.rforms.specs.Records.{Row};
+ghost use Rattle.rforms.specs.Takers.{IsFirstFault, HasTaken, list_code, is_list_done};
+ghost use Rattle.rtrace.specs.Collects.{Keeps, KnowsReport};
+ghost use Rattle.rtrace.specs.ToldBounds.{KnowsBounds, HasRead};
+ghost use Rattle.rtrace.specs.declared.reading.Reading.{Reading};
 ghost use Rattle.rforms.specs.Texts.{IsTextOf};
 ghost use Rattle.rforms.specs.Written.{MayBeWritten};
 ghost use Rattle.rforms.specs.declared.fault.Code.{Code};
@@ -8,11 +12,13 @@ ghost use Rattle.rforms.specs.declared.fault.Code.TheVariants.{NoEnd};
 ghost use Rattle.rforms.specs.declared.fault.Fault.{Fault};
 ghost use Rattle.rreport.specs.Report.{told_by, IsOverResources, HasItsLedgers};
 
+use crate::bounds::BoundsKept;
 use crate::collect::Collecting;
+use crate::taken::Taken;
 use csv::ByteRecord;
-use rforms::{Code, Records, RowErr, TextErr, take_text};
+use rforms::{Code, Fault, Records, RowErr, TextErr, take_text};
 use rreport::Report;
-use std::alloc::Global;
+use std::alloc::{AllocError, Global};
 
 /// Takes the records of an event list, and keeps what they say.
 #[derive(Drop)]
@@ -20,10 +26,11 @@ pub struct ListTaker {
     pub inner: Collecting,
 }
 
-/// Takes the records of a report, and keeps what they say.
+/// Takes the records of a report, and keeps what they say, and what they tell of bounds.
 #[derive(Drop)]
 pub struct ReportTaker {
     pub inner: Collecting,
+    pub bounds: BoundsKept,
 }
 
 impl Records for ListTaker {
@@ -54,7 +61,7 @@ impl Records for ListTaker {
 }
 
 impl Records for ReportTaker {
-    ghost use Rattle.rforms.specs.Takers.{list_code, is_list_done, KnowsSaid};
+    ghost use Rattle.rforms.specs.Takers.{list_code, is_list_done};
     ghost use Rattle.rtrace.specs.Collects.{KnowsReport};
 
     type Code = Code;
@@ -65,10 +72,21 @@ impl Records for ReportTaker {
 
     ghost no_end = { NoEnd };
 
-    ghost knows = { KnowsSaid true KnowsReport };
+    ghost knows = { KnowsReport };
 
     fn take(&mut self, fields: &ByteRecord) -> Result<(), RowErr> {
-        self.inner.take(fields)
+        let mut taken = Taken::Other;
+        if let Err(e) = self
+            .inner
+            .reading
+            .take(self.inner.alloc, fields, &mut taken)
+        {
+            return Err(e);
+        }
+        let Ok(()) = self.keep(taken) else {
+            return Err(RowErr::Memory);
+        };
+        Ok(())
     }
 
     fn has_ended(&self) -> bool {
@@ -77,6 +95,19 @@ impl Records for ReportTaker {
 
     fn no_end(&self) -> Code {
         Code::NoEnd
+    }
+}
+
+impl ReportTaker {
+    // Keeps what a record told that the reader took.
+    fn keep(&mut self, taken: Taken) -> Result<(), AllocError>
+        requires { (old : Reading) × (rows : List Row) × (row : Row) × KnowsBounds self.old.bounds rows × HasRead old self.old.inner.reading rows row taken × (length rows < 2 ^ 62) }
+        ensures kept { OnOk result (Keeps taken self.old.inner self.new.inner) }
+        ensures bounds { OnOk result ((old : Reading) (rows : List Row) (row : Row) → KnowsBounds self.old.bounds rows → HasRead old self.old.inner.reading rows row taken → KnowsBounds self.new.bounds (rows ++ row ∷ [])) }
+    {
+        self.bounds
+            .take(self.inner.alloc, &self.inner.reading, &taken)?;
+        self.inner.keep_taken(taken)
     }
 }
 
@@ -111,9 +142,29 @@ pub fn read_report(alloc: Global, bytes: &[u8]) -> Result<Report, TextErr>
 {
     let mut taker = ReportTaker {
         inner: Collecting::new(alloc, true),
+        bounds: BoundsKept::new(),
     };
     match take_text(alloc, bytes, &mut taker) {
-        Ok(()) => taker.inner.report(),
+        Ok(()) => finished(taker),
         Err(e) => Err(e),
+    }
+}
+
+// The report of what was taken, or the first record that told a wrong bound.
+fn finished(taker: ReportTaker) -> Result<Report, TextErr>
+    requires { (bytes : List ℕ) × HasTaken (list_code true) (is_list_done true) NoEnd KnowsReport bytes taker }
+    ensures report { IfOk result (λ r. (bytes : List ℕ) → HasTaken (list_code true) (is_list_done true) NoEnd KnowsReport bytes taker → IsTextOf true bytes (told_by r) × IsOverResources r × HasItsLedgers r) }
+    ensures bad { (fault : Fault Code) → result ≡ Err (TextErr.Bad fault) → (bytes : List ℕ) → HasTaken (list_code true) (is_list_done true) NoEnd KnowsReport bytes taker → IsFirstFault true bytes fault }
+{
+    match taker
+        .bounds
+        .first_wrong(taker.inner.alloc, &taker.inner.reading)
+    {
+        Ok(None) => taker.inner.report(),
+        Ok(Some(line)) => Err(TextErr::Bad(Fault {
+            line,
+            code: Code::WrongBound,
+        })),
+        Err(_) => Err(TextErr::Memory),
     }
 }

@@ -57,16 +57,18 @@ impl Reading {
         }
     }
 
-    /// Whether a line that tells a change is due.
+    /// Whether a line that tells a change, or a wait that is over, is due.
     pub fn is_change_due(&self) -> bool
         ensures { (whole : Bool) (s : SoFar) → Knows whole self.now s → result ≡ is_change_due s }
     {
         if !self.whole || self.last >= AT_LEDGERS {
             return false;
         }
-        match &self.machine {
-            Some(machine) => has_more(machine.changes(), self.told),
-            None => false,
+        match (&self.machine, &self.following) {
+            (Some(machine), Some(following)) => {
+                has_more(machine.changes(), following.ended(), self.told)
+            }
+            _ => false,
         }
     }
 }

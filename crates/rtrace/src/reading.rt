@@ -9,6 +9,7 @@ use rexpand::Groups;
 use rplain::Plain;
 use rset::{NameTable, ResourceSet};
 use rvalue::Ledger;
+use rwaits::Following;
 use std::alloc::Global;
 
 /// What the records so far have declared, and where their events lead: as much as is needed to judge the next record.
@@ -28,13 +29,16 @@ pub struct Reading {
     pub cap: Option<u8>,
     /// The machine, made at the first event. Its changes are those of the latest event.
     pub machine: Option<Plain>,
+    /// What follows the waits beside it, made with it. It has those that the latest event ended.
+    pub following: Option<Following>,
     /// The ledger of each resource, after the acts so far.
     pub ledgers: Vec<Ledger>,
     /// What acts behind the latest event may show.
     pub shown: ResourceSet,
     /// What they may edit.
     pub edited: ResourceSet,
-    /// How many of the latest event's changes were told; from the first ledger on, how many ledgers.
+    /// How many of the latest event's changes, and of the waits that it ended, were told; from the first ledger on, how many
+    /// ledgers.
     pub told: usize,
 }
 
@@ -51,6 +55,7 @@ impl Reading {
             tasks: NameTable::new(alloc),
             cap: None,
             machine: None,
+            following: None,
             ledgers: Vec::new(alloc),
             shown: ResourceSet::empty(),
             edited: ResourceSet::empty(),

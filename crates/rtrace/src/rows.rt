@@ -5,17 +5,19 @@ ghost use Rattle.rexpand.specs.declared.TheConstants.{GROUPS};
 ghost use Rattle.rforms.specs.SoFar.{SoFar};
 ghost use Rattle.rforms.specs.Words.{word_in};
 ghost use Rattle.rforms.specs.declared.fault.Code.{Code};
-ghost use Rattle.rrecords.specs.Told.{is_event, is_act, is_status};
+ghost use Rattle.rrecords.specs.Told.{is_event, is_act, is_status, is_wait};
 ghost use Rattle.rtrace.specs.Knows.{Knows};
-ghost use Rattle.rtrace.specs.Takes.{TakesRow, RefusesRow, IsReady};
+ghost use Rattle.rtrace.specs.Takes.{TakesRow, RefusesRow, TellsBound, IsReady};
 
 use crate::place::{AT_CHANGES, AT_TASKS};
 use crate::reading::Reading;
-use crate::taken::Taken;
+use crate::taken::{BoundTold, Taken};
 use csv::ByteRecord;
 use rexpand::GROUPS;
-use rforms::{Code, Refusal, RowErr, Word, field_of, word_in};
-use rrecords::{EventTold, act_of, cap_of, change_of, event_of, grant_of, group_of, ledger_of};
+use rforms::{Code, Refusal, RowErr, Stage, Word, field_of, word_in};
+use rrecords::{
+    EventTold, act_of, cap_of, change_of, event_of, grant_of, group_of, ledger_of, wait_of,
+};
 use std::alloc::Global;
 
 impl Reading {
@@ -33,6 +35,7 @@ impl Reading {
     ) -> Result<(), RowErr>
         requires { IsReady self.old }
         ensures taken { OnOk result (TakesRow self.old self.new (fields_of fields.now) taken.new) }
+        ensures bound { OnOk result (TellsBound self.old (fields_of fields.now) taken.new) }
         ensures bad { (code : Code) → result ≡ Err (RowErr.Bad code) → RefusesRow self.old (fields_of fields.now) code }
     {
         let Some(word) = word_in(self.whole, fields) else {
@@ -45,6 +48,7 @@ impl Reading {
             Word::Show | Word::Add { .. } | Word::Take { .. } | Word::Put { .. } => {
                 self.take_act(word, fields, taken)
             }
+            Word::Wait(stage) => self.take_wait(stage, fields, taken),
             Word::Entitled { .. }
             | Word::Satisfied { .. }
             | Word::Grant
@@ -54,10 +58,33 @@ impl Reading {
             | Word::Resource
             | Word::Task
             | Word::Cap
-            | Word::End => {
+            | Word::End => self.take_plain(alloc, word, fields, taken),
+        }
+    }
+
+    // Takes a record that tells nothing of the history and no wait, and says so.
+    fn take_plain(
+        &mut self,
+        alloc: Global,
+        word: Word,
+        fields: &ByteRecord,
+        taken: &mut Taken,
+    ) -> Result<(), RowErr>
+        requires ready { IsReady self.old }
+        requires word { word_in self.old.whole (fields_of fields.now) ≡ Some word }
+        requires event { is_event word ≡ false }
+        requires act { is_act word ≡ false }
+        requires wait { is_wait word ≡ false }
+        ensures taken { OnOk result (TakesRow self.old self.new (fields_of fields.now) taken.new) }
+        ensures bound { OnOk result (TellsBound self.old (fields_of fields.now) taken.new) }
+        ensures bad { (code : Code) → result ≡ Err (RowErr.Bad code) → RefusesRow self.old (fields_of fields.now) code }
+    {
+        match self.take_other(alloc, word, fields) {
+            Ok(()) => {
                 *taken = Taken::Other;
-                self.take_other(alloc, word, fields)
+                Ok(())
             }
+            Err(e) => Err(e),
         }
     }
 
@@ -67,6 +94,7 @@ impl Reading {
         requires word { word_in self.old.whole (fields_of fields.now) ≡ Some word }
         requires event { is_event word ≡ false }
         requires act { is_act word ≡ false }
+        requires wait { is_wait word ≡ false }
         ensures taken { OnOk result (TakesRow self.old self.new (fields_of fields.now) Taken.Other) }
         ensures bad { (code : Code) → result ≡ Err (RowErr.Bad code) → RefusesRow self.old (fields_of fields.now) code }
     {
@@ -82,6 +110,7 @@ impl Reading {
             Word::End => self.take_end(fields),
             Word::Issue(_) | Word::Finish | Word::Rise | Word::Ask => unreachable!(),
             Word::Show | Word::Add { .. } | Word::Take { .. } | Word::Put { .. } => unreachable!(),
+            Word::Wait(_) => unreachable!(),
         }
     }
 
@@ -97,6 +126,7 @@ impl Reading {
         requires word { word_in self.old.whole (fields_of fields.now) ≡ Some word }
         requires event { is_event word ≡ true }
         ensures taken { OnOk result (TakesRow self.old self.new (fields_of fields.now) taken.new) }
+        ensures bound { OnOk result (TellsBound self.old (fields_of fields.now) taken.new) }
         ensures bad { (code : Code) → result ≡ Err (RowErr.Bad code) → RefusesRow self.old (fields_of fields.now) code }
     {
         let told = match event_of(&self.resources, &self.tasks, word, fields) {
@@ -126,6 +156,7 @@ impl Reading {
         requires word { word_in self.old.whole (fields_of fields.now) ≡ Some word }
         requires act { is_act word ≡ true }
         ensures taken { OnOk result (TakesRow self.old self.new (fields_of fields.now) taken.new) }
+        ensures bound { OnOk result (TellsBound self.old (fields_of fields.now) taken.new) }
         ensures bad { (code : Code) → result ≡ Err (RowErr.Bad code) → RefusesRow self.old (fields_of fields.now) code }
     {
         match act_of(&self.resources, &self.tasks, word, fields) {
@@ -165,6 +196,31 @@ impl Reading {
         match grant_of(&self.resources, &self.tasks, fields) {
             Ok(told) => match self.grant(told.seat, told.set) {
                 Ok(()) => Ok(()),
+                Err(code) => Err(RowErr::Bad(code)),
+            },
+            Err(code) => Err(RowErr::Bad(code)),
+        }
+    }
+
+    // Takes the record of a wait of this stage.
+    fn take_wait(
+        &mut self,
+        stage: Stage,
+        fields: &ByteRecord,
+        taken: &mut Taken,
+    ) -> Result<(), RowErr>
+        requires { word_in self.old.whole (fields_of fields.now) ≡ Some (Word.Wait stage) }
+        ensures taken { OnOk result (TakesRow self.old self.new (fields_of fields.now) taken.new) }
+        ensures bound { OnOk result (TellsBound self.old (fields_of fields.now) taken.new) }
+        ensures bad { (code : Code) → result ≡ Err (RowErr.Bad code) → RefusesRow self.old (fields_of fields.now) code }
+    {
+        match wait_of(&self.resources, &self.tasks, stage, fields) {
+            Ok(told) => match self.wait(&told) {
+                Ok(wait) => {
+                    let bound = told.bound;
+                    *taken = Taken::Wait(BoundTold { wait, bound });
+                    Ok(())
+                }
                 Err(code) => Err(RowErr::Bad(code)),
             },
             Err(code) => Err(RowErr::Bad(code)),

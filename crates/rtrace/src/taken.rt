@@ -1,6 +1,17 @@
 // What a record that was taken tells.
+use rbound::Bound;
 use rclaim::Event;
+use rcover::WaitEnd;
 use rvalue::{Act, Edit};
+
+/// A wait that the latest event ended, and the bound that a record tells of it.
+#[derive(Clone, Copy)]
+pub struct BoundTold {
+    /// The wait.
+    pub wait: WaitEnd,
+    /// What is said to be its bound.
+    pub bound: Bound,
+}
 
 /// What a record that was taken tells of the history.
 #[derive(Drop)]
@@ -9,6 +20,8 @@ pub enum Taken {
     Event(Event),
     /// The section of the latest event did this.
     Act(Act<Edit>),
+    /// A wait that the latest event ended has this bound.
+    Wait(BoundTold),
     /// Nothing that stands in the history.
     Other,
 }

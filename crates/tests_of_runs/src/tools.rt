@@ -133,7 +133,16 @@ fn push_adder(text: &mut Vec<u8>, name: &[u8], sections: u32) -> Result<(), Allo
     Ok(())
 }
 
-// Whether two tasks that add to one resource leave its ledger with all that they added, and an audit accepts the report.
+// How many lines of a report tell waits.
+fn waits_told(report: &[u8]) -> usize {
+    report
+        .split(|byte| *byte == b'\n')
+        .filter(|line| line.starts_with(b"wait,"))
+        .count()
+}
+
+// Whether two tasks that add to one resource leave its ledger with all that they added, and an audit accepts the report and
+// counts its waits.
 fn adders_add<R: Threads + Wait + Sync>(rt: &R, alloc: Global) -> Result<bool, AllocError> {
     let mut script = Vec::from_slice(alloc, b"rnlp,1\nresource,a\n")?;
     push_adder(&mut script, b"t1", 100)?;
@@ -141,12 +150,13 @@ fn adders_add<R: Threads + Wait + Sync>(rt: &R, alloc: Global) -> Result<bool, A
     script.extend_from_slice(b"end\n")?;
     let ran = run_with(rt, alloc, &script, &[], &[], &NoPace)?;
     let told = audited(alloc, &ran.written)?;
-    let due: &[u8] = b"audit,400,0\nend\n";
+    let waits = waits_told(&ran.written);
+    let due = format!(in alloc; "audit,400,{waits}\nend\n")?;
     Ok(
         ran.status == ToolStatus::Done
             && ran.receipts == 1
             && ran.written.ends_with(b"\nledger,a,200,200\nend\n")
-            && told.as_slice() == due,
+            && told.as_slice() == due.as_bytes(),
     )
 }
 

@@ -19,6 +19,18 @@ const WRONG: &[u8] =
 const QUOTED: &[u8] =
     b"\"rnlp\",1\r\nresource,a\r\ntask,\"t1\"\r\ncap,1\r\nledger,a,0,0\r\nend\r\n";
 
+// The report of two waits that one finish ends.
+const WAITS: &[u8] =
+    b"rnlp,1\nresource,a\nresource,b\ntask,t1\ntask,t2\ntask,t3\ncap,3\nissue,t1,write,a+b,2\nnow,t1,write,satisfied\ngrant,t1,a+b\nissue,t2,read,a,1\nnow,t2,read,entitled\nissue,t3,write,b,1\nfinish,t1\nnow,t2,read,satisfied\nnow,t3,write,satisfied\ngrant,t2,a\ngrant,t3,b\nwait,t2,first,0,1,2,0,1,2\nwait,t3,first,0,1,2,2,1,4\nledger,a,0,0\nledger,b,0,0\nend\n";
+
+// The same, where the first tells a bound that is too high.
+const WRONG_BOUND: &[u8] =
+    b"rnlp,1\nresource,a\nresource,b\ntask,t1\ntask,t2\ntask,t3\ncap,3\nissue,t1,write,a+b,2\nnow,t1,write,satisfied\ngrant,t1,a+b\nissue,t2,read,a,1\nnow,t2,read,entitled\nissue,t3,write,b,1\nfinish,t1\nnow,t2,read,satisfied\nnow,t3,write,satisfied\ngrant,t2,a\ngrant,t3,b\nwait,t2,first,0,1,2,0,1,3\nwait,t3,first,0,1,2,2,1,4\nledger,a,0,0\nledger,b,0,0\nend\n";
+
+// The same, with a wrong ledger behind it.
+const WRONG_LEDGER: &[u8] =
+    b"rnlp,1\nresource,a\nresource,b\ntask,t1\ntask,t2\ntask,t3\ncap,3\nissue,t1,write,a+b,2\nnow,t1,write,satisfied\ngrant,t1,a+b\nissue,t2,read,a,1\nnow,t2,read,entitled\nissue,t3,write,b,1\nfinish,t1\nnow,t2,read,satisfied\nnow,t3,write,satisfied\ngrant,t2,a\ngrant,t3,b\nwait,t2,first,0,1,2,0,1,3\nwait,t3,first,0,1,2,2,1,4\nledger,a,0,0\nledger,b,0,1\nend\n";
+
 // Whether an audit of a report that comes one byte a read, of which reads with these numbers fail, ends with this status,
 // and writes this two bytes a write.
 fn audits(
@@ -59,6 +71,16 @@ fn a_report_may_come_byte_by_byte(rt: HostRuntime) -> Result<(), Fail> {
             ToolStatus::Done,
             b"audit,0,0\nend\n",
         )?;
+    assert!(rt; all);
+    Ok(())
+}
+
+#[test]
+fn waits_may_come_byte_by_byte(rt: HostRuntime) -> Result<(), Fail> {
+    let alloc = rt.alloc();
+    let all = audits(alloc, WAITS, &[], ToolStatus::Done, b"audit,4,2\nend\n")?
+        && audits(alloc, WRONG_BOUND, &[], ToolStatus::Trace, b"error,19,9\n")?
+        && audits(alloc, WRONG_LEDGER, &[], ToolStatus::Trace, b"error,22,7\n")?;
     assert!(rt; all);
     Ok(())
 }

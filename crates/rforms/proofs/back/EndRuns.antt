@@ -7,6 +7,7 @@ use Rattle.rset.specs.Sets.{Set}
 use Rattle.rforms.specs.Heads.{Head, is_nil, IsHead}
 use Rattle.rforms.specs.Lines.{Line, Leaves, Ends}
 use Rattle.rforms.specs.Reports.{Entry, ledger_after, ledger_lines, history_lines, head_lines, lines_of, IsLawful}
+use Rattle.rforms.specs.Waits.{no_bounds}
 use Rattle.rforms.specs.SoFar.{SoFar, nothing_yet, ledgers_due, with_line, at_ledgers}
 use Rattle.rforms.specs.Faults.{is_ledger, is_first, is_same_line}
 use Rattle.rforms.proofs.lists.SameLines.{ledger_itself}
@@ -95,7 +96,7 @@ module _ (whole : Bool) (rs : List (List ℕ)) (gs : List Set) (ts : List (List 
     pub runs : Runs whole nothing_yet lines (alive 9 earlier latest [])
 
   pub lines_run : (entries : List Entry) → IsHead (head_of whole rs gs ts told) told → IsLawful (head_of whole rs gs ts told) entries
-      → Ended (lines_of whole told (record { head = head_of whole rs gs ts told; entries = entries })) entries
+      → Ended (lines_of whole no_bounds told (record { head = head_of whole rs gs ts told; entries = entries })) entries
   lines_run entries h lawful =
       let head = head_of whole rs gs ts told in
       let p = last_place 4 5 (option_to_list told) in
@@ -105,7 +106,7 @@ module _ (whole : Bool) (rs : List (List ℕ)) (gs : List Set) (ts : List (List 
       let due = due_at b.place b.earlier b.latest b.high ∙ ap (λ (xs : List Entry). ledger_lines whole head xs) b.all in
       let c = ledgers_run b.place b.earlier b.latest (ledger_lines whole head entries) b.low b.high (ledgers_are whole head entries) due in
       let d = end_run c.0 b.earlier b.latest c.1 c.2 c.3 in
-      let history = history_lines whole head [] entries in
+      let history = history_lines whole no_bounds head [] entries in
       let ledgers = ledger_lines whole head entries in
       let t = alive b.place b.earlier b.latest [] in
       let u = alive c.0 b.earlier b.latest [] in

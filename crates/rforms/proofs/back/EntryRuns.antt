@@ -12,6 +12,7 @@ use Rattle.rclaim.specs.declared.claim.Status.{Status}
 use Rattle.rclaim.specs.declared.claim.Status.TheVariants.{Waiting, Entitled, Satisfied}
 use Rattle.rclaim.specs.declared.event.Event.{Event}
 use Rattle.rclaim.specs.declared.event.Event.TheVariants as event
+use Rattle.rcover.specs.declared.wait_end.WaitEnd.{WaitEnd}
 use Rattle.rmodel.specs.Changes.{changes_between}
 use Rattle.rmodel.specs.State.{LockState}
 use Rattle.rmodel.specs.Steps.{next}
@@ -22,8 +23,9 @@ use Rattle.rvalue.specs.declared.act.Act.TheVariants.{Edited, Shown}
 use Rattle.rvalue.specs.declared.ledger.Edit.{Edit}
 use Rattle.rvalue.specs.declared.ledger.Edit.TheVariants as edit
 use Rattle.rforms.specs.Heads.{Head, cap_or}
-use Rattle.rforms.specs.Lines.{Line, Happens, Does, BecomesEntitled, BecomesSatisfied, Grants, event_word, act_word}
-use Rattle.rforms.specs.Reports.{Entry, lock_after, change_lines, status_lines, grant_line, entry_lines, history_lines, IsRightEntry}
+use Rattle.rforms.specs.Lines.{Line, Happens, Does, BecomesEntitled, BecomesSatisfied, Grants, Waits, event_word, act_word}
+use Rattle.rforms.specs.Reports.{Entry, lock_after, change_lines, status_lines, grant_line, wait_line, wait_lines, due_lines, entry_lines, history_lines, IsRightEntry}
+use Rattle.rforms.specs.Waits.{ended_in, no_bounds}
 use Rattle.rforms.specs.Events.{refusal_in}
 use Rattle.rforms.specs.SoFar.{SoFar, lock_in, with_line, event_place, bare, stands, at_ledgers}
 use Rattle.rforms.specs.Faults.{is_change, is_change_due, is_group_more, is_same_line}
@@ -64,6 +66,19 @@ changes_are true s e =
     let changes : ChangeLists = changes_between s (next s e) in
     all_both _ (flat_map (λ (c : StatusChange). status_lines c.seat c.write_half c.status) changes.statuses) (map grant_line changes.grants) (statuses_are changes.statuses) (grants_are changes.grants)
 changes_are false s e = tt
+
+waits_are : (ws : List WaitEnd) → AreChanges (map (wait_line no_bounds) ws)
+waits_are [] = tt
+waits_are (w ∷ ws) = (refl, waits_are ws)
+
+waits_due : (whole : Bool) (head : Head) (earlier : List Entry) (e : Event) → AreChanges (wait_lines whole no_bounds head earlier e)
+unfolding wait_lines
+waits_due true head earlier e = waits_are (ended_in head earlier e)
+waits_due false head earlier e = tt
+
+dues_are : (whole : Bool) (head : Head) (earlier : List Entry) (e : Event) → AreChanges (due_lines whole no_bounds head earlier e)
+dues_are whole head earlier e =
+    all_both _ (change_lines whole (lock_after head earlier) e) (wait_lines whole no_bounds head earlier e) (changes_are whole (lock_after head earlier) e) (waits_due whole head earlier e)
 
 -- ---- where lines of entries may stand
 
@@ -167,6 +182,7 @@ module _ (whole : Bool) (rs : List (List ℕ)) (gs : List Set) (ts : List (List 
       fine_at : (l : Line) → is_same_line l l ≡ true → is_change l ≡ true → IsFine whole (living p done latest (l ∷ due)) l
       fine_at (BecomesEntitled seat half) same c = record { declared = refl; placed = unplaced _; accepted = refl; change = due_now _ same; act = refl; ledger = refl }
       fine_at (BecomesSatisfied seat half) same c = record { declared = refl; placed = unplaced _; accepted = refl; change = due_now _ same; act = refl; ledger = refl }
+      fine_at (Waits seat which cover bound) same c = record { declared = refl; placed = unplaced _; accepted = refl; change = due_now _ same; act = refl; ledger = refl }
       fine_at (Grants seat set) same c = record { declared = refl; placed = unplaced _; accepted = refl; change = due_now _ same; act = refl; ledger = refl }
       fine_at _ same c = absurd (true≢false (sym c))
 
@@ -174,6 +190,7 @@ module _ (whole : Bool) (rs : List (List ℕ)) (gs : List Set) (ts : List (List 
       → IsNext whole (living p done latest (line ∷ due)) line × (with_line whole (living p done latest (line ∷ due)) line ≡ living 7 done latest due)
   change_next p done latest due (BecomesEntitled seat half) change fine = (record { room = refl; fine = fine; comes = λ _. tt }, refl)
   change_next p done latest due (BecomesSatisfied seat half) change fine = (record { room = refl; fine = fine; comes = λ _. tt }, refl)
+  change_next p done latest due (Waits seat which cover bound) change fine = (record { room = refl; fine = fine; comes = λ _. tt }, refl)
   change_next p done latest due (Grants seat set) change fine = (record { room = refl; fine = fine; comes = λ _. tt }, refl)
   change_next p done latest due _ change fine = absurd (true≢false (sym change))
 
@@ -188,12 +205,12 @@ module _ (whole : Bool) (rs : List (List ℕ)) (gs : List Set) (ts : List (List 
 
   -- the lines of an entry
   entry_run : (p : ℕ) (earlier : List Entry) (latest : Option Entry) (entry : Entry) → 4 ≤ p → p ≤ 7 → IsRightEntry head_of (earlier ++ option_to_list latest) entry
-      → (q : ℕ) × (6 ≤ q) × (q ≤ 7) × Runs whole (living p earlier latest []) (entry_lines whole head_of (earlier ++ option_to_list latest) entry) (living q (earlier ++ option_to_list latest) (Some entry) [])
+      → (q : ℕ) × (6 ≤ q) × (q ≤ 7) × Runs whole (living p earlier latest []) (entry_lines whole no_bounds head_of (earlier ++ option_to_list latest) entry) (living q (earlier ++ option_to_list latest) (Some entry) [])
   entry_run p earlier latest entry low high right =
       let done = earlier ++ option_to_list latest in
       let s = living p earlier latest [] in
       let e = entry.event in
-      let changes = change_lines whole (lock_after head_of done) e in
+      let changes = due_lines whole no_bounds head_of done e in
       let at = event_stands e p low high in
       let free : refusal_in (lock_in s) e ≡ None = accepted_free (lock_after head_of done) e right.comes in
       let fine = plain_fine whole s (Happens e) refl refl at.0 at.1 refl refl (none_either (is_change_due s) (refusal_in (lock_in s) e) free) refl refl in
@@ -203,7 +220,7 @@ module _ (whole : Bool) (rs : List (List ℕ)) (gs : List Set) (ts : List (List 
       let end = last_place q 7 changes in
       let last = place_within q 7 changes mid.0 mid.1 (omega arith) (omega arith) in
       let a = acts_run done entry changes right (event_place e) [] entry.acts (acts_place e) refl in
-      let c = changes_run done (Some entry) q changes mid.1 (changes_are whole (lock_after head_of done) e) in (
+      let c = changes_run done (Some entry) q changes mid.1 (dues_are whole head_of done e) in (
         end,
         last.0,
         last.1,
@@ -223,7 +240,7 @@ module _ (whole : Bool) (rs : List (List ℕ)) (gs : List Set) (ts : List (List 
     pub runs : Runs whole s lines (living place earlier latest [])
 
   pub entries_run : (p : ℕ) (earlier : List Entry) (latest : Option Entry) (entries : List Entry) → 4 ≤ p → p ≤ 7 → AllInTurn (IsRightEntry head_of) (earlier ++ option_to_list latest) entries
-      → Reaches (living p earlier latest []) (history_lines whole head_of (earlier ++ option_to_list latest) entries) ((earlier ++ option_to_list latest) ++ entries)
+      → Reaches (living p earlier latest []) (history_lines whole no_bounds head_of (earlier ++ option_to_list latest) entries) ((earlier ++ option_to_list latest) ++ entries)
   unfolding history_lines
   entries_run p earlier latest [] low high lawful = record {
     place = p;
@@ -245,6 +262,6 @@ module _ (whole : Bool) (rs : List (List ℕ)) (gs : List Set) (ts : List (List 
         low = rest.low;
         high = rest.high;
         all = rest.all ∙ append_assoc done (entry ∷ []) entries;
-        runs = runs_both whole (living p earlier latest []) (living one.0 done (Some entry) []) (living rest.place rest.earlier rest.latest []) (entry_lines whole head_of done entry)
-            (history_lines whole head_of (done ++ entry ∷ []) entries) one.3 rest.runs;
+        runs = runs_both whole (living p earlier latest []) (living one.0 done (Some entry) []) (living rest.place rest.earlier rest.latest []) (entry_lines whole no_bounds head_of done entry)
+            (history_lines whole no_bounds head_of (done ++ entry ∷ []) entries) one.3 rest.runs;
       }

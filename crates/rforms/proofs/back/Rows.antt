@@ -1,6 +1,6 @@
 -- Records that spell a report have no fault.
-use Rattle.std.proofs.Common.{◌≡◌, ℕ, ◌≤◌, Bool, true, false, not, List, [], ◌∷◌, fold, Option, Some, None, refl, sym, ap, subst, ◌∙◌}
-use Rattle.std.specs.Prelude.{is_none, option_map}
+use Rattle.std.proofs.Common.{◌≡◌, ℕ, ◌+◌, ◌≤◌, Bool, true, false, not, List, [], ◌∷◌, fold, Option, Some, None, refl, sym, ap, subst, ◌∙◌}
+use Rattle.std.specs.Prelude.{is_none, option_map, option_and_then}
 use Rattle.std.specs.List.{AllZip}
 use Rattle.std.proofs.lemmas.Bool.{and_from}
 use Rattle.rset.specs.Sets.{Set}
@@ -10,10 +10,12 @@ use Rattle.rforms.specs.Fields.{Names, Field, Said, Fresh, OneResource, OneTask,
 use Rattle.rforms.specs.Heads.{cap_or, names_of, IsHead}
 use Rattle.rforms.specs.Words.{fields_of}
 use Rattle.rforms.specs.Lines.{Line, line_by, word_of, meaning, meant_as}
+use Rattle.rforms.specs.Waits.{bound_in}
 use Rattle.rforms.specs.Reports.{Entry, Report, Spells, lines_of, IsLawful}
 use Rattle.rforms.specs.SoFar.{SoFar, nothing_yet, names_in, told_in, with_line, with_meaning, with_row}
-use Rattle.rforms.specs.Walks.{AllClean, when, first_of}
-use Rattle.rforms.specs.Faults.{code_of, code_by, code_of_meaning, is_group_more, is_ended, first_fault, read_all}
+use Rattle.rforms.specs.Walks.{AllClean, when, first_of, or_else}
+use Rattle.rforms.specs.Faults.{code_of, code_by, code_of_meaning, is_group_more, is_ended, first_record_fault, read_all}
+use Rattle.rforms.specs.WrongBounds.{bound_told, or_more, bounds_said, bounds_due, wrong_bound, first_other, first_wrong_bound, first_fault}
 use Rattle.rforms.specs.declared.fault.Code.{Code}
 use Rattle.rforms.specs.declared.fault.Code.TheVariants.{BadField, NoEnd}
 use Rattle.rforms.proofs.facts.Choices.{map_some}
@@ -23,6 +25,10 @@ use Rattle.rforms.proofs.facts.Said.{says, word_by}
 use Rattle.rforms.proofs.facts.ReadGood.{pair_some, chosen}
 use Rattle.rforms.proofs.forth.Stands.{AllNext}
 use Rattle.rforms.proofs.forth.Names.{means_same, own_place, resources_kept, tasks_kept, resources_same, tasks_same}
+use Rattle.rforms.proofs.lists.BlankLines.{lines_blank}
+use Rattle.rforms.proofs.lists.Likes.{told_from, none_other, bounds_are_due}
+use Rattle.rforms.proofs.lists.NoActs.{no_wrong_bound}
+use Rattle.rforms.proofs.back.BlankRuns.{all_blank, leads_blank}
 use Rattle.rforms.proofs.back.EntryRuns.{head_of}
 use Rattle.rforms.proofs.back.EndRuns.{lines_run}
 
@@ -70,10 +76,12 @@ row_leads whole s row line means = ap (with_meaning whole s) means
 record AreClean (whole : Bool) (s : SoFar) (rows : List Row) (lines : List Line) : Type 0 where
   pub clean : AllClean (code_of whole) (with_row whole) s rows
   pub leads : fold (with_row whole) s rows ≡ fold (with_line whole) s lines
+  pub bounds : (n : ℕ) → bounds_said whole n s rows ≡ told_from n lines
 
 rows_clean : (whole : Bool) (names : Names) (s : SoFar) (rows : List Row) (lines : List Line) → AllZip (λ row line. meaning whole names row ≡ Some line) rows lines → AllNext whole s lines
     → names_in (fold (with_line whole) s lines) ≡ names → AreClean whole s rows lines
-rows_clean whole names s [] [] said next final = record { clean = tt; leads = refl }
+unfolding bounds_said
+rows_clean whole names s [] [] said next final = record { clean = tt; leads = refl; bounds = λ n. refl }
 rows_clean whole names s [] (line ∷ lines) said next final = absurd said
 rows_clean whole names s (row ∷ rows) [] said next final = absurd said
 rows_clean whole names s (row ∷ rows) (line ∷ lines) said next final =
@@ -88,6 +96,7 @@ rows_clean whole names s (row ∷ rows) (line ∷ lines) said next final =
     record {
       clean = (no_code whole s row line means next.0.room next.0.fine, subst (λ (t : SoFar). AllClean (code_of whole) (with_row whole) t rows) (sym leads) rest.clean);
       leads = ap (λ (t : SoFar). fold (with_row whole) t rows) leads ∙ rest.leads;
+      bounds = λ n. (λ i. or_more n (option_and_then bound_told (means i)) (bounds_said whole (n + 1) (leads i) rows)) ∙ ap (or_more n (bound_told line)) (rest.bounds (n + 1));
     }
 
 -- ---- all records
@@ -95,29 +104,42 @@ rows_clean whole names s (row ∷ rows) (line ∷ lines) said next final =
 abbrev Clean : Bool → List Row → Report → Type 0
 Clean whole rows r = (first_fault whole rows ≡ None) × (told_in (read_all whole rows) ≡ r)
 
+-- where they have said the report, no bound is wrong
+right_bounds : (whole : Bool) (rows : List Row) (told : Option ℕ) (r : Report) → AreClean whole nothing_yet rows (lines_of whole (bound_in r.head r.entries) told r) → told_in (read_all whole rows) ≡ r → first_wrong_bound whole rows ≡ None
+right_bounds true rows told r all is =
+    let lines = lines_of true (bound_in r.head r.entries) told r in
+    ap (λ (q : Report). option_map wrong_bound (first_other (bounds_said true 1 nothing_yet rows) (bounds_due q.head q.entries))) is
+    ∙ (λ i. option_map wrong_bound (first_other (all.bounds 1 i) (sym (bounds_are_due told r) i)))
+    ∙ ap (option_map wrong_bound) (none_other 1 lines)
+right_bounds false rows told r all is = no_wrong_bound rows
+
 -- for a head whose cap is the one that is told, or else the number of tasks
 clean_told : (whole : Bool) (rows : List Row) (told : Option ℕ) (rs : List (List ℕ)) (gs : List Set) (ts : List (List ℕ)) (entries : List Entry)
-    → AllZip (λ row line. meaning whole (names_of (head_of whole rs gs ts told)) row ≡ Some line) rows (lines_of whole told (record { head = head_of whole rs gs ts told; entries = entries }))
+    → AllZip (λ row line. meaning whole (names_of (head_of whole rs gs ts told)) row ≡ Some line) rows (lines_of whole (bound_in (head_of whole rs gs ts told) entries) told (record { head = head_of whole rs gs ts told; entries = entries }))
     → IsHead (head_of whole rs gs ts told) told → IsLawful (head_of whole rs gs ts told) entries
     → Clean whole rows (record { head = head_of whole rs gs ts told; entries = entries })
 clean_told whole rows told rs gs ts entries said head lawful =
     let e = lines_run whole rs gs ts told entries head lawful in
-    let lines = lines_of whole told (record { head = head_of whole rs gs ts told; entries = entries }) in
-    let all = rows_clean whole (names_of (head_of whole rs gs ts told)) nothing_yet rows lines said e.runs.next (ap names_in e.runs.leads) in
-    let ended = all.leads ∙ e.runs.leads in (
-      clean_none (code_of whole) (with_row whole) is_ended NoEnd 1 nothing_yet rows all.clean (ap is_ended ended),
-      ap told_in ended ∙ ap (λ (xs : List Entry). record { head = head_of whole rs gs ts told; entries = xs }) e.all,
-    )
+    let r : Report = record { head = head_of whole rs gs ts told; entries = entries } in
+    let lines = lines_of whole (bound_in r.head entries) told r in
+    let blanked = lines_blank whole (bound_in r.head entries) told r in
+    let next = all_blank whole nothing_yet lines (subst (AllNext whole nothing_yet) (sym blanked) e.runs.next) in
+    let leads = sym (leads_blank whole nothing_yet lines) ∙ ap (fold (with_line whole) nothing_yet) blanked ∙ e.runs.leads in
+    let all = rows_clean whole (names_of r.head) nothing_yet rows lines said next (ap names_in leads) in
+    let ended = all.leads ∙ leads in
+    let alone : first_record_fault whole rows ≡ None = clean_none (code_of whole) (with_row whole) is_ended NoEnd 1 nothing_yet rows all.clean (ap is_ended ended) in
+    let is : told_in (read_all whole rows) ≡ r = ap told_in ended ∙ ap (λ (xs : List Entry). record { head = head_of whole rs gs ts told; entries = xs }) e.all in
+    (ap (λ o. or_else o (first_wrong_bound whole rows)) alone ∙ right_bounds whole rows told r all is, is)
 
 -- a report by the parts of its head
 abbrev report_by : List (List ℕ) → List Set → List (List ℕ) → ℕ → List Entry → Report
 report_by rs gs ts cap entries = record { head = record { resources = rs; groups = gs; tasks = ts; cap = cap }; entries = entries }
 
 by_cap : (whole : Bool) (rows : List Row) (told : Option ℕ) (rs : List (List ℕ)) (gs : List Set) (ts : List (List ℕ)) (cap : ℕ) (entries : List Entry)
-    → AllZip (λ row line. meaning whole (names_of (report_by rs gs ts cap entries).head) row ≡ Some line) rows (lines_of whole told (report_by rs gs ts cap entries))
+    → AllZip (λ row line. meaning whole (names_of (report_by rs gs ts cap entries).head) row ≡ Some line) rows (lines_of whole (bound_in (report_by rs gs ts cap entries).head entries) told (report_by rs gs ts cap entries))
     → IsHead (report_by rs gs ts cap entries).head told → IsLawful (report_by rs gs ts cap entries).head entries → cap_or ts told ≡ cap → Clean whole rows (report_by rs gs ts cap entries)
 by_cap whole rows told rs gs ts cap entries said head lawful is =
-    subst (λ n. AllZip (λ row line. meaning whole (names_of (report_by rs gs ts n entries).head) row ≡ Some line) rows (lines_of whole told (report_by rs gs ts n entries))
+    subst (λ n. AllZip (λ row line. meaning whole (names_of (report_by rs gs ts n entries).head) row ≡ Some line) rows (lines_of whole (bound_in (report_by rs gs ts n entries).head entries) told (report_by rs gs ts n entries))
     → IsHead (report_by rs gs ts n entries).head told → IsLawful (report_by rs gs ts n entries).head entries → Clean whole rows (report_by rs gs ts n entries))
     is (clean_told whole rows told rs gs ts entries) said head lawful
 

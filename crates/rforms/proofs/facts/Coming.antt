@@ -160,5 +160,6 @@ module _ (s : LockState) (names : Names) (resources : s.groups.q ≡ length name
   may_come (word.Entitled write_half) v good = tt
   may_come (word.Satisfied write_half) v good = tt
   may_come word.Grant v good = tt
+  may_come (word.Wait which) v good = tt
   may_come word.Ledger v good = tt
   may_come word.End v good = tt

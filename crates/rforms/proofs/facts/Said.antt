@@ -37,6 +37,7 @@ word_by (word.Put done) v = refl
 word_by (word.Entitled write_half) v = refl
 word_by (word.Satisfied write_half) v = refl
 word_by word.Grant v = refl
+word_by (word.Wait which) v = refl
 word_by word.Ledger v = refl
 word_by word.End v = refl
 

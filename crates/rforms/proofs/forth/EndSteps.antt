@@ -1,16 +1,18 @@
 -- One line more at the end: a ledger, and the end itself.
-use Rattle.std.proofs.Common.{◌≡◌, ℕ, ◌≤◌, cond, Bool, true, false, List, [], ◌∷◌, ◌++◌, drop, refl, sym, ap, ◌∙◌, arith, append_assoc, nat_lt}
+use Rattle.std.proofs.Common.{◌≡◌, ℕ, ◌≤◌, cond, Bool, true, false, List, [], ◌∷◌, ◌++◌, drop, refl, sym, ap, subst, ◌∙◌, arith, append_assoc, nat_lt}
 use Rattle.std.proofs.lemmas.Bool.{ltb-true, ltb-false}
 use Rattle.std.proofs.lemmas.List.{append-nil}
 use Rattle.rvalue.specs.declared.ledger.Ledger.{Ledger}
 use Rattle.rforms.specs.Heads.{is_nil}
 use Rattle.rforms.specs.Lines.{Line, Leaves, Ends}
 use Rattle.rforms.specs.Reports.{head_lines, history_lines, ledger_lines}
+use Rattle.rforms.specs.Waits.{no_bounds}
 use Rattle.rforms.specs.SoFar.{SoFar, entries_in, head_in, ledgers_due, with_line, at_ledgers, at_end}
 use Rattle.rforms.specs.Faults.{is_first, is_change_due}
 use Rattle.rforms.proofs.facts.Tests.{not_false}
 use Rattle.rforms.proofs.lists.Places.{none_due, placed, no_change, is_empty}
 use Rattle.rforms.proofs.lists.SameLines.{first_is}
+use Rattle.rforms.proofs.lists.BlankLines.{AreBlank, blank_behind, blank_both, front_blank, ledgers_blank}
 use Rattle.rforms.proofs.forth.Stands.{Stands, IsNext, front_of, front_lines, lawful_so_far}
 use Rattle.rforms.proofs.forth.HeadSteps.{few_more}
 use Rattle.rforms.proofs.forth.EntrySteps.{declared_later}
@@ -31,7 +33,10 @@ module _ (whole : Bool) (s : SoFar) (lines : List Line) (h : Stands whole s line
   ledger_step place ledger next =
       let none = none_due whole s (Leaves place ledger) next.fine refl refl in
       let at = (placed whole s (Leaves place ledger) next.fine none).0 in
-      let due = first_is (ledgers_due whole s) (Leaves place ledger) (not_false (is_first (ledgers_due whole s) (Leaves place ledger)) next.fine.ledger) in
+      let all = all_ledgers at.low at.high none in
+      let ledgers = ledger_lines whole (head_in s) (entries_in s) in
+      let plain = blank_both (front_of whole s) ledgers (front_of whole s) ledgers (front_blank whole (head_in s) s.cap (entries_in s)) (ledgers_blank whole (head_in s) (entries_in s)) in
+      let due = first_is (ledgers_due whole s) (Leaves place ledger) (blank_behind lines (ledgers_due whole s) (subst AreBlank (sym all) plain)) (not_false (is_first (ledgers_due whole s) (Leaves place ledger)) next.fine.ledger) in
       record {
         declared = declared_later s h.declared at_ledgers s.earlier s.latest (drop 1 (ledgers_due whole s)) at.low (omega arith);
         none = λ e. absurd (omega (arith, e));
@@ -43,7 +48,7 @@ module _ (whole : Bool) (s : SoFar) (lines : List Line) (h : Stands whole s line
         lawful = λ _. lawful_so_far whole s lines h;
         history = λ _ e. absurd (omega (arith, e));
         acts = λ e. absurd (omega (arith, e));
-        ledgers = λ _. append_assoc lines (Leaves place ledger ∷ []) (drop 1 (ledgers_due whole s)) ∙ ap (λ (xs : List Line). lines ++ xs) (sym due) ∙ all_ledgers at.low at.high none;
+        ledgers = λ _. append_assoc lines (Leaves place ledger ∷ []) (drop 1 (ledgers_due whole s)) ∙ ap (λ (xs : List Line). lines ++ xs) (sym due) ∙ all;
         ended = λ e. absurd (omega (arith, e));
       }
 
@@ -55,7 +60,7 @@ module _ (whole : Bool) (s : SoFar) (lines : List Line) (h : Stands whole s line
       let all : lines ≡ front_of whole s ++ ledger_lines whole (head_in s) (entries_in s) =
       sym (append-nil lines) ∙ ap (λ (xs : List Line). lines ++ xs) (sym due) ∙ all_ledgers at.low at.high none in
       let head = head_lines (head_in s) s.cap in
-      let history = history_lines whole (head_in s) [] (entries_in s) in
+      let history = history_lines whole no_bounds (head_in s) [] (entries_in s) in
       let ledgers = ledger_lines whole (head_in s) (entries_in s) in
       record {
         declared = declared_later s h.declared at_end s.earlier s.latest [] at.low (omega arith);

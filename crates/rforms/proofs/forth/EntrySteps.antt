@@ -13,7 +13,8 @@ use Rattle.rvalue.specs.declared.ledger.Edit.TheVariants as edit
 use Rattle.rvalue.proofs.InTurnLemmas.{AllInTurn-longer}
 use Rattle.rforms.specs.Heads.{is_nil}
 use Rattle.rforms.specs.Lines.{Line, Happens, Does, word_of}
-use Rattle.rforms.specs.Reports.{Entry, head_lines, history_lines, change_lines, lock_after, IsLawful, IsRightEntry}
+use Rattle.rforms.specs.Reports.{Entry, head_lines, history_lines, due_lines, IsLawful, IsRightEntry}
+use Rattle.rforms.specs.Waits.{no_bounds}
 use Rattle.rforms.specs.Events.{refusal_in}
 use Rattle.rforms.specs.SoFar.{SoFar, entries_in, head_in, lock_in, with_line, event_place, bare, with_act, stands, at_acts, at_changes, at_ledgers}
 use Rattle.rforms.specs.Faults.{is_change, is_change_due, is_first, is_right_in, is_right_act, is_act_here}
@@ -23,6 +24,7 @@ use Rattle.rforms.proofs.lists.Histories.{history-push, lock-issued}
 use Rattle.rforms.proofs.lists.Places.{IsBetween, none_due, placed, no_change, up_to_five}
 use Rattle.rforms.proofs.lists.RightActs.{right-push, right-bare}
 use Rattle.rforms.proofs.lists.SameLines.{first_is}
+use Rattle.rforms.proofs.lists.BlankLines.{without_bound, AreBlank, blank_behind, front_blank}
 use Rattle.rforms.proofs.forth.Stands.{Stands, IsNext, IsDeclared, IsOpen, front_of, front_before, front_lines, lawful_so_far}
 use Rattle.rforms.proofs.forth.HeadSteps.{few_more}
 
@@ -85,14 +87,14 @@ due_first false d f a h e = absurd (true≢false (sym e))
 open_history : (whole : Bool) (s : SoFar) (lines : List Line) → IsOpen whole s lines → lines ++ s.due ≡ front_of whole s
 open_history whole s lines o =
     let head = head_lines (head_in s) s.cap in
-    let before = history_lines whole (head_in s) [] s.earlier in
+    let before = history_lines whole no_bounds (head_in s) [] s.earlier in
     let told = Happens o.entry.event ∷ map Does o.entry.acts in
-    let changes = change_lines whole (lock_after (head_in s) s.earlier) o.entry.event in
+    let changes = due_lines whole no_bounds (head_in s) s.earlier o.entry.event in
     (λ i. o.are i ++ o.due i)
     ∙ append_assoc (head ++ before) told changes
     ∙ append_assoc head before (told ++ changes)
-    ∙ ap (λ (xs : List Line). head ++ xs) (sym (history-push whole (head_in s) [] s.earlier o.entry))
-    ∙ ap (λ (l : Option Entry). head ++ history_lines whole (head_in s) [] (s.earlier ++ option_to_list l)) (sym o.is)
+    ∙ ap (λ (xs : List Line). head ++ xs) (sym (history-push whole no_bounds (head_in s) [] s.earlier o.entry))
+    ∙ ap (λ (l : Option Entry). head ++ history_lines whole no_bounds (head_in s) [] (s.earlier ++ option_to_list l)) (sym o.is)
 
 module _ (whole : Bool) (s : SoFar) (lines : List Line) (h : Stands whole s lines) where
   pub event_step : (e : Event) → length lines < 2 ^ 63 → IsNext whole s (Happens e) → Stands whole (with_line whole s (Happens e)) (lines ++ Happens e ∷ [])
@@ -101,9 +103,9 @@ module _ (whole : Bool) (s : SoFar) (lines : List Line) (h : Stands whole s line
       let at = event_between s e (placed whole s (Happens e) next.fine none).0 in
       let quiet = no_change s none (omega (arith, at.1)) in
       let front = front_lines whole s lines h at.0 at.1 quiet in
-      let changes = change_lines whole (lock_in s) e in
+      let changes = due_lines whole no_bounds (head_in s) (entries_in s) e in
       let head = head_lines (head_in s) s.cap in
-      let before = history_lines whole (head_in s) [] (entries_in s) in
+      let before = history_lines whole no_bounds (head_in s) [] (entries_in s) in
       let few = lock-issued (head_in s) (entries_in s) in
       let all = h.few in
       let comes : Comes (lock_in s) e = next.comes (omega (arith, few, all, short)) (ap (λ b. cond b None (refusal_in (lock_in s) e)) (sym none) ∙ next.fine.accepted) in
@@ -121,7 +123,7 @@ module _ (whole : Bool) (s : SoFar) (lines : List Line) (h : Stands whole s line
         history = λ _ _. append_assoc lines (Happens e ∷ []) changes
             ∙ ap (λ (xs : List Line). xs ++ Happens e ∷ changes) front
             ∙ append_assoc head before (Happens e ∷ changes)
-            ∙ ap (λ (xs : List Line). head ++ xs) (sym (history-push whole (head_in s) [] (entries_in s) (bare e)));
+            ∙ ap (λ (xs : List Line). head ++ xs) (sym (history-push whole no_bounds (head_in s) [] (entries_in s) (bare e)));
         acts = λ _. record { entry = bare e; is = refl; are = ap (λ (xs : List Line). xs ++ Happens e ∷ []) front; due = refl };
         ledgers = λ place. absurd (omega (arith, place, high));
         ended = λ place. absurd (omega (arith, place, high));
@@ -168,13 +170,14 @@ module _ (whole : Bool) (s : SoFar) (lines : List Line) (h : Stands whole s line
         ended = λ place. absurd (omega (arith, place));
       }
 
-  -- a line that tells a change is the one that is due
-  pub change_step : (line : Line) → is_change line ≡ true → IsFine whole s line → Stands whole (record s { last = at_changes; due = drop 1 s.due }) (lines ++ line ∷ [])
+  -- a line that tells a change or a wait is the one that is due, but for its bound
+  pub change_step : (line : Line) → is_change line ≡ true → IsFine whole s line → Stands whole (record s { last = at_changes; due = drop 1 s.due }) (lines ++ without_bound line ∷ [])
   change_step line change fine =
       let both = due_first (is_change line) (is_change_due s) (is_first s.due line) (is_act_here s line) fine.change change in
-      let due = first_is s.due line both.1 in
       let early = ltb-true s.last 8 (and_parts (nat_lt s.last at_ledgers) (not (is_nil s.due)) both.0).0 in
       let high : 6 ≤ s.last = behind_head (up_to_five s.last) both.1 in
+      let history = h.history high (omega (arith, early)) in
+      let due = first_is s.due line (blank_behind lines s.due (subst AreBlank (sym history) (front_blank whole (head_in s) s.cap (entries_in s)))) both.1 in
       record {
         declared = declared_later s h.declared at_changes s.earlier s.latest (drop 1 s.due) (omega (arith, high)) (omega arith);
         none = λ e. absurd (omega (arith, e));
@@ -182,9 +185,9 @@ module _ (whole : Bool) (s : SoFar) (lines : List Line) (h : Stands whole s line
         earlier = λ e. absurd (omega (arith, e));
         latest = λ e. absurd (omega (arith, e));
         due = λ e. absurd (omega (arith, e));
-        few = few_more _ lines line h.few;
+        few = few_more _ lines (without_bound line) h.few;
         lawful = λ _. h.lawful high;
-        history = λ _ _. append_assoc lines (line ∷ []) (drop 1 s.due) ∙ ap (λ (xs : List Line). lines ++ xs) (sym due) ∙ h.history high (omega (arith, early));
+        history = λ _ _. append_assoc lines (without_bound line ∷ []) (drop 1 s.due) ∙ ap (λ (xs : List Line). lines ++ xs) (sym due) ∙ history;
         acts = λ e. absurd (omega (arith, e));
         ledgers = λ e. absurd (omega (arith, e));
         ended = λ e. absurd (omega (arith, e));

@@ -12,7 +12,7 @@ use Rattle.rforms.specs.SetFields.{set_told}
 use Rattle.rforms.specs.Fields.{Names, Field, Said, Fresh, OneResource, OneTask, Members, Number, Length, Limit, paired, read}
 use Rattle.rforms.specs.Numbers.{number_told, length_told, cap_told}
 use Rattle.rforms.specs.Words.{fields_of}
-use Rattle.rforms.specs.Lines.{Line, Opens, HasResource, HasGroup, HasTask, HasCap, Happens, Does, BecomesEntitled, BecomesSatisfied, Grants, Leaves, Ends, line_by, word_of, meaning, meant_as}
+use Rattle.rforms.specs.Lines.{Line, Opens, HasResource, HasGroup, HasTask, HasCap, Happens, Does, BecomesEntitled, BecomesSatisfied, Grants, Waits, Leaves, Ends, line_by, word_of, meaning, meant_as}
 use Rattle.rforms.specs.SoFar.{SoFar, with_line, stands}
 use Rattle.rforms.specs.declared.word.Word.{Word}
 use Rattle.rforms.specs.declared.word.Word.TheVariants as word
@@ -69,6 +69,7 @@ module _ (a b : Names) where
   needs (word.Entitled half) r t = (tt, (t (omega arith), (tt, (tt, tt))))
   needs (word.Satisfied half) r t = (tt, (t (omega arith), (tt, (tt, tt))))
   needs word.Grant r t = (tt, (t (omega arith), (r (omega arith), tt)))
+  needs (word.Wait which) r t = (tt, (t (omega arith), (tt, (tt, (tt, (tt, (tt, (tt, (tt, tt)))))))))
   needs word.Ledger r t = (tt, (r (omega arith), (tt, (tt, tt))))
   needs word.End r t = (tt, tt)
 
@@ -100,6 +101,7 @@ own_place whole s (Does (Edited place (edit.Set n) done)) = refl
 own_place whole s (BecomesEntitled seat half) = refl
 own_place whole s (BecomesSatisfied seat half) = refl
 own_place whole s (Grants seat set) = refl
+own_place whole s (Waits seat which cover bound) = refl
 own_place whole s (Leaves place ledger) = refl
 own_place whole s Ends = refl
 
@@ -123,6 +125,7 @@ resources_stay whole s (Does act) far next = (refl, omega arith)
 resources_stay whole s (BecomesEntitled seat half) far next = (refl, omega arith)
 resources_stay whole s (BecomesSatisfied seat half) far next = (refl, omega arith)
 resources_stay whole s (Grants seat set) far next = (refl, omega arith)
+resources_stay whole s (Waits seat which cover bound) far next = (refl, omega arith)
 resources_stay whole s (Leaves place ledger) far next = (refl, omega arith)
 resources_stay whole s Ends far next = (refl, omega arith)
 
@@ -138,6 +141,7 @@ tasks_stay whole s (Does act) far next = (refl, omega arith)
 tasks_stay whole s (BecomesEntitled seat half) far next = (refl, omega arith)
 tasks_stay whole s (BecomesSatisfied seat half) far next = (refl, omega arith)
 tasks_stay whole s (Grants seat set) far next = (refl, omega arith)
+tasks_stay whole s (Waits seat which cover bound) far next = (refl, omega arith)
 tasks_stay whole s (Leaves place ledger) far next = (refl, omega arith)
 tasks_stay whole s Ends far next = (refl, omega arith)
 

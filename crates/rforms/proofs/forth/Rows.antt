@@ -1,19 +1,27 @@
--- Records without a fault spell what they have said together.
-use Rattle.std.proofs.Common.{◌≡◌, suc, ◌≤◌, ◌<◌, ◌^◌, Bool, List, [], ◌∷◌, length, fold, Some, None, refl, sym, ap, subst, ◌∙◌, arith}
+-- Records without a fault spell what they have said together; those without a fault of their own do so but for the bounds of waits.
+use Rattle.std.proofs.Common.{◌≡◌, ℕ, ◌+◌, true, false, suc, ◌≤◌, ◌<◌, ◌^◌, Bool, List, [], ◌∷◌, length, fold, Some, None, refl, sym, ap, subst, ◌∙◌, arith}
+use Rattle.std.specs.Prelude.{option_and_then}
 use Rattle.std.specs.List.{AllZip}
+use Rattle.rbound.specs.Bounds.{Numbers}
 use Rattle.std.proofs.lemmas.Bool.{eqb-true}
 use Rattle.rforms.specs.Records.{Row}
 use Rattle.rforms.specs.Words.{fields_of}
 use Rattle.rforms.specs.Lines.{Line, meaning}
-use Rattle.rforms.specs.Reports.{Spells}
+use Rattle.rforms.specs.Heads.{IsHead}
+use Rattle.rforms.specs.Waits.{no_bounds, bound_in}
+use Rattle.rforms.specs.Reports.{Spells, lines_of, IsLawful}
 use Rattle.rforms.specs.SoFar.{SoFar, nothing_yet, names_in, head_in, entries_in, lock_in, told_in, with_line, with_meaning, with_row}
 use Rattle.rforms.specs.Walks.{AllClean}
-use Rattle.rforms.specs.Faults.{code_of, is_ended, first_fault, read_all}
+use Rattle.rforms.specs.Faults.{code_of, is_ended, first_record_fault, read_all}
+use Rattle.rforms.specs.WrongBounds.{bound_told, or_more, bounds_said, bounds_due, wrong_bound, first_other, first_wrong_bound, first_fault}
 use Rattle.rforms.specs.declared.fault.Code.TheVariants.{NoEnd}
-use Rattle.rforms.proofs.facts.Walks.{no_fault}
+use Rattle.rforms.proofs.facts.Walks.{no_fault, or_none}
 use Rattle.rforms.proofs.facts.Said.{says, clean, IsClean}
 use Rattle.rforms.proofs.facts.ReadGood.{read_good}
-use Rattle.rforms.proofs.facts.Coming.{MayCome, may_come}
+use Rattle.rforms.proofs.facts.Coming.{MayCome, may_come, map_none}
+use Rattle.rforms.proofs.lists.BlankLines.{blank, lines_blank}
+use Rattle.rforms.proofs.lists.Likes.{told_from, bounds_in, likes_are, bounds_are_due}
+use Rattle.rforms.proofs.lists.NoActs.{none_told}
 use Rattle.rforms.proofs.lists.Histories.{lock-resources, lock-tasks}
 use Rattle.rforms.proofs.forth.Stands.{IsNext, AllNext}
 use Rattle.rforms.proofs.forth.Lines.{AreLines, lines_spell}
@@ -81,21 +89,67 @@ said_by_all whole s (row ∷ rows) (line ∷ lines) said next =
       said_by_all whole then rows lines said.1 next.1,
     )
 
-spell_of : (whole : Bool) (rows : List Row) (said : HaveSaid whole nothing_yet rows) → AreLines whole (fold (with_line whole) nothing_yet said.lines) said.lines
-    → Spells whole rows (told_in (fold (with_line whole) nothing_yet said.lines))
-spell_of whole rows said are =
-    let s = fold (with_line whole) nothing_yet said.lines in
-    record {
-      told = s.cap;
-      said = subst (λ (lines : List Line). AllZip (λ row line. meaning whole (names_in s) row ≡ Some line) rows lines) are.are (said_by_all whole nothing_yet rows said.lines said.said said.next);
-      head = are.head;
-      lawful = are.lawful;
-    }
+-- what records without a fault of their own have said: the lines of a report, but for the bounds of waits
+pub record HaveTold (whole : Bool) (rows : List Row) (s : SoFar) : Type 0 where
+  pub lines : List Line
+  pub said : AllZip (λ row line. meaning whole (names_in s) row ≡ Some line) rows lines
+  pub are : blank lines ≡ lines_of whole no_bounds s.cap (told_in s)
+  pub bounds : bounds_said whole 1 nothing_yet rows ≡ told_from 1 lines
+  pub head : IsHead (head_in s) s.cap
+  pub lawful : IsLawful (head_in s) (entries_in s)
 
-pub spells : (whole : Bool) (rows : List Row) → length rows < 2 ^ 63 → first_fault whole rows ≡ None → Spells whole rows (told_in (read_all whole rows))
-spells whole rows short h =
+bounds_told : (whole : Bool) (n : ℕ) (s : SoFar) (rows : List Row) (lines : List Line) → SayInTurn whole s rows lines → bounds_said whole n s rows ≡ told_from n lines
+unfolding bounds_said
+bounds_told whole n s [] [] said = refl
+bounds_told whole n s [] (line ∷ lines) said = absurd said
+bounds_told whole n s (row ∷ rows) [] said = absurd said
+bounds_told whole n s (row ∷ rows) (line ∷ lines) said =
+    (λ i. or_more n (option_and_then bound_told (said.0 i)) (bounds_said whole (n + 1) (row_leads whole s row line said.0 i) rows))
+    ∙ ap (or_more n (bound_told line)) (bounds_told whole (n + 1) (with_line whole s line) rows lines said.1)
+
+told_of : (whole : Bool) (rows : List Row) (said : HaveSaid whole nothing_yet rows) → AreLines whole (fold (with_line whole) nothing_yet said.lines) (blank said.lines)
+    → HaveTold whole rows (fold (with_line whole) nothing_yet said.lines)
+told_of whole rows said are = record {
+  lines = said.lines;
+  said = said_by_all whole nothing_yet rows said.lines said.said said.next;
+  are = are.are;
+  bounds = bounds_told whole 1 nothing_yet rows said.lines said.said;
+  head = are.head;
+  lawful = are.lawful;
+}
+
+pub have_told : (whole : Bool) (rows : List Row) → length rows < 2 ^ 63 → first_record_fault whole rows ≡ None → HaveTold whole rows (read_all whole rows)
+have_told whole rows short h =
     let parts = no_fault (code_of whole) (with_row whole) is_ended NoEnd 1 nothing_yet rows h in
     let said = rows_said whole nothing_yet rows parts.0 in
     let nine : (fold (with_line whole) nothing_yet said.lines).last ≡ 9 = ap (λ (s : SoFar). s.last) (sym said.leads) ∙ eqb-true (read_all whole rows).last 9 parts.1 in
     let are = lines_spell whole said.lines (omega (arith, said.many, short)) said.next nine in
-    subst (λ (s : SoFar). Spells whole rows (told_in s)) (sym said.leads) (spell_of whole rows said are)
+    subst (HaveTold whole rows) (sym said.leads) (told_of whole rows said are)
+
+none_differs : (whole : Bool) (rows : List Row) (told : HaveTold whole rows (read_all whole rows)) → first_wrong_bound whole rows ≡ None
+    → first_other (told_from 1 told.lines) (bounds_in (lines_of whole (bound_in (head_in (read_all whole rows)) (entries_in (read_all whole rows))) (read_all whole rows).cap (told_in (read_all whole rows)))) ≡ None
+unfolding first_other
+none_differs true rows told right =
+    let s = read_all true rows in
+    (λ i. first_other (sym told.bounds i) (bounds_are_due s.cap (told_in s) i)) ∙ map_none wrong_bound (first_other (bounds_said true 1 nothing_yet rows) (bounds_due (head_in s) (entries_in s))) right
+none_differs false rows told right =
+    let s = read_all false rows in
+    ap (λ (bounds : List (ℕ × Numbers)). first_other bounds (bounds_in (lines_of false (bound_in (head_in s) (entries_in s)) s.cap (told_in s)))) (none_told (names_in s) rows told.lines told.said 1)
+
+-- and where no bound is wrong, they spell it
+pub right_bounds : (whole : Bool) (rows : List Row) → HaveTold whole rows (read_all whole rows) → first_wrong_bound whole rows ≡ None → Spells whole rows (told_in (read_all whole rows))
+right_bounds whole rows told right =
+    let s = read_all whole rows in
+    let dues = lines_of whole (bound_in (head_in s) (entries_in s)) s.cap (told_in s) in
+    let same : told.lines ≡ dues = likes_are 1 told.lines dues (told.are ∙ sym (lines_blank whole (bound_in (head_in s) (entries_in s)) s.cap (told_in s))) (none_differs whole rows told right) in
+    record {
+      told = s.cap;
+      said = subst (λ (lines : List Line). AllZip (λ row line. meaning whole (names_in s) row ≡ Some line) rows lines) same told.said;
+      head = told.head;
+      lawful = told.lawful;
+    }
+
+pub spells : (whole : Bool) (rows : List Row) → length rows < 2 ^ 63 → first_fault whole rows ≡ None → Spells whole rows (told_in (read_all whole rows))
+spells whole rows short h =
+    let parts = or_none (first_record_fault whole rows) (first_wrong_bound whole rows) h in
+    right_bounds whole rows (have_told whole rows short parts.0) parts.1

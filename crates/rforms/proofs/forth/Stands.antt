@@ -6,7 +6,8 @@ use Rattle.rset.specs.Names.{is_table}
 use Rattle.rset.specs.declared.TheConstants.{RESOURCES, SEATS}
 use Rattle.rforms.specs.Heads.{is_nil, are_read_groups}
 use Rattle.rforms.specs.Lines.{Line, Happens, Does, word_of}
-use Rattle.rforms.specs.Reports.{Entry, declared_lines, head_lines, history_lines, ledger_lines, lines_of, change_lines, lock_after, IsLawful}
+use Rattle.rforms.specs.Reports.{Entry, declared_lines, head_lines, history_lines, ledger_lines, lines_of, due_lines, IsLawful}
+use Rattle.rforms.specs.Waits.{no_bounds}
 use Rattle.rforms.specs.SoFar.{SoFar, entries_in, head_in, lock_in, told_in, with_line}
 use Rattle.rforms.specs.Faults.{is_group_more}
 use Rattle.rforms.proofs.facts.Fine.{IsFine}
@@ -38,20 +39,20 @@ pub record IsDeclared (s : SoFar) : Type 0 where
 
 -- the lines of the head, and of the history so far
 abbrev pub front_of : Bool → SoFar → List Line
-front_of whole s = head_lines (head_in s) s.cap ++ history_lines whole (head_in s) [] (entries_in s)
+front_of whole s = head_lines (head_in s) s.cap ++ history_lines whole no_bounds (head_in s) [] (entries_in s)
 
 -- the lines before the latest entry
 abbrev pub front_before : Bool → SoFar → List Line
-front_before whole s = head_lines (head_in s) s.cap ++ history_lines whole (head_in s) [] s.earlier
+front_before whole s = head_lines (head_in s) s.cap ++ history_lines whole no_bounds (head_in s) [] s.earlier
 
--- the latest entry may have acts, and none of its changes was told
+-- the latest entry may have acts, and nothing that is due behind it was told
 pub record IsOpen (whole : Bool) (s : SoFar) (lines : List Line) : Type 0 where
   pub entry : Entry
   pub is : s.latest ≡ Some entry
   pub are : lines ≡ front_before whole s ++ Happens entry.event ∷ map Does entry.acts
-  pub due : s.due ≡ change_lines whole (lock_after (head_in s) s.earlier) entry.event
+  pub due : s.due ≡ due_lines whole no_bounds (head_in s) s.earlier entry.event
 
--- these lines have led to the state
+-- these lines have led to the state; they tell no bounds
 pub record Stands (whole : Bool) (s : SoFar) (lines : List Line) : Type 0 where
   pub declared : IsDeclared s
   pub none : s.last ≡ 0 → lines ≡ []
@@ -64,7 +65,7 @@ pub record Stands (whole : Bool) (s : SoFar) (lines : List Line) : Type 0 where
   pub history : 6 ≤ s.last → s.last ≤ 7 → lines ++ s.due ≡ front_of whole s
   pub acts : s.last ≡ 6 → IsOpen whole s lines
   pub ledgers : s.last ≡ 8 → lines ++ s.due ≡ front_of whole s ++ ledger_lines whole (head_in s) (entries_in s)
-  pub ended : s.last ≡ 9 → lines ≡ lines_of whole s.cap (told_in s)
+  pub ended : s.last ≡ 9 → lines ≡ lines_of whole no_bounds s.cap (told_in s)
 
 module _ (whole : Bool) (s : SoFar) (lines : List Line) (h : Stands whole s lines) where
   -- in the head nothing has happened
@@ -77,10 +78,10 @@ module _ (whole : Bool) (s : SoFar) (lines : List Line) (h : Stands whole s line
   pub lawful_so_far : IsLawful (head_in s) (entries_in s)
   lawful_so_far = elim (up_to_five s.last) [ inl low ↦ lawful_nothing (entries_in s) (no_entries low) | inr high ↦ h.lawful high ]
 
-  no_history : (entries : List Entry) → entries ≡ [] → head_lines (head_in s) s.cap ≡ head_lines (head_in s) s.cap ++ history_lines whole (head_in s) [] entries
+  no_history : (entries : List Entry) → entries ≡ [] → head_lines (head_in s) s.cap ≡ head_lines (head_in s) s.cap ++ history_lines whole no_bounds (head_in s) [] entries
   unfolding history_lines
   no_history entries none =
-      sym (append-nil (head_lines (head_in s) s.cap)) ∙ ap (λ (xs : List Entry). head_lines (head_in s) s.cap ++ history_lines whole (head_in s) [] xs) (sym none)
+      sym (append-nil (head_lines (head_in s) s.cap)) ∙ ap (λ (xs : List Entry). head_lines (head_in s) s.cap ++ history_lines whole no_bounds (head_in s) [] xs) (sym none)
 
   -- behind the head and before the ledgers, where no change is due, the lines are those of the head and of the history
   pub front_lines : 4 ≤ s.last → s.last ≤ 7 → s.due ≡ [] → lines ≡ front_of whole s

@@ -6,7 +6,8 @@ use Rattle.rclaim.specs.declared.request.Kind.TheVariants.{Read, Write, Mixed, U
 use Rattle.rforms.specs.Records.{Row}
 use Rattle.rforms.specs.Fields.{has_form}
 use Rattle.rforms.specs.Words.{word_in}
-use Rattle.rforms.specs.Decided.{word_of_one, word_of_two, word_of_three, word_of_four, word_of_five, word_of_six, word_of_seven, field_of}
+use Rattle.rforms.specs.Decided.{word_of_one, word_of_two, word_of_three, word_of_four, word_of_five, word_of_six, word_of_seven, word_of_nine, field_of}
+use Rattle.rforms.specs.declared.word.Stage.TheVariants as stage
 use Rattle.rforms.specs.declared.word.Word.TheVariants as word
 
 one : (x : Bool) → x ≡ (x && true)
@@ -119,24 +120,47 @@ decided_seven whole (a ∷ b ∷ c ∷ d ∷ e ∷ f ∷ []) h = absurd (omega (
 decided_seven whole (a ∷ b ∷ c ∷ d ∷ e ∷ f ∷ g ∷ []) h = by_seven whole a b c d e f g
 decided_seven whole (a ∷ b ∷ c ∷ d ∷ e ∷ f ∷ g ∷ x ∷ fields) h = absurd (omega (arith, h))
 
--- any other number of fields is no record
-pub decided_other : (whole : Bool) (fields : Row) → (length fields ≡ 1 → ⊥) → (length fields ≡ 2 → ⊥) → (length fields ≡ 3 → ⊥) → (length fields ≡ 4 → ⊥) → (length fields ≡ 5 → ⊥) → (length fields ≡ 6 → ⊥) → (length fields ≡ 7 → ⊥) → None ≡ word_in whole fields
+by_nine : (whole : Bool) (a b c d e f g h i : List ℕ) → word_of_nine whole a c ≡ word_in whole (a ∷ b ∷ c ∷ d ∷ e ∷ f ∷ g ∷ h ∷ i ∷ [])
 unfolding word_in has_form
-decided_other true [] o1 o2 o3 o4 o5 o6 o7 = refl
-decided_other true (a ∷ []) o1 o2 o3 o4 o5 o6 o7 = absurd (o1 refl)
-decided_other true (a ∷ b ∷ []) o1 o2 o3 o4 o5 o6 o7 = absurd (o2 refl)
-decided_other true (a ∷ b ∷ c ∷ []) o1 o2 o3 o4 o5 o6 o7 = absurd (o3 refl)
-decided_other true (a ∷ b ∷ c ∷ d ∷ []) o1 o2 o3 o4 o5 o6 o7 = absurd (o4 refl)
-decided_other true (a ∷ b ∷ c ∷ d ∷ e ∷ []) o1 o2 o3 o4 o5 o6 o7 = absurd (o5 refl)
-decided_other true (a ∷ b ∷ c ∷ d ∷ e ∷ f ∷ []) o1 o2 o3 o4 o5 o6 o7 = absurd (o6 refl)
-decided_other true (a ∷ b ∷ c ∷ d ∷ e ∷ f ∷ g ∷ []) o1 o2 o3 o4 o5 o6 o7 = absurd (o7 refl)
-decided_other true (a ∷ b ∷ c ∷ d ∷ e ∷ f ∷ g ∷ x ∷ fields) o1 o2 o3 o4 o5 o6 o7 = refl
-decided_other false [] o1 o2 o3 o4 o5 o6 o7 = refl
-decided_other false (a ∷ []) o1 o2 o3 o4 o5 o6 o7 = absurd (o1 refl)
-decided_other false (a ∷ b ∷ []) o1 o2 o3 o4 o5 o6 o7 = absurd (o2 refl)
-decided_other false (a ∷ b ∷ c ∷ []) o1 o2 o3 o4 o5 o6 o7 = absurd (o3 refl)
-decided_other false (a ∷ b ∷ c ∷ d ∷ []) o1 o2 o3 o4 o5 o6 o7 = absurd (o4 refl)
-decided_other false (a ∷ b ∷ c ∷ d ∷ e ∷ []) o1 o2 o3 o4 o5 o6 o7 = absurd (o5 refl)
-decided_other false (a ∷ b ∷ c ∷ d ∷ e ∷ f ∷ []) o1 o2 o3 o4 o5 o6 o7 = absurd (o6 refl)
-decided_other false (a ∷ b ∷ c ∷ d ∷ e ∷ f ∷ g ∷ []) o1 o2 o3 o4 o5 o6 o7 = absurd (o7 refl)
-decided_other false (a ∷ b ∷ c ∷ d ∷ e ∷ f ∷ g ∷ x ∷ fields) o1 o2 o3 o4 o5 o6 o7 = refl
+by_nine true a b c d e f g h j = λ i. cond (two (bytes_eq a (codes "wait")) (bytes_eq c (codes "first")) i) (Some (word.Wait stage.First)) (cond (two (bytes_eq a (codes "wait")) (bytes_eq c (codes "rise")) i) (Some (word.Wait stage.Rise)) (cond (two (bytes_eq a (codes "wait")) (bytes_eq c (codes "ask")) i) (Some (word.Wait stage.Ask)) (None)))
+by_nine false a b c d e f g h j = refl
+
+pub decided_nine : (whole : Bool) (fields : Row) → length fields ≡ 9 → word_of_nine whole (field_of fields 0) (field_of fields 2) ≡ word_in whole fields
+unfolding field_at
+decided_nine whole ([]) n = absurd (omega (arith, n))
+decided_nine whole (a ∷ []) n = absurd (omega (arith, n))
+decided_nine whole (a ∷ b ∷ []) n = absurd (omega (arith, n))
+decided_nine whole (a ∷ b ∷ c ∷ []) n = absurd (omega (arith, n))
+decided_nine whole (a ∷ b ∷ c ∷ d ∷ []) n = absurd (omega (arith, n))
+decided_nine whole (a ∷ b ∷ c ∷ d ∷ e ∷ []) n = absurd (omega (arith, n))
+decided_nine whole (a ∷ b ∷ c ∷ d ∷ e ∷ f ∷ []) n = absurd (omega (arith, n))
+decided_nine whole (a ∷ b ∷ c ∷ d ∷ e ∷ f ∷ g ∷ []) n = absurd (omega (arith, n))
+decided_nine whole (a ∷ b ∷ c ∷ d ∷ e ∷ f ∷ g ∷ h ∷ []) n = absurd (omega (arith, n))
+decided_nine whole (a ∷ b ∷ c ∷ d ∷ e ∷ f ∷ g ∷ h ∷ i ∷ []) n = by_nine whole a b c d e f g h i
+decided_nine whole (a ∷ b ∷ c ∷ d ∷ e ∷ f ∷ g ∷ h ∷ i ∷ x ∷ fields) n = absurd (omega (arith, n))
+
+-- any other number of fields is no record
+pub decided_other : (whole : Bool) (fields : Row) → (length fields ≡ 1 → ⊥) → (length fields ≡ 2 → ⊥) → (length fields ≡ 3 → ⊥) → (length fields ≡ 4 → ⊥) → (length fields ≡ 5 → ⊥) → (length fields ≡ 6 → ⊥) → (length fields ≡ 7 → ⊥) → (length fields ≡ 9 → ⊥) → None ≡ word_in whole fields
+unfolding word_in has_form
+decided_other true [] o1 o2 o3 o4 o5 o6 o7 o9 = refl
+decided_other true (a ∷ []) o1 o2 o3 o4 o5 o6 o7 o9 = absurd (o1 refl)
+decided_other true (a ∷ b ∷ []) o1 o2 o3 o4 o5 o6 o7 o9 = absurd (o2 refl)
+decided_other true (a ∷ b ∷ c ∷ []) o1 o2 o3 o4 o5 o6 o7 o9 = absurd (o3 refl)
+decided_other true (a ∷ b ∷ c ∷ d ∷ []) o1 o2 o3 o4 o5 o6 o7 o9 = absurd (o4 refl)
+decided_other true (a ∷ b ∷ c ∷ d ∷ e ∷ []) o1 o2 o3 o4 o5 o6 o7 o9 = absurd (o5 refl)
+decided_other true (a ∷ b ∷ c ∷ d ∷ e ∷ f ∷ []) o1 o2 o3 o4 o5 o6 o7 o9 = absurd (o6 refl)
+decided_other true (a ∷ b ∷ c ∷ d ∷ e ∷ f ∷ g ∷ []) o1 o2 o3 o4 o5 o6 o7 o9 = absurd (o7 refl)
+decided_other true (a ∷ b ∷ c ∷ d ∷ e ∷ f ∷ g ∷ h ∷ []) o1 o2 o3 o4 o5 o6 o7 o9 = refl
+decided_other true (a ∷ b ∷ c ∷ d ∷ e ∷ f ∷ g ∷ h ∷ i ∷ []) o1 o2 o3 o4 o5 o6 o7 o9 = absurd (o9 refl)
+decided_other true (a ∷ b ∷ c ∷ d ∷ e ∷ f ∷ g ∷ h ∷ i ∷ x ∷ fields) o1 o2 o3 o4 o5 o6 o7 o9 = refl
+decided_other false [] o1 o2 o3 o4 o5 o6 o7 o9 = refl
+decided_other false (a ∷ []) o1 o2 o3 o4 o5 o6 o7 o9 = absurd (o1 refl)
+decided_other false (a ∷ b ∷ []) o1 o2 o3 o4 o5 o6 o7 o9 = absurd (o2 refl)
+decided_other false (a ∷ b ∷ c ∷ []) o1 o2 o3 o4 o5 o6 o7 o9 = absurd (o3 refl)
+decided_other false (a ∷ b ∷ c ∷ d ∷ []) o1 o2 o3 o4 o5 o6 o7 o9 = absurd (o4 refl)
+decided_other false (a ∷ b ∷ c ∷ d ∷ e ∷ []) o1 o2 o3 o4 o5 o6 o7 o9 = absurd (o5 refl)
+decided_other false (a ∷ b ∷ c ∷ d ∷ e ∷ f ∷ []) o1 o2 o3 o4 o5 o6 o7 o9 = absurd (o6 refl)
+decided_other false (a ∷ b ∷ c ∷ d ∷ e ∷ f ∷ g ∷ []) o1 o2 o3 o4 o5 o6 o7 o9 = absurd (o7 refl)
+decided_other false (a ∷ b ∷ c ∷ d ∷ e ∷ f ∷ g ∷ h ∷ []) o1 o2 o3 o4 o5 o6 o7 o9 = refl
+decided_other false (a ∷ b ∷ c ∷ d ∷ e ∷ f ∷ g ∷ h ∷ i ∷ []) o1 o2 o3 o4 o5 o6 o7 o9 = absurd (o9 refl)
+decided_other false (a ∷ b ∷ c ∷ d ∷ e ∷ f ∷ g ∷ h ∷ i ∷ x ∷ fields) o1 o2 o3 o4 o5 o6 o7 o9 = refl

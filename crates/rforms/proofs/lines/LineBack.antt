@@ -12,7 +12,7 @@ use Rattle.rvalue.specs.declared.act.Act.TheVariants.{Edited, Shown}
 use Rattle.rvalue.specs.declared.ledger.Edit.TheVariants as edit
 use Rattle.rforms.specs.Fields.{Names, AreTables}
 use Rattle.rforms.specs.Words.{fields_of}
-use Rattle.rforms.specs.Lines.{Line, Opens, HasResource, HasGroup, HasTask, HasCap, Happens, Does, BecomesEntitled, BecomesSatisfied, Grants, Leaves, Ends, line_by, word_of, values_of, issue_values, meaning, meant_as, spelled, IsNormalLine, IsWritable}
+use Rattle.rforms.specs.Lines.{Line, Opens, HasResource, HasGroup, HasTask, HasCap, Happens, Does, BecomesEntitled, BecomesSatisfied, Grants, Waits, Leaves, Ends, line_by, word_of, values_of, issue_values, meaning, meant_as, spelled, IsNormalLine, IsWritable}
 use Rattle.rforms.specs.declared.word.Word.TheVariants as word
 use Rattle.rforms.proofs.fields.ReadBack.{read_back}
 use Rattle.rforms.proofs.lines.WordBack.{word_back}
@@ -49,6 +49,7 @@ line_back (Does (Edited place (edit.Set n) done)) normal = refl
 line_back (BecomesEntitled seat write_half) normal = refl
 line_back (BecomesSatisfied seat write_half) normal = refl
 line_back (Grants seat s) normal = refl
+line_back (Waits seat which cover bound) normal = refl
 line_back (Leaves place ledger) normal = refl
 line_back Ends normal = refl
 

@@ -3,6 +3,7 @@ use Rattle.std.proofs.Common.{◌≡◌, true, false, Some, refl}
 use Rattle.rclaim.specs.declared.request.Kind.TheVariants.{Read, Write, Mixed, Upgrade, Nested}
 use Rattle.rforms.specs.Fields.{Names, Values, write, has_form}
 use Rattle.rforms.specs.Words.{fields_of, word_in}
+use Rattle.rforms.specs.declared.word.Stage.TheVariants as stage
 use Rattle.rforms.specs.declared.word.Word.{Word}
 use Rattle.rforms.specs.declared.word.Word.TheVariants as word
 
@@ -33,5 +34,8 @@ word_back names (word.Entitled false) v = refl
 word_back names (word.Satisfied true) v = refl
 word_back names (word.Satisfied false) v = refl
 word_back names word.Grant v = refl
+word_back names (word.Wait stage.First) v = refl
+word_back names (word.Wait stage.Rise) v = refl
+word_back names (word.Wait stage.Ask) v = refl
 word_back names word.Ledger v = refl
 word_back names word.End v = refl

@@ -4,19 +4,21 @@ use Rattle.std.proofs.lemmas.List.{append-nil, length-map}
 use Rattle.rclaim.specs.declared.event.Event.{Event}
 use Rattle.rclaim.specs.declared.event.Event.TheVariants as event
 use Rattle.rexpand.specs.Groups.{ReadGroups}
+use Rattle.rbound.specs.Bounds.{Numbers}
+use Rattle.rcover.specs.declared.wait_end.WaitEnd.{WaitEnd}
 use Rattle.rmodel.specs.State.{LockState}
 use Rattle.rmodel.specs.Steps.{next}
 use Rattle.rforms.specs.Heads.{Head, opening_of}
 use Rattle.rforms.specs.Reports.{Entry, lock_after, entry_lines, history_lines}
 
-pub history-push : (whole : Bool) (head : Head) (earlier xs : List Entry) (x : Entry)
-    → history_lines whole head earlier (xs ++ x ∷ []) ≡ history_lines whole head earlier xs ++ entry_lines whole head (earlier ++ xs) x
+pub history-push : (whole : Bool) (bounds : WaitEnd → Numbers) (head : Head) (earlier xs : List Entry) (x : Entry)
+    → history_lines whole bounds head earlier (xs ++ x ∷ []) ≡ history_lines whole bounds head earlier xs ++ entry_lines whole bounds head (earlier ++ xs) x
 unfolding history_lines
-history-push whole head earlier [] x = append-nil (entry_lines whole head earlier x) ∙ ap (λ before. entry_lines whole head before x) (sym (append-nil earlier))
-history-push whole head earlier (y ∷ xs) x =
-    ap (λ lines. entry_lines whole head earlier y ++ lines) (history-push whole head (earlier ++ y ∷ []) xs x)
-    ∙ sym (append_assoc (entry_lines whole head earlier y) (history_lines whole head (earlier ++ y ∷ []) xs) (entry_lines whole head ((earlier ++ y ∷ []) ++ xs) x))
-    ∙ ap (λ before. (entry_lines whole head earlier y ++ history_lines whole head (earlier ++ y ∷ []) xs) ++ entry_lines whole head before x) (append_assoc earlier (y ∷ []) xs)
+history-push whole bounds head earlier [] x = append-nil (entry_lines whole bounds head earlier x) ∙ ap (λ before. entry_lines whole bounds head before x) (sym (append-nil earlier))
+history-push whole bounds head earlier (y ∷ xs) x =
+    ap (λ lines. entry_lines whole bounds head earlier y ++ lines) (history-push whole bounds head (earlier ++ y ∷ []) xs x)
+    ∙ sym (append_assoc (entry_lines whole bounds head earlier y) (history_lines whole bounds head (earlier ++ y ∷ []) xs) (entry_lines whole bounds head ((earlier ++ y ∷ []) ++ xs) x))
+    ∙ ap (λ before. (entry_lines whole bounds head earlier y ++ history_lines whole bounds head (earlier ++ y ∷ []) xs) ++ entry_lines whole bounds head before x) (append_assoc earlier (y ∷ []) xs)
 
 -- ---- the lock
 

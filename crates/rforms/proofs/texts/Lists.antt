@@ -1,18 +1,20 @@
 -- What is known of an event list or a report by its records, told by what they have said.
-use Rattle.std.proofs.Common.{◌≡◌, ℕ, ◌+◌, ◌≤◌, Bool, List, [], ◌∷◌, length, fold, Option, Some, None, refl, sym, ap, ◌∙◌, arith, length-append}
+use Rattle.std.proofs.Common.{◌≡◌, ℕ, suc, ◌+◌, ◌≤◌, Bool, List, [], ◌∷◌, ◌++◌, length, fold, Option, Some, None, refl, sym, ap, ◌∙◌, arith, length-append}
 use Rattle.std.proofs.lemmas.List.Sums.{fold_push}
 use Rattle.std.specs.Prelude.{option_map, option_to_list}
+use Rattle.rbound.specs.Bounds.{Numbers}
 use Rattle.rforms.specs.Records.{Row}
-use Rattle.rforms.specs.Lines.{Line, Opens, HasResource, HasGroup, HasTask, HasCap, Happens, Does, BecomesEntitled, BecomesSatisfied, Grants, Leaves, Ends, meaning}
+use Rattle.rforms.specs.Lines.{Line, Opens, HasResource, HasGroup, HasTask, HasCap, Happens, Does, BecomesEntitled, BecomesSatisfied, Grants, Waits, Leaves, Ends, meaning}
 use Rattle.rforms.specs.Reports.{Entry}
 use Rattle.rforms.specs.SoFar.{SoFar, nothing_yet, entries_in, names_in, with_line, with_meaning, with_row, with_act}
-use Rattle.rforms.specs.Walks.{fault_from, or_later}
-use Rattle.rforms.specs.Faults.{code_of, is_ended, first_fault, read_all}
+use Rattle.rforms.specs.Walks.{fault_from, or_else, or_later}
+use Rattle.rforms.specs.Faults.{code_of, is_ended, first_record_fault, read_all}
+use Rattle.rforms.specs.WrongBounds.{or_more, bound_said, bounds_said, first_wrong_bound}
 use Rattle.rforms.specs.Takers.{followed, fault_of, IsFaultOf, HasTaken, list_code, is_list_done, KnowsSaid, IsFirstFault, IsTaken}
 use Rattle.rforms.specs.declared.fault.Code.{Code}
 use Rattle.rforms.specs.declared.fault.Code.TheVariants.{NoEnd}
 use Rattle.rforms.specs.declared.fault.Fault.{Fault}
-use Rattle.rforms.proofs.forth.Rows.{spells}
+use Rattle.rforms.proofs.forth.Rows.{HaveTold, have_told, right_bounds}
 
 -- ---- what is judged by a state that follows from the items before is judged by them
 
@@ -28,6 +30,35 @@ module _ {R S Q C : Type 0} (code : S → R → Option C) (next : S → R → S)
 -- one record more says what it adds
 pub read_more : (whole : Bool) (rows : List Row) (row : Row) → read_all whole (followed rows row) ≡ with_row whole (read_all whole rows) row
 read_more whole rows row = fold_push (with_row whole) nothing_yet rows row
+
+-- and tells its bound, if it tells one, by the names so far
+pub bounds_more : (whole : Bool) (rows : List Row) (row : Row)
+    → bounds_said whole 1 nothing_yet (followed rows row) ≡ bounds_said whole 1 nothing_yet rows ++ or_more (length rows + 1) (bound_said whole (names_in (read_all whole rows)) row) []
+unfolding bounds_said
+bounds_more whole rows row =
+    more 1 nothing_yet rows ∙ ap (λ n. bounds_said whole 1 nothing_yet rows ++ or_more n (bound_said whole (names_in (read_all whole rows)) row) []) (turned (length rows))
+  where
+    turned : (n : ℕ) → 1 + n ≡ n + 1
+    turned n = omega arith
+
+    joined : (n : ℕ) (o : Option Numbers) (told more : List (ℕ × Numbers)) → or_more n o (told ++ more) ≡ or_more n o told ++ more
+    joined n None told more = refl
+    joined n (Some b) told more = refl
+
+    none_more : (n : ℕ) → n ≡ n + 0
+    none_more n = omega arith
+
+    one_more : (n m : ℕ) → (n + 1) + m ≡ n + suc m
+    one_more n m = omega arith
+
+    more : (n : ℕ) (s : SoFar) (xs : List Row)
+        → bounds_said whole n s (xs ++ row ∷ []) ≡ bounds_said whole n s xs ++ or_more (n + length xs) (bound_said whole (names_in (fold (with_row whole) s xs)) row) []
+    more n s [] = ap (λ m. or_more m (bound_said whole (names_in s) row) []) (none_more n)
+    more n s (x ∷ xs) =
+        let t = with_row whole s x in
+        let last = bound_said whole (names_in (fold (with_row whole) t xs)) row in
+        ap (or_more n (bound_said whole (names_in s) x)) (more (n + 1) t xs ∙ ap (λ m. bounds_said whole (n + 1) t xs ++ or_more m last []) (one_more n (length xs)))
+        ∙ joined n (bound_said whole (names_in s) x) (bounds_said whole (n + 1) t xs) (or_more (n + suc (length xs)) last [])
 
 option_same : (f : Entry → Entry) (o : Option Entry) → length (option_to_list (option_map f o)) ≡ length (option_to_list o)
 option_same f None = refl
@@ -48,6 +79,7 @@ entries_line whole s (HasCap n) = omega arith
 entries_line whole s (BecomesEntitled seat half) = omega arith
 entries_line whole s (BecomesSatisfied seat half) = omega arith
 entries_line whole s (Grants seat set) = omega arith
+entries_line whole s (Waits seat which cover bound) = omega arith
 entries_line whole s (Leaves place ledger) = omega arith
 entries_line whole s Ends = omega arith
 
@@ -69,21 +101,32 @@ entries_few whole rows = let few = entries_rows whole nothing_yet rows in omega 
 
 -- ---- lists and reports
 
--- the first fault by the records is the first fault by what they have said
-pub list_faults : (whole : Bool) (rows : List Row) → fault_of (list_code whole) (is_list_done whole) NoEnd rows ≡ first_fault whole rows
+-- the first fault by the records before is the first by what they have said
+pub list_faults : (whole : Bool) (rows : List Row) → fault_of (list_code whole) (is_list_done whole) NoEnd rows ≡ first_record_fault whole rows
 list_faults whole rows = fault_by_state (code_of whole) (with_row whole) is_ended NoEnd (read_all whole) followed (read_more whole) 1 [] rows
 
+-- so it is the first fault of the text
 pub list_fault : (whole : Bool) (bytes : List ℕ) (fault : Fault Code) → IsFaultOf (list_code whole) (is_list_done whole) NoEnd bytes fault → IsFirstFault whole bytes fault
-list_fault whole bytes fault h = (h.0, h.1, sym (list_faults whole h.0) ∙ h.2)
+list_fault whole bytes fault h =
+    (h.0, h.1, ap (λ o. or_else o (first_wrong_bound whole h.0)) (sym (list_faults whole h.0) ∙ h.2))
 
--- and a text that was taken spells what the taker knows
-pub list_taken : {T : Type 0} (whole : Bool) (Knows : T → SoFar → Type 0) (bytes : List ℕ) (taker : T)
-    → HasTaken (list_code whole) (is_list_done whole) NoEnd (KnowsSaid whole Knows) bytes taker → IsTaken whole Knows bytes taker
-list_taken whole Knows bytes taker h =
-    let few = h.few in
-    record {
-      rows = h.rows;
-      are = h.are;
-      spells = spells whole h.rows (omega (arith, few)) (sym (list_faults whole h.rows) ∙ h.right);
-      knows = h.knows;
-    }
+-- where all records were taken, the first wrong bound is
+pub list_bound : {T : Type 0} (whole : Bool) (Knows : T → SoFar → Type 0) (bytes : List ℕ) (taker : T) (h : HasTaken (list_code whole) (is_list_done whole) NoEnd (KnowsSaid whole Knows) bytes taker)
+    → (fault : Fault Code) → first_wrong_bound whole h.rows ≡ Some (fault.line, fault.code) → IsFirstFault whole bytes fault
+list_bound whole Knows bytes taker h fault wrong =
+    (h.rows, h.are, ap (λ o. or_else o (first_wrong_bound whole h.rows)) (sym (list_faults whole h.rows) ∙ h.right) ∙ wrong)
+
+-- the records of a text that was taken tell the lines of what the taker knows, but for the bounds of waits
+pub list_told : {T : Type 0} (whole : Bool) (Knows : T → SoFar → Type 0) (bytes : List ℕ) (taker : T) (h : HasTaken (list_code whole) (is_list_done whole) NoEnd (KnowsSaid whole Knows) bytes taker)
+    → HaveTold whole h.rows (read_all whole h.rows)
+list_told whole Knows bytes taker h = let few = h.few in have_told whole h.rows (omega (arith, few)) (sym (list_faults whole h.rows) ∙ h.right)
+
+-- and where no bound is wrong, as in an event list, they spell it
+pub list_taken : {T : Type 0} (whole : Bool) (Knows : T → SoFar → Type 0) (bytes : List ℕ) (taker : T) (h : HasTaken (list_code whole) (is_list_done whole) NoEnd (KnowsSaid whole Knows) bytes taker)
+    → first_wrong_bound whole h.rows ≡ None → IsTaken whole Knows bytes taker
+list_taken whole Knows bytes taker h right = record {
+  rows = h.rows;
+  are = h.are;
+  spells = right_bounds whole h.rows (list_told whole Knows bytes taker h) right;
+  knows = h.knows;
+}

@@ -20,7 +20,8 @@ use Rattle.rforms.specs.Numbers.{is_digit}
 use Rattle.rforms.specs.SetFields.{name_at, joined, set_text}
 use Rattle.rforms.specs.Fields.{Names, AreTables, Field, Said, Fresh, OneResource, OneTask, Members, Number, Length, Limit, With, Values, write, AllGood}
 use Rattle.rforms.specs.Words.{fields_of}
-use Rattle.rforms.specs.Lines.{Line, Opens, HasResource, HasGroup, HasTask, HasCap, Happens, Does, BecomesEntitled, BecomesSatisfied, Grants, Leaves, Ends, word_of, values_of, issue_values, spelled, IsNamedLine, IsWritable}
+use Rattle.rforms.specs.Lines.{Line, Opens, HasResource, HasGroup, HasTask, HasCap, Happens, Does, BecomesEntitled, BecomesSatisfied, Grants, Waits, Leaves, Ends, word_of, values_of, issue_values, spelled, IsNamedLine, IsWritable}
+use Rattle.rforms.specs.declared.word.Stage.TheVariants as stage
 use Rattle.rforms.specs.declared.word.Word.{Word}
 use Rattle.rforms.specs.declared.word.Word.TheVariants as word
 use Rattle.rforms.proofs.fields.NumbersBack.{digits_back}
@@ -135,6 +136,9 @@ module _ (names : Names) (tables : AreTables names) where
   plain_parts (BecomesSatisfied seat true) named = (refl, (refl, (refl, tt)))
   plain_parts (BecomesSatisfied seat false) named = (refl, (refl, (refl, tt)))
   plain_parts (Grants seat s) named = (refl, tt)
+  plain_parts (Waits seat stage.First cover bound) named = (refl, (refl, tt))
+  plain_parts (Waits seat stage.Rise cover bound) named = (refl, (refl, tt))
+  plain_parts (Waits seat stage.Ask cover bound) named = (refl, (refl, tt))
   plain_parts (Leaves place ledger) named = (refl, tt)
   plain_parts Ends named = (refl, tt)
 
@@ -165,5 +169,6 @@ not_blank names (word.Put done) v = refl
 not_blank names (word.Entitled half) v = refl
 not_blank names (word.Satisfied half) v = refl
 not_blank names word.Grant v = refl
+not_blank names (word.Wait which) v = refl
 not_blank names word.Ledger v = refl
 not_blank names word.End v = refl

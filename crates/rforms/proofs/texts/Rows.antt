@@ -11,6 +11,7 @@ use Rattle.rforms.specs.Records.{Row}
 use Rattle.rforms.specs.Fields.{Names, AreTables, write}
 use Rattle.rforms.specs.Heads.{names_of}
 use Rattle.rforms.specs.Lines.{Line, IsWritable, spelled, word_of, values_of}
+use Rattle.rforms.specs.Waits.{bound_in}
 use Rattle.rforms.specs.Reports.{Report, lines_of}
 use Rattle.rforms.specs.Written.{MayBeWritten, report_rows}
 use Rattle.rforms.specs.Texts.{behind_comma, line_text, text_of, report_text, IsTextOf}
@@ -59,5 +60,5 @@ no_mark r = refl
 pub written_read : (r : Report) → MayBeWritten r → IsTextOf true (report_text r) r
 written_read r h =
     let tables : AreTables (names_of r.head) = record { resources = h.head.resources_named; tasks = h.head.tasks_named } in
-    let plain = rows_plain (names_of r.head) tables (lines_of true (Some r.head.cap) r) (lines_writable r h) in
+    let plain = rows_plain (names_of r.head) tables (lines_of true (bound_in r.head r.entries) (Some r.head.cap) r) (lines_writable r h) in
     (report_rows r, subst (λ (text : List ℕ). AreRecords default_config st.StartRecord text (report_rows r)) (sym (no_mark r)) (records_back (report_rows r) plain), written_spells r h)

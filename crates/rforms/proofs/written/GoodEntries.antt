@@ -1,10 +1,12 @@
 -- All lines of a report that may be written may be written.
-use Rattle.std.proofs.Common.{◌≡◌, ℕ, zero, suc, ◌+◌, ◌≤◌, ◌<◌, true, List, [], ◌∷◌, ◌++◌, length, map, Some, sym, subst, arith, IsTrue}
+use Rattle.std.proofs.Common.{◌≡◌, ℕ, zero, suc, ◌+◌, ◌≤◌, ◌<◌, true, List, [], ◌∷◌, ◌++◌, length, map, Some, refl, sym, subst, ◌∙◌, arith, append_assoc, IsTrue}
 use Rattle.std.specs.List.{AllByRecursion, range_with_len}
 use Rattle.rset.specs.Sets.{Set, all_below}
 use Rattle.rset.specs.declared.TheConstants.{RESOURCES, SEATS}
 use Rattle.rset.proofs.NameLemmas.{table_names}
 use Rattle.rclaim.specs.Events.{seat_of}
+use Rattle.rbound.specs.Bounds.{Numbers}
+use Rattle.rcover.specs.declared.wait_end.WaitEnd.{WaitEnd}
 use Rattle.rmodel.specs.State.{LockState}
 use Rattle.rmodel.specs.Steps.{next}
 use Rattle.rmodel.specs.StateLaws.{IsBelow}
@@ -20,12 +22,14 @@ use Rattle.rvalue.specs.declared.ledger.Ledger.{Ledger}
 use Rattle.rvalue.proofs.InTurnLemmas.{AllInTurn-longer}
 use Rattle.rforms.specs.Heads.{Head, names_of, read_groups}
 use Rattle.rforms.specs.Lines.{Line, Does, Leaves, Ends, IsWritable}
-use Rattle.rforms.specs.Reports.{Entry, Report, Spells, head_lines, lines_of, lock_after, ledger_after, reads_of, writes_of, change_lines, entry_lines, history_lines, ledger_lines, IsLawful, IsRightEntry}
+use Rattle.rforms.specs.Reports.{Entry, Report, Spells, head_lines, lines_of, lock_after, ledger_after, reads_of, writes_of, change_lines, wait_lines, due_lines, entry_lines, history_lines, ledger_lines, IsLawful, IsRightEntry}
+use Rattle.rforms.specs.Waits.{bound_in}
 use Rattle.rforms.specs.Written.{IsTellable, MayBeWritten, report_rows}
 use Rattle.rforms.proofs.lists.Histories.{lock-resources, lock-tasks}
 use Rattle.rforms.proofs.written.Back.{said_back}
 use Rattle.rforms.proofs.written.GoodLines.{all_both, head_good, event_good, IsShort, act_good, changes_good}
 use Rattle.rforms.proofs.written.Limits.{ledger_limited, within_limited}
+use Rattle.rforms.proofs.waits.GoodWaits.{waits_writable}
 use Rattle.rforms.proofs.written.Reaching.{lock-push, inside, holds_reads, holds_writes}
 
 module _ (head : Head) where
@@ -47,30 +51,32 @@ module _ (head : Head) where
     acts_good entries reads writes a b (earlier ++ act ∷ []) acts held.1 tellable.1 answers.1,
   )
 
-  entry_good : (earlier : List Entry) (entry : Entry) → IsLawful head earlier → IsLawful head (earlier ++ entry ∷ []) → IsRightEntry head earlier entry → AllByRecursion IsTellable entry.acts
-      → AreWritable (entry_lines true head earlier entry)
-  unfolding change_lines
-  entry_good earlier entry before lawful right tellable =
-      let s = lock_after head earlier in
-      let now = inside head earlier before in
-      let then = subst (λ (t : LockState). AllByRecursion (IsBelow (read_groups head)) t.claims) (lock-push head earlier entry) (inside head (earlier ++ entry ∷ []) lawful).below in
-      let seated = subst (λ (t : LockState). AllByRecursion (λ (x : Claimed). x.claim.seat < length head.tasks) t.claims) (lock-push head earlier entry) (inside head (earlier ++ entry ∷ []) lawful).seated in
-      let seat = seat_of entry.event in (
-        event_good head s entry.event (lock-resources head earlier) (lock-tasks head earlier) right.comes,
-        all_both (IsWritable (names_of head)) (map Does entry.acts) (change_lines true s entry.event)
-            (acts_good earlier (reads_of s seat) (writes_of s seat) (holds_reads (read_groups head) seat s.claims now.below) (holds_writes (read_groups head) seat s.claims now.below) [] entry.acts
-            right.held tellable (right.answers (λ l. opening_ledger) (λ l value is. sym is)))
-            (changes_good head s (next s entry.event) seated then),
-      )
+  module _ (bounds : WaitEnd → Numbers) (all : List Entry) (waits : (earlier : List Entry) (entry : Entry) (rest : List Entry) → earlier ++ entry ∷ rest ≡ all → AreWritable (wait_lines true bounds head earlier entry.event)) where
+    entry_good : (earlier : List Entry) (entry : Entry) → IsLawful head earlier → IsLawful head (earlier ++ entry ∷ []) → IsRightEntry head earlier entry → AllByRecursion IsTellable entry.acts
+        → AreWritable (wait_lines true bounds head earlier entry.event) → AreWritable (entry_lines true bounds head earlier entry)
+    unfolding change_lines
+    entry_good earlier entry before lawful right tellable ended =
+        let s = lock_after head earlier in
+        let now = inside head earlier before in
+        let then = subst (λ (t : LockState). AllByRecursion (IsBelow (read_groups head)) t.claims) (lock-push head earlier entry) (inside head (earlier ++ entry ∷ []) lawful).below in
+        let seated = subst (λ (t : LockState). AllByRecursion (λ (x : Claimed). x.claim.seat < length head.tasks) t.claims) (lock-push head earlier entry) (inside head (earlier ++ entry ∷ []) lawful).seated in
+        let seat = seat_of entry.event in (
+          event_good head s entry.event (lock-resources head earlier) (lock-tasks head earlier) right.comes,
+          all_both (IsWritable (names_of head)) (map Does entry.acts) (due_lines true bounds head earlier entry.event)
+              (acts_good earlier (reads_of s seat) (writes_of s seat) (holds_reads (read_groups head) seat s.claims now.below) (holds_writes (read_groups head) seat s.claims now.below) [] entry.acts
+              right.held tellable (right.answers (λ l. opening_ledger) (λ l value is. sym is)))
+              (all_both (IsWritable (names_of head)) (change_lines true s entry.event) (wait_lines true bounds head earlier entry.event) (changes_good head s (next s entry.event) seated then) ended),
+        )
 
-  history_good : (earlier entries : List Entry) → IsLawful head earlier → AllInTurn (IsRightEntry head) earlier entries → AllByRecursion (λ (x : Entry). AllByRecursion IsTellable x.acts) entries
-      → AreWritable (history_lines true head earlier entries)
-  unfolding history_lines
-  history_good earlier [] before lawful tellable = tt
-  history_good earlier (entry ∷ entries) before lawful tellable =
-      let longer : IsLawful head (earlier ++ entry ∷ []) = (AllInTurn-longer (IsRightEntry head) earlier entry).1 (before, lawful.0) in
-      all_both (IsWritable (names_of head)) (entry_lines true head earlier entry) (history_lines true head (earlier ++ entry ∷ []) entries) (entry_good earlier entry before longer lawful.0 tellable.0)
-      (history_good (earlier ++ entry ∷ []) entries longer lawful.1 tellable.1)
+    history_good : (earlier entries : List Entry) → earlier ++ entries ≡ all → IsLawful head earlier → AllInTurn (IsRightEntry head) earlier entries → AllByRecursion (λ (x : Entry). AllByRecursion IsTellable x.acts) entries
+        → AreWritable (history_lines true bounds head earlier entries)
+    unfolding history_lines
+    history_good earlier [] same before lawful tellable = tt
+    history_good earlier (entry ∷ entries) same before lawful tellable =
+        let longer : IsLawful head (earlier ++ entry ∷ []) = (AllInTurn-longer (IsRightEntry head) earlier entry).1 (before, lawful.0) in
+        all_both (IsWritable (names_of head)) (entry_lines true bounds head earlier entry) (history_lines true bounds head (earlier ++ entry ∷ []) entries)
+        (entry_good earlier entry before longer lawful.0 tellable.0 (waits earlier entry entries same))
+        (history_good (earlier ++ entry ∷ []) entries (append_assoc earlier (entry ∷ []) entries ∙ same) longer lawful.1 tellable.1)
 
   ledgers_good : (entries : List Entry) → AreWritable (ledger_lines true head entries)
   unfolding ledger_lines
@@ -85,20 +91,21 @@ module _ (head : Head) where
           (record { good = (omega (arith, fits), (omega (arith, balance), (omega (arith, edits), tt))); normal = tt; named = tt }, each (low + 1) n (omega (arith, fits)))
 
 -- each line of such a report may be written
-pub lines_writable : (r : Report) → MayBeWritten r → AllByRecursion (IsWritable (names_of r.head)) (lines_of true (Some r.head.cap) r)
+pub lines_writable : (r : Report) → MayBeWritten r → AllByRecursion (IsWritable (names_of r.head)) (lines_of true (bound_in r.head r.entries) (Some r.head.cap) r)
 lines_writable r h =
     let names = names_of r.head in
-    let history = history_lines true r.head [] r.entries in
+    let bounds = bound_in r.head r.entries in
+    let history = history_lines true bounds r.head [] r.entries in
     let ledgers = ledger_lines true r.head r.entries in
     all_both (IsWritable names) (head_lines r.head (Some r.head.cap)) (history ++ (ledgers ++ Ends ∷ []))
     (head_good r.head (table_names RESOURCES r.head.resources h.head.resources_named) (table_names SEATS r.head.tasks h.head.tasks_named) h.cap_low h.cap_high h.groups)
-    (all_both (IsWritable names) history (ledgers ++ Ends ∷ []) (history_good r.head [] r.entries tt h.lawful h.amounts)
+    (all_both (IsWritable names) history (ledgers ++ Ends ∷ []) (history_good r.head bounds r.entries (waits_writable r.head r.entries h.lawful h.cap_low h.cap_high) [] r.entries refl tt h.lawful h.amounts)
     (all_both (IsWritable names) ledgers (Ends ∷ []) (ledgers_good r.head r.entries) (record { good = tt; normal = tt; named = tt }, tt)))
 
 pub written_spells : (r : Report) → MayBeWritten r → Spells true (report_rows r) r
 written_spells r h = record {
   told = Some r.head.cap;
-  said = said_back (names_of r.head) (record { resources = h.head.resources_named; tasks = h.head.tasks_named }) (lines_of true (Some r.head.cap) r) (lines_writable r h);
+  said = said_back (names_of r.head) (record { resources = h.head.resources_named; tasks = h.head.tasks_named }) (lines_of true (bound_in r.head r.entries) (Some r.head.cap) r) (lines_writable r h);
   head = h.head;
   lawful = h.lawful;
 }

@@ -1,18 +1,21 @@
 -- A report that records spell may be written.
-use Rattle.std.proofs.Common.{◌≡◌, ℕ, ◌+◌, ◌≤◌, ◌<◌, ◌^◌, Bool, true, false, List, [], ◌∷◌, ◌++◌, map, length, Option, Some, None, IsTrue, refl, sym, ap, subst, ◌∙◌, arith}
+use Rattle.std.proofs.Common.{◌≡◌, ℕ, ◌≤◌, Bool, false, List, [], ◌∷◌, ◌++◌, map, length, Option, Some, None, IsTrue, refl, sym, subst, arith}
 use Rattle.std.specs.List.{AllByRecursion, AllZip}
 use Rattle.std.specs.Prelude.{option_map, option_to_list}
 use Rattle.rset.specs.Sets.{Set, all_below}
-use Rattle.rset.specs.declared.TheConstants.{RESOURCES, SEATS}
+use Rattle.rset.specs.declared.TheConstants.{SEATS}
 use Rattle.rset.proofs.NameLemmas.{table_length}
+use Rattle.rbound.specs.Bounds.{Numbers}
+use Rattle.rcover.specs.declared.wait_end.WaitEnd.{WaitEnd}
 use Rattle.rvalue.specs.declared.act.Act.{Act}
 use Rattle.rvalue.specs.declared.ledger.Edit.{Edit}
 use Rattle.rforms.specs.Records.{Row}
 use Rattle.rforms.specs.Fields.{Names, Values, AllGood, read}
 use Rattle.rforms.specs.Words.{fields_of, word_in}
-use Rattle.rforms.specs.Heads.{Head, names_of, IsHead, cap_or, is_nil}
-use Rattle.rforms.specs.Lines.{Line, Opens, HasResource, HasGroup, HasTask, HasCap, Happens, Does, BecomesEntitled, BecomesSatisfied, Grants, Leaves, Ends, line_by, meant_as, meaning}
-use Rattle.rforms.specs.Reports.{Entry, Report, Spells, change_lines, history_lines, ledger_lines, lines_of, lock_after}
+use Rattle.rforms.specs.Heads.{Head, names_of, IsHead, is_nil}
+use Rattle.rforms.specs.Lines.{Line, HasResource, HasGroup, HasTask, HasCap, Does, Ends, line_by, meant_as, meaning}
+use Rattle.rforms.specs.Reports.{Entry, Report, Spells, due_lines, history_lines, ledger_lines, lines_of}
+use Rattle.rforms.specs.Waits.{bound_in}
 use Rattle.rforms.specs.Written.{IsTellable, MayBeWritten}
 use Rattle.rforms.specs.declared.word.Word.{Word}
 use Rattle.rforms.specs.declared.word.Word.TheVariants as word
@@ -51,6 +54,7 @@ by_limited names word.Ask v good = tt
 by_limited names (word.Entitled half) v good = tt
 by_limited names (word.Satisfied half) v good = tt
 by_limited names word.Grant v good = tt
+by_limited names (word.Wait which) v good = tt
 by_limited names word.Ledger v good = tt
 by_limited names word.End v good = tt
 
@@ -91,15 +95,15 @@ module _ (names : Names) where
   acts_tellable [] all = tt
   acts_tellable (act ∷ acts) all = (all.0, acts_tellable acts all.1)
 
-  entries_tellable : (whole : Bool) (head : Head) (earlier entries : List Entry) → AllByRecursion (IsLimited names) (history_lines whole head earlier entries)
+  entries_tellable : (whole : Bool) (bounds : WaitEnd → Numbers) (head : Head) (earlier entries : List Entry) → AllByRecursion (IsLimited names) (history_lines whole bounds head earlier entries)
       → AllByRecursion (λ (entry : Entry). AllByRecursion IsTellable entry.acts) entries
   unfolding history_lines
-  entries_tellable whole head earlier [] all = tt
-  entries_tellable whole head earlier (entry ∷ entries) all =
-      let own = front (IsLimited names) (map Does entry.acts ++ change_lines whole (lock_after head earlier) entry.event) (history_lines whole head (earlier ++ entry ∷ []) entries) all.1 in (
-        acts_tellable entry.acts (front (IsLimited names) (map Does entry.acts) (change_lines whole (lock_after head earlier) entry.event) own),
-        entries_tellable whole head (earlier ++ entry ∷ []) entries
-            (rest (IsLimited names) (map Does entry.acts ++ change_lines whole (lock_after head earlier) entry.event) (history_lines whole head (earlier ++ entry ∷ []) entries) all.1),
+  entries_tellable whole bounds head earlier [] all = tt
+  entries_tellable whole bounds head earlier (entry ∷ entries) all =
+      let own = front (IsLimited names) (map Does entry.acts ++ due_lines whole bounds head earlier entry.event) (history_lines whole bounds head (earlier ++ entry ∷ []) entries) all.1 in (
+        acts_tellable entry.acts (front (IsLimited names) (map Does entry.acts) (due_lines whole bounds head earlier entry.event) own),
+        entries_tellable whole bounds head (earlier ++ entry ∷ []) entries
+            (rest (IsLimited names) (map Does entry.acts ++ due_lines whole bounds head earlier entry.event) (history_lines whole bounds head (earlier ++ entry ∷ []) entries) all.1),
       )
 
 some_length : {X : Type 0} (xs : List X) → is_nil xs ≡ false → 1 ≤ length xs
@@ -114,11 +118,11 @@ cap_bounds head (Some n) is all = subst (λ n. (1 ≤ n) × (n ≤ SEATS)) (sym 
 pub spelled_may_be : (whole : Bool) (rows : List Row) (r : Report) → Spells whole rows r → MayBeWritten r
 spelled_may_be whole rows r spells =
     let P = IsLimited (names_of r.head) in
-    let all = said_limited whole (names_of r.head) rows (lines_of whole spells.told r) spells.said in
+    let all = said_limited whole (names_of r.head) rows (lines_of whole (bound_in r.head r.entries) spells.told r) spells.said in
     let head = front P (map HasResource r.head.resources ++ (map HasGroup r.head.groups ++ (map HasTask r.head.tasks ++ map HasCap (option_to_list spells.told))))
-    (history_lines whole r.head [] r.entries ++ (ledger_lines whole r.head r.entries ++ Ends ∷ [])) all.1 in
+    (history_lines whole (bound_in r.head r.entries) r.head [] r.entries ++ (ledger_lines whole r.head r.entries ++ Ends ∷ [])) all.1 in
     let tail = rest P (map HasResource r.head.resources ++ (map HasGroup r.head.groups ++ (map HasTask r.head.tasks ++ map HasCap (option_to_list spells.told))))
-    (history_lines whole r.head [] r.entries ++ (ledger_lines whole r.head r.entries ++ Ends ∷ [])) all.1 in
+    (history_lines whole (bound_in r.head r.entries) r.head [] r.entries ++ (ledger_lines whole r.head r.entries ++ Ends ∷ [])) all.1 in
     let behind = rest P (map HasResource r.head.resources) (map HasGroup r.head.groups ++ (map HasTask r.head.tasks ++ map HasCap (option_to_list spells.told))) head in
     let caps = rest P (map HasTask r.head.tasks) (map HasCap (option_to_list spells.told)) (rest P (map HasGroup r.head.groups) (map HasTask r.head.tasks ++ map HasCap (option_to_list spells.told)) behind) in
     let bounds = cap_bounds r.head spells.told spells.head caps in
@@ -135,5 +139,5 @@ spelled_may_be whole rows r spells =
       cap_high = bounds.1;
       groups = groups_below (names_of r.head) r.head.groups (front P (map HasGroup r.head.groups) (map HasTask r.head.tasks ++ map HasCap (option_to_list spells.told)) behind);
       lawful = spells.lawful;
-      amounts = entries_tellable (names_of r.head) whole r.head [] r.entries (front P (history_lines whole r.head [] r.entries) (ledger_lines whole r.head r.entries ++ Ends ∷ []) tail);
+      amounts = entries_tellable (names_of r.head) whole (bound_in r.head r.entries) r.head [] r.entries (front P (history_lines whole (bound_in r.head r.entries) r.head [] r.entries) (ledger_lines whole r.head r.entries ++ Ends ∷ []) tail);
     }

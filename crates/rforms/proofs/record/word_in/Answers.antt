@@ -1,7 +1,7 @@
 use Rattle.std.proofs.Common.{◌∙◌, arith, sym}
 use Rattle.csv.specs.Records.{fields_of}
-use Rattle.rforms.specs.Decided.{word_of_one, word_of_two, word_of_three, word_of_four, word_of_five, word_of_six, word_of_seven}
-use Rattle.rforms.proofs.lines.Decided.{decided_one, decided_two, decided_three, decided_four, decided_five, decided_six, decided_seven, decided_other}
+use Rattle.rforms.specs.Decided.{word_of_one, word_of_two, word_of_three, word_of_four, word_of_five, word_of_six, word_of_seven, word_of_nine}
+use Rattle.rforms.proofs.lines.Decided.{decided_one, decided_two, decided_three, decided_four, decided_five, decided_six, decided_seven, decided_nine, decided_other}
 use Rattle.rforms.proofs.record.word_in.Goals as goal
 
 pub returns-in-1 : goal.returns-in-1
@@ -25,7 +25,10 @@ returns-in-6 c = c.word_of_six.ensures ∙ (λ i. word_of_six (c.field_of-in-6.e
 pub returns-in-7 : goal.returns-in-7
 returns-in-7 c = c.word_of_seven.ensures ∙ (λ i. word_of_seven (c.field_of-in-7.ensures i) (c.field_of-in-7-2.ensures i)) ∙ decided_seven c.args.whole (fields_of c.args.fields.now) (sym c.len.ensures ∙ c.in-7.is)
 
+pub returns-in-9 : goal.returns-in-9
+returns-in-9 c = c.word_of_nine.ensures ∙ (λ i. word_of_nine c.args.whole (c.field_of-in-9.ensures i) (c.field_of-in-9-2.ensures i)) ∙ decided_nine c.args.whole (fields_of c.args.fields.now) (sym c.len.ensures ∙ c.in-9.is)
+
 pub returns-in_default : goal.returns-in_default
 returns-in_default c =
     let size = c.len.ensures in
-    decided_other c.args.whole (fields_of c.args.fields.now) (λ e. omega (arith, size, e)) (λ e. omega (arith, size, e)) (λ e. omega (arith, size, e)) (λ e. omega (arith, size, e)) (λ e. omega (arith, size, e)) (λ e. omega (arith, size, e)) (λ e. omega (arith, size, e))
+    decided_other c.args.whole (fields_of c.args.fields.now) (λ e. omega (arith, size, e)) (λ e. omega (arith, size, e)) (λ e. omega (arith, size, e)) (λ e. omega (arith, size, e)) (λ e. omega (arith, size, e)) (λ e. omega (arith, size, e)) (λ e. omega (arith, size, e)) (λ e. omega (arith, size, e))

@@ -14,7 +14,7 @@ returns-in-Ok g c = λ watchers.
     let within = c.in-Ok.ensures.within (λ e. cc) in
     answered g.S.Source.left g.S.Source.faults g.K.Sink.written g.K.Sink.faults watchers (Some Audit) Audit c.args.source.now c.count_stream.new.source c.args.sink.now c.tell.new.sink found.0 c.tell.result refl
     (stream_read g.S.Source.left g.S.Source.faults c.args.source.now c.count_stream.new.source found.0 found.1 within (c.in-Ok.ensures.quiet (λ e. cc)))
-    (written watchers (Some Audit) found.0 _ _ _ _ _ _ c.tell.result (found.2.report, found.2.spelled, ap audit_text found.2.events) c.tell.ensures)
+    (written watchers (Some Audit) found.0 _ _ _ _ _ _ c.tell.result (found.2.report, found.2.spelled, λ i. audit_text (found.2.events i) (found.2.waits i)) c.tell.ensures)
 
 pub returns-in-Err-Bad : goal.returns-in-Err-Bad
 returns-in-Err-Bad g c = λ watchers.
@@ -29,3 +29,16 @@ returns-in-Err-TooLong g c = λ watchers.
     let is = c.in-Err-TooLong.field-0-is in
     unread g.S.Source.left g.S.Source.faults g.K.Sink.written g.K.Sink.faults watchers (Some Audit) Audit c.args.source.now c.count_stream.new.source c.args.sink.now status.TooLong refl
     (report_limit, refl, c.in-Err-TooLong.ensures.too_long (ap Err is), c.in-Err-TooLong.ensures.quiet (λ e. cc))
+
+pub returns-in-Err-ReadFault : goal.returns-in-Err-ReadFault
+returns-in-Err-ReadFault g c = λ watchers.
+    unread g.S.Source.left g.S.Source.faults g.K.Sink.written g.K.Sink.faults watchers (Some Audit) Audit c.args.source.now c.count_stream.new.source c.args.sink.now status.ReadFault refl (
+      stream_within g.S.Source.left g.S.Source.faults c.args.source.now c.count_stream.new.source (c.in-Err-ReadFault.ensures.within (λ e. cc)),
+      refl,
+      c.in-Err-ReadFault.ensures.fault (ap Err c.in-Err-ReadFault.field-0-is),
+    )
+
+pub returns : goal.returns
+returns g c = λ watchers.
+    unread g.S.Source.left g.S.Source.faults g.K.Sink.written g.K.Sink.faults watchers (Some Audit) Audit c.args.source.now c.count_stream.new.source c.args.sink.now status.NoMemory refl
+    (stream_within g.S.Source.left g.S.Source.faults c.args.source.now c.count_stream.new.source (c.in-Err-Memory.ensures.within (λ e. cc)), c.in-Err-Memory.ensures.quiet (λ e. cc))

@@ -15,7 +15,7 @@ made-requires c =
 pub returns-in-Ok-made-clause-made : goal.returns-in-Ok-made-clause-made
 returns-in-Ok-made-clause-made c =
     let h = c.in-Ok.ensures.taken in
-    let spelled = taken_spells false KnowsReplay c.args.bytes.now c.take_text.new.taker h in
+    let spelled = taken_spells KnowsReplay c.args.bytes.now c.take_text.new.taker h in
     let ended = taken_ended false KnowsReplay c.args.bytes.now c.take_text.new.taker h in (
       told_in (read_all false h.rows),
       (h.rows, h.are, spelled),

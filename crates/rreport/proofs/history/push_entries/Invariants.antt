@@ -1,12 +1,16 @@
 use Rattle.std.proofs.Common.{◌≡◌, ◌++◌, [], true, take}
-use Rattle.rforms.specs.Reports.{history_lines, lock_after}
+use Rattle.rforms.specs.Reports.{history_lines}
+use Rattle.rforms.specs.Waits.{no_bounds, all_ended}
+use Rattle.rreport.specs.Behind.{past_in, AreBehind}
+use Rattle.rreport.specs.Gathered.{KnowsGathered}
+use Rattle.rreport.specs.Open.{open_told}
 use Rattle.rreport.specs.Report.{told_by}
-use Rattle.rreport.specs.Told.{told}
 use Rattle.rreport.proofs.history.push_entries.Given as goal
 
--- the machine is where the entries so far lead, and their lines were appended
+-- the machine and the follower are where the entries so far lead, their waits were gathered, and their lines were appended
 abbrev pub invariant-loop-entry : goal.invariant-loop-entry
 invariant-loop-entry l = record {
-  state : l.machine.state ≡ lock_after (told_by l.report).head (take l.entry-index l.entries);
-  text : l.page ≡ l.fn.page ++ told l.names (history_lines true (told_by l.report).head [] (take l.entry-index l.entries));
+  behind : AreBehind l.machine.state l.following (past_in (told_by l.report).head (take l.entry-index l.entries));
+  gathered : KnowsGathered l.gathered (past_in (told_by l.report).head (take l.entry-index l.entries)) (all_ended (told_by l.report).head (take l.entry-index l.entries));
+  text : l.text ≡ l.fn.text ++ open_told l.names (history_lines true no_bounds (told_by l.report).head [] (take l.entry-index l.entries));
 }

@@ -1,16 +1,23 @@
-use Rattle.std.proofs.Common.{Err, true, ap, refl}
-use Rattle.rforms.specs.Faults.{read_all}
-use Rattle.rforms.specs.SoFar.{told_in}
-use Rattle.rforms.proofs.texts.Lists.{list_taken, list_fault}
+use Rattle.std.proofs.Common.{Err, true, ap}
+use Rattle.rforms.proofs.texts.Lists.{list_fault}
 use Rattle.rforms.proofs.texts.Place.{err_is}
-use Rattle.rtrace.specs.Collects.{KnowsCount}
+use Rattle.rtrace.proofs.Results.{if_ok, no_read_fault, not_too_long}
 use Rattle.rtrace.proofs.count.count_stream.Goals as goal
 
+pub counted-requires : goal.counted-requires
+counted-requires g c = let h = c.in-Ok.ensures.taken in (h.0, h.2)
+
 pub returns-in-Ok-clause-right : goal.returns-in-Ok-clause-right
-returns-in-Ok-clause-right g c =
-    let h = c.in-Ok.ensures.taken in
-    let t = list_taken true KnowsCount h.0 c.take_source.new.taker h.2 in
-    (h.0, h.1, record { report = told_in (read_all true t.rows); spelled = (t.rows, t.are, t.spells); events = t.knows.events; waits = refl })
+returns-in-Ok-clause-right g c = let h = c.in-Ok.ensures.taken in if_ok c.counted.result _ _ c.counted.ensures.right (λ counts is. (h.0, h.1, is h.0 h.2))
+
+pub returns-in-Ok-clause-bad : goal.returns-in-Ok-clause-bad
+returns-in-Ok-clause-bad g c = λ fault is. let h = c.in-Ok.ensures.taken in (h.0, h.1, c.counted.ensures.bad fault is h.0 h.2)
+
+pub returns-in-Ok-clause-fault : goal.returns-in-Ok-clause-fault
+returns-in-Ok-clause-fault g c = λ is. absurd (no_read_fault c.counted.result c.counted.ensures.text is)
+
+pub returns-in-Ok-clause-too_long : goal.returns-in-Ok-clause-too_long
+returns-in-Ok-clause-too_long g c = λ is. absurd (not_too_long c.counted.result c.counted.ensures.text is)
 
 pub returns-in-Err-clause-bad : goal.returns-in-Err-clause-bad
 returns-in-Err-clause-bad g c = λ fault is.

@@ -10,7 +10,7 @@ use Rattle.rtrace.proofs.events.apply.Goals as goal
 
 pub returns-then-not-is_admitted-clause-refused : goal.returns-then-not-is_admitted-clause-refused
 returns-then-not-is_admitted-clause-refused c =
-    refused_undeclared c.args.machine.now.state c.args.event.now c.requires
+    refused_undeclared c.args.machine.now.state c.args.event.now c.requires.fits
     (ap (λ (g : ReadGroups). event_admitted g.groups c.args.event.now) (sym c.groups.ensures) ∙ sym c.is_admitted.ensures ∙ c.if-not-is_admitted.true)
 
 pub returns-in-Ok-clause-stepped : goal.returns-in-Ok-clause-stepped
@@ -18,7 +18,7 @@ returns-in-Ok-clause-stepped c =
     let state = c.args.machine.now.state in
     let admitted = ap (λ (g : ReadGroups). event_admitted g.groups c.args.event.now) (sym c.groups.ensures) ∙ sym c.is_admitted.ensures ∙ c.if-not-is_admitted.false in
     let last = c.in-Ok.ensures.changes ∙ ap (changes_between state) c.in-Ok.ensures.after in (
-      refused_by_lock state c.args.event.now c.requires admitted ∙ ap (option_map Step) (c.in-Ok.ensures.accepted.0 refl),
+      refused_by_lock state c.args.event.now c.requires.fits admitted ∙ ap (option_map Step) (c.in-Ok.ensures.accepted.0 refl),
       (λ i. record { state = c.in-Ok.ensures.after i; last = last i }),
       subst (λ (changes : ChangeLists). AreActive changes.statuses) last c.in-Ok.ensures.active,
     )
@@ -26,4 +26,4 @@ returns-in-Ok-clause-stepped c =
 pub returns-in-Err-clause-refused : goal.returns-in-Err-clause-refused
 returns-in-Err-clause-refused c =
     let admitted = ap (λ (g : ReadGroups). event_admitted g.groups c.args.event.now) (sym c.groups.ensures) ∙ sym c.is_admitted.ensures ∙ c.if-not-is_admitted.false in
-    refused_by_lock c.args.machine.now.state c.args.event.now c.requires admitted ∙ ap (option_map Step) c.in-Err.ensures.refused
+    refused_by_lock c.args.machine.now.state c.args.event.now c.requires.fits admitted ∙ ap (option_map Step) c.in-Err.ensures.refused

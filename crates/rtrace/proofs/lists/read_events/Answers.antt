@@ -1,5 +1,6 @@
 use Rattle.std.proofs.Common.{false}
 use Rattle.rforms.proofs.texts.Lists.{list_taken, list_fault}
+use Rattle.rforms.proofs.lists.NoActs.{no_wrong_bound}
 use Rattle.rtrace.specs.Collects.{KnowsList}
 use Rattle.rtrace.proofs.Results.{same_error}
 use Rattle.rtrace.proofs.Whole.{read_whole}
@@ -8,7 +9,7 @@ use Rattle.rtrace.proofs.lists.read_events.Goals as goal
 
 pub returns-in-Ok-clause-list : goal.returns-in-Ok-clause-list
 returns-in-Ok-clause-list c =
-    let t = list_taken false KnowsList c.args.bytes.now c.take_text.new.taker c.in-Ok.ensures.taken in
+    let t = list_taken false KnowsList c.args.bytes.now c.take_text.new.taker c.in-Ok.ensures.taken (no_wrong_bound c.in-Ok.ensures.taken.rows) in
     read_whole false c.args.bytes.now c.take_text.new.taker.inner t.rows c.report.result t.are t.spells t.knows c.report.ensures.report
 
 pub returns-in-Err-clause-bad : goal.returns-in-Err-clause-bad

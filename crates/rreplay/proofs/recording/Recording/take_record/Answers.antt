@@ -1,4 +1,4 @@
-use Rattle.std.proofs.Common.{false, Err, ap}
+use Rattle.std.proofs.Common.{Err, ap}
 use Rattle.csv.specs.Records.{fields_of}
 use Rattle.rreplay.proofs.Following.{never_act}
 use Rattle.rreplay.proofs.Replays.{one_err, event_list, other_list}
@@ -19,6 +19,12 @@ returns-in-Act-clause-taken c = λ s k.
     let taken = c.in_default.ensures.taken s k.replay in
     let told = (rw c.in-Act.is at c.in_default.ensures.told) s k.replay in
     absurd (never_act s (fields_of c.args.fields.now) taken.0 c.in-Act.field-0 told.0 told.1 told.2)
+
+pub returns-in-Wait-clause-taken : goal.returns-in-Wait-clause-taken
+returns-in-Wait-clause-taken c = λ s k.
+    let taken = c.in_default.ensures.taken s k.replay in
+    let told = (rw c.in-Wait.is at c.in_default.ensures.told) s k.replay in
+    (taken.0, record { replay = taken.1; events = other_list s (fields_of c.args.fields.now) c.args.self.now.events.items told.0 told.1 k.events })
 
 pub returns-in-Other-clause-taken : goal.returns-in-Other-clause-taken
 returns-in-Other-clause-taken c = λ s k.

@@ -1,9 +1,29 @@
-use Rattle.std.proofs.Common.{false, ◌∙◌}
-use Rattle.rreplay.proofs.Endings.{groups_are, made_are}
+use Rattle.std.proofs.Common.{◌∙◌}
+use Rattle.rreplay.proofs.Endings.{if_ok_weaker, told_none}
 use Rattle.rreplay.proofs.replaying.Replaying.made.Goals as goal
 
-pub returns : goal.returns
-returns c = λ s k ended.
-    let there = groups_are false c.args.self.now.reading s k.reading ended in
-    made_are c.args.self.now.reading s c.in_ok-names.names c.args.self.now.history c.in_ok-head.head c.replace-history.result c.in_ok-ending.ending _ k.reading ended c.in_ok-names.ensures
-    there (c.in_ok-head.ensures _ there) k.history c.replace-history.ensures.value c.in_ok-ending.ensures
+pub made_of-requires-in-None : goal.made_of-requires-in-None
+made_of-requires-in-None c =
+    let k = c.requires.1 in
+    let telling = c.in_ok-telling-in-None in (
+      c.requires.0,
+      record {
+        knows = k.reading;
+        ended = c.requires.2;
+        history = c.replace-text.ensures.value ∙ k.history;
+        told = told_none telling.telling c.args.self.now.reading c.requires.0 k.reading c.requires.2 telling.ensures.names telling.ensures.gathered (k.untold c.in-None.is);
+      },
+    )
+
+pub returns-in_ok-telling-in-None : goal.returns-in_ok-telling-in-None
+returns-in_ok-telling-in-None c =
+    let telling = c.in_ok-telling-in-None in
+    if_ok_weaker c.made_of-in-None.result
+    (λ made parts s k ended.
+    parts s (record {
+      knows = k.reading;
+      ended = ended;
+      history = c.replace-text.ensures.value ∙ k.history;
+      told = told_none telling.telling c.args.self.now.reading s k.reading ended telling.ensures.names telling.ensures.gathered (k.untold c.in-None.is);
+    }))
+    c.made_of-in-None.ensures

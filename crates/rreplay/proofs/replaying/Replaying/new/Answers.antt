@@ -1,4 +1,4 @@
-use Rattle.std.proofs.Common.{sym, ◌∙◌}
+use Rattle.std.proofs.Common.{refl, sym, ◌∙◌}
 use Rattle.rforms.specs.SoFar.{nothing_yet, head_in, names_in}
 use Rattle.rreplay.proofs.Following.{no_text}
 use Rattle.rreplay.proofs.replaying.Replaying.new.Goals as goal
@@ -7,5 +7,6 @@ pub returns : goal.returns
 returns c = record {
   reading = c.new.ensures;
   history = c.new-2.ensures ∙ sym (no_text (head_in nothing_yet) (names_in nothing_yet));
-  names = tt;
+  telling = tt;
+  untold = λ none. refl;
 }

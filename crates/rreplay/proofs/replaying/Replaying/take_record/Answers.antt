@@ -1,26 +1,54 @@
 use Rattle.std.proofs.Common.{false, Err, ap}
 use Rattle.csv.specs.Records.{fields_of}
+use Rattle.rforms.specs.SoFar.{entries_in, head_in}
+use Rattle.rforms.specs.Waits.{all_ended}
+use Rattle.rreport.specs.Behind.{past_in}
 use Rattle.rreplay.proofs.Following.{never_act}
-use Rattle.rreplay.proofs.Replays.{one_err, names_stay, names_kept, names_made, event_history, other_history}
+use Rattle.rreplay.proofs.Replays.{one_err, followed_event, still_told, told_event, telling_kept, event_history, other_history, some_telling, other_untold}
 use Rattle.rreplay.proofs.replaying.Replaying.take_record.Goals as goal
 
-pub tell-told-requires : goal.tell-told-requires
-tell-told-requires c =
+pub tell-told-requires-clause-there : goal.tell-told-requires-clause-there
+tell-told-requires-clause-there c =
     let s = c.requires.0 in
     let k = c.requires.1 in
-    let taken = c.in_default.ensures.taken false s k.reading in
-    names_stay s (fields_of c.args.fields.now) taken.0 c.args.self.now.reading c.take.new.self k.reading taken.1 c.args.self.now.names k.names
+    let row = fields_of c.args.fields.now in
+    let event = c.in-Event.event in
+    let taken = (rw c.in-Event.is at c.in_default.ensures.taken) false s k.reading in
+    let followed = followed_event s row taken.0 c.args.self.now.reading c.take.new.self k.reading taken.1 event taken.2.0 taken.2.1 in
+    (followed.0, followed.1)
+
+pub tell-told-requires-clause-told : goal.tell-told-requires-clause-told
+tell-told-requires-clause-told c =
+    let s = c.requires.0 in
+    let k = c.requires.1 in
+    let row = fields_of c.args.fields.now in
+    let event = c.in-Event.event in
+    let taken = (rw c.in-Event.is at c.in_default.ensures.taken) false s k.reading in
+    let before = c.args.self.now.reading in
+    let reading = c.take.new.self in (
+      past_in (head_in s) (entries_in s),
+      all_ended (head_in s) (entries_in s),
+      (followed_event s row taken.0 before reading k.reading taken.1 event taken.2.0 taken.2.1).2,
+      still_told s row taken.0 before reading k.reading taken.1 event taken.2.0 taken.2.1 c.args.self.now.telling k.telling k.untold,
+    )
 
 pub returns-in-Ok-clause-taken : goal.returns-in-Ok-clause-taken
 returns-in-Ok-clause-taken c = λ s k.
     let row = fields_of c.args.fields.now in
     let event = c.in-Event.event in
-    let taken = (rw c.in-Event.is at c.in_default.ensures.taken) false s k.reading in (
+    let taken = (rw c.in-Event.is at c.in_default.ensures.taken) false s k.reading in
+    let before = c.args.self.now.reading in
+    let reading = c.take.new.self in
+    let past = past_in (head_in s) (entries_in s) in
+    let followed = (followed_event s row taken.0 before reading k.reading taken.1 event taken.2.0 taken.2.1).2 in
+    let told = c.in-Ok.ensures.told past (all_ended (head_in s) (entries_in s)) followed
+    (still_told s row taken.0 before reading k.reading taken.1 event taken.2.0 taken.2.1 c.args.self.now.telling k.telling k.untold) in (
       taken.0,
       record {
         reading = taken.1;
-        history = event_history s row taken.0 c.args.self.now.reading c.take.new.self k.reading taken.1 event c.args.self.now.history c.tell-told.new.history taken.2.0 taken.2.1 k.history c.in-Ok.ensures.text;
-        names = names_made s row taken.0 c.args.self.now.reading c.take.new.self k.reading taken.1 c.tell-told.new.names event taken.2.1 c.in-Ok.ensures.names;
+        history = event_history s row taken.0 before reading k.reading taken.1 event taken.2.0 taken.2.1 c.args.self.now.history c.tell-told.new.history k.history (c.in-Ok.ensures.text past followed);
+        telling = told_event s row taken.0 before reading k.reading taken.1 event taken.2.0 taken.2.1 c.tell-told.new.telling c.in-Ok.ensures.there told;
+        untold = some_telling c.tell-told.new.telling c.in-Ok.ensures.there;
       },
     )
 
@@ -28,6 +56,19 @@ pub returns-in-Act-clause-taken : goal.returns-in-Act-clause-taken
 returns-in-Act-clause-taken c = λ s k.
     let taken = (rw c.in-Act.is at c.in_default.ensures.taken) false s k.reading in
     absurd (never_act s (fields_of c.args.fields.now) taken.0 c.in-Act.field-0 taken.2.0 taken.2.1 taken.2.2)
+
+pub returns-in-Wait-clause-taken : goal.returns-in-Wait-clause-taken
+returns-in-Wait-clause-taken c = λ s k.
+    let row = fields_of c.args.fields.now in
+    let taken = (rw c.in-Wait.is at c.in_default.ensures.taken) false s k.reading in (
+      taken.0,
+      record {
+        reading = taken.1;
+        history = other_history s row taken.0 c.args.self.now.reading c.take.new.self k.reading taken.1 c.args.self.now.history taken.2.0 taken.2.1 k.history;
+        telling = telling_kept s row taken.0 c.args.self.now.reading c.take.new.self k.reading taken.1 c.args.self.now.telling taken.2.0 taken.2.1 k.telling;
+        untold = λ none. other_untold s row taken.2.0 taken.2.1 (k.untold none);
+      },
+    )
 
 pub returns-in-Other-clause-taken : goal.returns-in-Other-clause-taken
 returns-in-Other-clause-taken c = λ s k.
@@ -37,7 +78,8 @@ returns-in-Other-clause-taken c = λ s k.
       record {
         reading = taken.1;
         history = other_history s row taken.0 c.args.self.now.reading c.take.new.self k.reading taken.1 c.args.self.now.history taken.2.0 taken.2.1 k.history;
-        names = names_kept s row taken.0 c.args.self.now.reading c.take.new.self k.reading taken.1 c.args.self.now.names k.names;
+        telling = telling_kept s row taken.0 c.args.self.now.reading c.take.new.self k.reading taken.1 c.args.self.now.telling taken.2.0 taken.2.1 k.telling;
+        untold = λ none. other_untold s row taken.2.0 taken.2.1 (k.untold none);
       },
     )
 
@@ -49,6 +91,9 @@ returns-in-Ok-clause-told c = λ s k. (c.in_default.ensures.taken false s k.read
 
 pub returns-in-Act-clause-told : goal.returns-in-Act-clause-told
 returns-in-Act-clause-told c = λ s k. (c.in_default.ensures.taken false s k.reading).2
+
+pub returns-in-Wait-clause-told : goal.returns-in-Wait-clause-told
+returns-in-Wait-clause-told c = λ s k. (c.in_default.ensures.taken false s k.reading).2
 
 pub returns-in-Other-clause-told : goal.returns-in-Other-clause-told
 returns-in-Other-clause-told c = λ s k. (c.in_default.ensures.taken false s k.reading).2

@@ -1,7 +1,9 @@
-use Rattle.std.proofs.Common.{true, arith}
+use Rattle.std.proofs.Common.{◌+◌, true, arith}
+use Rattle.csv.specs.Records.{fields_of}
 use Rattle.rforms.specs.Faults.{read_all}
 use Rattle.rforms.proofs.texts.Lists.{entries_few}
 use Rattle.rtrace.proofs.Results.{same_err}
+use Rattle.rtrace.proofs.BoundSteps.{count_on, waits_few}
 use Rattle.rtrace.proofs.count.CountingRecords.take.Goals as goal
 
 pub take-requires : goal.take-requires
@@ -15,7 +17,35 @@ overflow_add-self c =
     let few = entries_few true c.requires.0 in
     let small = c.requires.2 in
     let events = c.requires.1.events in
-    omega (arith, few, small, events)
+    let one = c.one_if_event.ensures.few in
+    omega (arith, few, small, events, one)
+
+pub overflow_add-self-2 : goal.overflow_add-self-2
+overflow_add-self-2 c =
+    let few = waits_few c.requires.0 in
+    let small = c.requires.2 in
+    let waits = c.requires.1.waits in
+    let one = c.one_if_wait.ensures.few in
+    omega (arith, few, small, waits, one)
 
 pub returns-in-Err-clause-bad : goal.returns-in-Err-clause-bad
 returns-in-Err-clause-bad c = λ cause is rows h. c.in-Err.ensures.bad cause (same_err is) true (read_all true rows) h.knows
+
+pub take-requires-2 : goal.take-requires-2
+take-requires-2 c = (
+  c.args.self.now.reading,
+  c.requires.0,
+  fields_of c.args.fields.now,
+  c.requires.1.bounds,
+  record { knows = c.requires.1.knows; takes = c.in_default.ensures.taken; tells = c.in_default.ensures.bound },
+  c.requires.2,
+)
+
+pub returns-clause-taken : goal.returns-clause-taken
+returns-clause-taken c = λ rows h.
+    let e = c.one_if_event.ensures.value in
+    let n = c.one_if_wait.ensures.value in
+    let row = fields_of c.args.fields.now in
+    let bounds = c.in-Ok.ensures c.args.self.now.reading rows row h.bounds (record { knows = h.knows; takes = c.in_default.ensures.taken; tells = c.in_default.ensures.bound }) in
+    count_on c.args.self.now (record c.args.self.now { reading = c.take.new.self; bounds = c.take-2.new.self; events = c.args.self.now.events + c.one_if_event.result; waits = c.args.self.now.waits + c.one_if_wait.result; taken = c.take.new.taken })
+    rows row c.take.new.taken h c.in_default.ensures.taken c.in_default.ensures.bound bounds (omega (arith, e)) (omega (arith, n))

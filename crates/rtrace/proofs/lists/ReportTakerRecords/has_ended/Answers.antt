@@ -3,4 +3,4 @@ use Rattle.rforms.specs.Faults.{read_all}
 use Rattle.rtrace.proofs.lists.ReportTakerRecords.has_ended.Goals as goal
 
 pub returns : goal.returns
-returns c = λ rows h. c.has_ended.ensures true (read_all true rows) h.knows
+returns c = λ rows h. c.has_ended.ensures true (read_all true rows) h.knows.knows

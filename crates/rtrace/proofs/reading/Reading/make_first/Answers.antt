@@ -1,6 +1,12 @@
-use Rattle.std.proofs.Common.{ℕ, Option, length, sym, ap, subst, ◌≤◌, arith}
+use Rattle.std.proofs.Common.{ℕ, List, Option, length, sym, ap, subst, ◌≤◌, arith}
 use Rattle.std.specs.Prelude.{IfSome}
 use Rattle.rset.specs.declared.TheConstants.{SEATS}
+use Rattle.rclaim.specs.declared.event.Event.{Event}
+use Rattle.rwaits.specs.Follows.{Follows}
+use Rattle.rforms.specs.Heads.{read_groups}
+use Rattle.rforms.specs.SoFar.{head_in}
+use Rattle.rtrace.specs.Knows.{past_in}
+use Rattle.rtrace.proofs.Steps.{none_behind}
 use Rattle.rtrace.proofs.HeadSteps.{groups_there, cap_fits, behind_head}
 use Rattle.rtrace.proofs.reading.Reading.make_first.Goals as goal
 
@@ -23,3 +29,14 @@ new-requires-clause-cap c =
     let same = ap (λ xs. length xs) h.tasks in
     subst (λ n. (1 ≤ n) × (n ≤ SEATS)) (sym c.unwrap_or-cap.ensures)
     (cap_fits c.args.self.now.cap c.len-tasks.result (subst (λ (o : Option ℕ). IfSome o (λ n. (1 ≤ n) × (n ≤ SEATS))) (sym h.cap) h.capped) (omega (arith, some, same)) (omega arith))
+
+pub returns-clause-followed : goal.returns-clause-followed
+returns-clause-followed c = λ whole s h.
+    let low = behind_head whole c.args.self.now s h (c.requires.placed whole s h) in
+    let some = h.some_task low in
+    let same = ap (λ xs. length xs) h.tasks in
+    let few : length s.tasks ≤ SEATS = omega (arith, same) in
+    let cap = cap_fits s.cap (length s.tasks) h.capped (omega (arith, some)) few in
+    let never = none_behind c.args.self.now.machine c.args.self.now.following s.latest (past_in s) h.stand c.requires.none in
+    subst (λ (es : List Event). Follows c.in_ok-new.field-0 (record { groups = read_groups (head_in s); seats = length s.tasks; cap = (head_in s).cap; events = es })) (sym never.2)
+    (c.in_ok-new.ensures (read_groups (head_in s)) (length s.tasks) (head_in s).cap few cap.0 cap.1)

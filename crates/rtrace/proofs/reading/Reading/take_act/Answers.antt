@@ -4,6 +4,7 @@ use Rattle.rforms.specs.Lines.{Does}
 use Rattle.rtrace.specs.declared.taken.Taken.TheVariants as taken
 use Rattle.rtrace.proofs.Results.{same_bad}
 use Rattle.rtrace.proofs.RowSteps.{is_of, act_whole, act_no_more, latest_there, row_taken, row_code, row_wrong}
+use Rattle.rtrace.proofs.BoundSteps.{tells_none, act_no_wait}
 use Rattle.rtrace.proofs.reading.Reading.take_act.Goals as goal
 
 pub act_of-requires-clause-form : goal.act_of-requires-clause-form
@@ -22,3 +23,6 @@ returns-in-Err-act-clause-bad c = λ code is whole s h.
 
 pub returns-in-Err-clause-bad : goal.returns-in-Err-clause-bad
 returns-in-Err-clause-bad c = λ code is whole s h. row_wrong whole c.args.self.now s h (fields_of c.args.fields.now) c.args.word c.requires.word (act_no_more s c.args.word c.requires.act) c.in-Err.code c.in-Err.ensures.wrong ∙ ap Some (same_bad is)
+
+pub returns-in-Ok-act-clause-bound : goal.returns-in-Ok-act-clause-bound
+returns-in-Ok-act-clause-bound c = tells_none c.args.self.now (fields_of c.args.fields.now) c.args.word (taken.Act c.in-Ok.act) c.requires.word (act_no_wait c.args.word c.requires.act) refl

@@ -10,6 +10,7 @@ use Rattle.rtrace.specs.declared.taken.Taken.TheVariants as taken
 use Rattle.rtrace.proofs.EventSteps.{happen_refused, event_misplaced}
 use Rattle.rtrace.proofs.Results.{same_bad, same_err}
 use Rattle.rtrace.proofs.RowSteps.{is_of, event_no_more, event_fits, alone_refused, row_taken, row_code, row_wrong}
+use Rattle.rtrace.proofs.BoundSteps.{tells_none, event_no_wait}
 use Rattle.rtrace.proofs.reading.Reading.take_event.Goals as goal
 
 pub event_of-requires-clause-form : goal.event_of-requires-clause-form
@@ -49,3 +50,6 @@ returns-in-Refused-clause-bad c = λ code is whole s h.
     row_code whole c.args.self.now s h (fields_of c.args.fields.now) c.args.word c.requires.word (event_no_more s c.args.word c.requires.event) (Happens told.0) told.1
     ∙ happen_refused whole c.args.self.now s h told.0 (sym (c.misplaced.ensures whole s h) ∙ c.in_default.is) (Request c.in-Refused.cause)
     (alone_refused (lock_in s) told.0 c.in-Refused.cause (subst (λ (t : EventTold). IsTold t told.0) c.in-Refused.is told.2)) ∙ ap Some (same_bad is)
+
+pub returns-in-Ok-happen-clause-bound : goal.returns-in-Ok-happen-clause-bound
+returns-in-Ok-happen-clause-bound c = tells_none c.args.self.now (fields_of c.args.fields.now) c.args.word (taken.Event c.in-Event.event) c.requires.word (event_no_wait c.args.word c.requires.event) refl

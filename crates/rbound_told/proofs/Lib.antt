@@ -1,0 +1,3 @@
+pub mod KeyedBounds
+pub mod Knowing
+pub mod OverKeys

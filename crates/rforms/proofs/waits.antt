@@ -1,0 +1,6 @@
+pub mod Asks
+pub mod AskedSets
+pub mod EndedWaits
+pub mod SmallBounds
+pub mod ShortNeeds
+pub mod GoodWaits

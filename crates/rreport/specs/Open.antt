@@ -1,0 +1,32 @@
+-- The text that tells lines whose bounds are not known yet.
+use Rattle.std.specs.Prelude.{ℕ, List, [], ◌∷◌, ◌++◌, flat_map, codes, decimal, Option, None}
+use Rattle.std.specs.List.{filter_map}
+use Rattle.rbound.specs.Bounds.{Numbers}
+use Rattle.rforms.specs.Fields.{Names}
+use Rattle.rforms.specs.Lines.{Line, Waits}
+use Rattle.rforms.specs.SetFields.{name_at}
+use Rattle.rforms.specs.Texts.{behind_comma}
+use Rattle.rforms.specs.Words.{stage_text}
+use Rattle.rforms.specs.WrongBounds.{bound_told}
+use Rattle.rforms.specs.declared.word.Stage.{Stage}
+use Rattle.rreport.specs.Gaps.{solid}
+use Rattle.rreport.specs.Told.{told_line}
+
+-- how the line of a wait begins: whose it was, which, and its cover
+abbrev pub cover_text : Names → ℕ → Stage → Numbers → List ℕ
+cover_text names seat stage cover =
+    codes "wait," ++ (name_at names.tasks seat ++ (behind_comma (stage_text stage)
+    ++ (behind_comma (decimal cover.reads) ++ (behind_comma (decimal cover.writes) ++ behind_comma (decimal cover.units)))))
+
+-- the text of one line; in that of a wait a gap stands for its bound
+abbrev pub open_line : Names → Line → List (Option ℕ)
+open_line names (Waits seat stage cover bound) = solid (cover_text names seat stage cover) ++ None ∷ []
+open_line names line = solid (told_line names line)
+
+-- the text of lines, one after another, whatever their bounds
+abbrev pub open_told : Names → List Line → List (Option ℕ)
+open_told names lines = flat_map (open_line names) lines
+
+-- the bounds that lines tell, in their order
+abbrev pub bounds_of : List Line → List Numbers
+bounds_of lines = filter_map bound_told lines

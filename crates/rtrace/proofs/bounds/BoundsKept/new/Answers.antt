@@ -1,0 +1,8 @@
+use Rattle.std.proofs.Common.{refl, []}
+use Rattle.rforms.specs.WrongBounds.{bounds_said}
+use Rattle.rforms.specs.Waits.{ended_from}
+use Rattle.rtrace.proofs.bounds.BoundsKept.new.Goals as goal
+
+pub returns : goal.returns
+unfolding bounds_said ended_from
+returns c = record { items = []; records = refl; bounds = refl; below = tt; waits = refl; told = (refl, refl) }

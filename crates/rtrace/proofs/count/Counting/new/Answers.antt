@@ -1,0 +1,7 @@
+use Rattle.std.proofs.Common.{refl}
+use Rattle.rforms.specs.WrongBounds.{bounds_said}
+use Rattle.rtrace.proofs.count.Counting.new.Goals as goal
+
+pub returns : goal.returns
+unfolding bounds_said
+returns c = record { knows = c.new.ensures; bounds = c.new-2.ensures; events = refl; waits = refl }

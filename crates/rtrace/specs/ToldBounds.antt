@@ -1,0 +1,49 @@
+-- What a taker of a report keeps of the bounds that it tells, until they can be judged.
+use Rattle.std.specs.Prelude.{◌≡◌, ℕ, ◌+◌, true, false, nat_lt, List, [], ◌++◌, length, Option, Some, None, if◌then◌else◌}
+use Rattle.rexpand.specs.Groups.{ReadGroups}
+use Rattle.rcover.specs.declared.wait_end.WaitEnd.{WaitEnd}
+use Rattle.rwaits.specs.Past.{Past}
+use Rattle.rforms.specs.Heads.{is_nil}
+use Rattle.rforms.specs.Records.{Row}
+use Rattle.rforms.specs.Waits.{all_ended}
+use Rattle.rforms.specs.SoFar.{SoFar, nothing_yet, at_ledgers, head_in, entries_in}
+use Rattle.rforms.specs.Faults.{read_all}
+use Rattle.rforms.specs.WrongBounds.{bounds_said}
+use Rattle.rbound_told.specs.Told.{Told, said, waits_of, AreBefore}
+use Rattle.rbound_told.specs.Knows.{KnowsTold}
+use Rattle.rbound_told.specs.declared.told.ToldBounds.{ToldBounds}
+use Rattle.rtrace.specs.Knows.{Knows, past_in, waits_due}
+use Rattle.rtrace.specs.Takes.{TakesRow, TellsBound}
+use Rattle.rtrace.specs.declared.bounds.BoundsKept.{BoundsKept}
+use Rattle.rtrace.specs.declared.reading.Reading.{Reading}
+use Rattle.rtrace.specs.declared.taken.Taken.{Taken}
+
+-- what judges bounds was told these events, and these bounds of waits that they ended; before the first event there is nothing
+abbrev pub AreTold : Option ToldBounds → Past → List Told → Type 0
+AreTold None p items = (p.events ≡ []) × (items ≡ [])
+AreTold (Some told) p items = (is_nil p.events ≡ false) × KnowsTold told p.groups p.seats p.cap p.events items
+
+-- it was made for so many tasks, if there was none
+abbrev pub IsMade : ℕ → Option ToldBounds → Option ToldBounds → Type 0
+IsMade tasks (Some told) new = new ≡ Some told
+IsMade tasks None None = ⊥
+IsMade tasks None (Some told) = (groups : ReadGroups) (cap : ℕ) → KnowsTold told groups tasks cap [] []
+
+-- the waits that have ended and were not told: those that are due, until the first ledger
+abbrev pub waits_left : SoFar → List WaitEnd
+waits_left s = if nat_lt s.last at_ledgers then waits_due s else []
+
+-- the bounds that these records of a report tell were told, each by its record's number, and of its wait: the waits that the history ended, in their order, but for those that are left
+pub record KnowsBounds (kept : BoundsKept) (rows : List Row) : Type 0 where
+  pub items : List Told
+  pub records : kept.records ≡ length rows
+  pub bounds : bounds_said true 1 nothing_yet rows ≡ said items
+  pub below : AreBefore (length rows + 1) items
+  pub waits : waits_of items ++ waits_left (read_all true rows) ≡ all_ended (head_in (read_all true rows)) (entries_in (read_all true rows))
+  pub told : AreTold kept.told (past_in (read_all true rows)) items
+
+-- a reader took one record more of a report, which told this
+pub record HasRead (old new : Reading) (rows : List Row) (row : Row) (what : Taken) : Type 0 where
+  pub knows : Knows true old (read_all true rows)
+  pub takes : TakesRow old new row what
+  pub tells : TellsBound old row what
