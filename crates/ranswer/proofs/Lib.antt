@@ -4,3 +4,4 @@ pub mod ToolAnswers
 pub mod Streams
 pub mod Runs
 pub mod Watches
+pub mod Promises

@@ -3,10 +3,10 @@ use Rattle.std.proofs.Common.{◌≡◌, ℕ, Bool, true, false, List, Option, S
 use Rattle.csv.specs.Reading.{default_config, strip_bom}
 use Rattle.csv.specs.declared.parser.State.TheVariants as st
 use Rattle.rforms.specs.Records.{Row}
-use Rattle.rforms.specs.Faults.{first_fault}
 use Rattle.rforms.specs.Reports.{Report}
 use Rattle.rforms.specs.Takers.{IsFirstFault}
 use Rattle.rforms.specs.Texts.{IsTextOf}
+use Rattle.rforms.specs.WrongBounds.{first_fault}
 use Rattle.rforms.specs.declared.fault.Code.{Code}
 use Rattle.rforms.specs.declared.fault.Fault.{Fault}
 use Rattle.rforms.proofs.back.Rows.{spelled_clean}

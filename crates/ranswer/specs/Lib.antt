@@ -6,4 +6,5 @@ pub mod Writing
 pub mod Running
 pub mod Answer
 pub mod Receipts
+pub mod Promise
 pub mod Watched

@@ -7,6 +7,7 @@ ghost use Rattle.rreport.specs.Report.{told_by, IsOverResources, HasItsLedgers};
 ghost use Rattle.rwatch.specs.Seen.{Seen};
 ghost use Rattle.ranswer.specs.Words.{run_in};
 ghost use Rattle.ranswer.specs.Answer.{ToolAnswer};
+ghost use Rattle.ranswer.specs.Promise.{KeepsItsPromise};
 ghost use Rattle.ranswer.specs.Receipts.{RunReceipts, Receipts};
 ghost use Rattle.ranswer.specs.Running.{IsRun};
 ghost use Rattle.ranswer.specs.Writing.{IsAnswer, IsWritten};
@@ -30,6 +31,11 @@ use std::thread::Threads;
 /// was written, whole or a front part of it, `receipts` has one more: the receipt of just the history that it tells. With
 /// any other status `receipts` is as it was. Memory may run out at any place that takes it, and all of it is taken before
 /// the first byte is written.
+///
+/// *The headline*: whatever script comes, a run that ends Done has written the text of the one history kept under the protocol
+/// lock: each task's requests in script order, each once; after every event just what the rules grant is held, without
+/// conflict, and something while any request is incomplete; every wait covered within its printed bound; each ledger what its
+/// write sections made of it (`promise`).
 pub fn run_tool<R: Threads + Wait + Sync, S: Source, K: Sink, G: Pace>(
     rt: &R,
     alloc: Global,
@@ -41,6 +47,7 @@ pub fn run_tool<R: Threads + Wait + Sync, S: Source, K: Sink, G: Pace>(
 ) -> ToolStatus
     ensures answer { ToolAnswer S.left S.faults K.written K.faults [] (run_in (map string_bytes words.now)) source.old source.new sink.old sink.new result }
     ensures receipts { Receipts (run_in (map string_bytes words.now)) (S.left source.old) (K.written sink.old) (K.written sink.new) receipts.old.items receipts.new.items result }
+    ensures promise { result ≡ ToolStatus.Done → KeepsItsPromise (S.left source.old) (K.written sink.old) (K.written sink.new) receipts.old.items receipts.new.items }
 {
     told_run(rt, alloc, words, source, sink, pace, receipts, &mut None)
 }

@@ -1,0 +1,59 @@
+-- A run that ends well has kept its promise.
+use Rattle.std.proofs.Common.{◌≡◌, ℕ, Bool, true, false, cond, List, [], ◌∷◌, ◌++◌, Option, Some, None, inl, inr, refl, sym, ap, subst, ◌∙◌}
+use Rattle.std.specs.Prelude.{◌⊎◌, codes}
+use Rattle.std.specs.Str.{bytes_eq}
+use Rattle.rforms.specs.Reports.{Entry}
+use Rattle.rreport.specs.Report.{told_by}
+use Rattle.rscript.specs.Scripts.{IsScript}
+use Rattle.rrun.proofs.Telling.{may_be_written}
+use Rattle.rheadline.proofs.Running.{headline}
+use Rattle.ranswer.specs.Promise.{KeepsItsPromise}
+use Rattle.ranswer.specs.Receipts.{Receipts, RunReceipts}
+use Rattle.ranswer.specs.Words.{run_in}
+use Rattle.ranswer.specs.declared.command.Command.{Command}
+use Rattle.ranswer.specs.declared.command.Command.TheVariants.{Run}
+use Rattle.ranswer.specs.declared.status.ToolStatus.{ToolStatus}
+use Rattle.ranswer.specs.declared.status.ToolStatus.TheVariants as status
+
+-- the report of which there is a receipt keeps the headline
+kept_by : (left written written_after : Option (List ℕ)) (before after : List (List Entry)) → RunReceipts left written written_after before after status.Done
+    → KeepsItsPromise left written written_after before after
+kept_by None written written_after before after more = tt
+kept_by (Some bytes) written written_after before after more =
+    let history = more.2 in
+    let script : IsScript history.script = history.spelled.2.script in
+    record {
+      script = history.script;
+      came = history.spelled;
+      report = told_by history.report;
+      text = history.written;
+      one = more.1 ∙ ap (λ (entries : List Entry). before ++ entries ∷ []) (sym history.kept);
+      headline =
+          headline history.script (told_by history.report) script (may_be_written history.script script history.report history.is) history.is.head.resources (ap (λ g. g.groups) history.is.head.groups)
+          history.is.head.tasks history.is.each;
+    }
+
+-- the words ask for a run, or for nothing that this tool does
+run_or_none : (words : List (List ℕ)) → (run_in words ≡ None) ⊎ (run_in words ≡ Some Run)
+run_or_none [] = inl refl
+run_or_none (word ∷ []) = at (bytes_eq word (codes "run"))
+  where
+    at : (b : Bool) → (cond {A = Option Command} b (Some Run) None ≡ None) ⊎ (cond {A = Option Command} b (Some Run) None ≡ Some Run)
+    at true = inr refl
+    at false = inl refl
+run_or_none (word ∷ next ∷ words) = inl refl
+
+words_or_done : status.Words ≡ status.Done → ⊥
+words_or_done h = cc
+
+-- *A run that ends Done has kept its promise*
+pub promise_kept : (words : List (List ℕ)) (left written written_after : Option (List ℕ)) (before after : List (List Entry)) (answer : ToolStatus)
+    → (run_in words ≡ None → answer ≡ status.Words) → Receipts (run_in words) left written written_after before after answer → answer ≡ status.Done
+    → KeepsItsPromise left written written_after before after
+promise_kept words left written written_after before after answer none receipts done =
+    elim (run_or_none words) [
+      | inl nothing ↦ absurd (words_or_done (sym (none nothing) ∙ done))
+      | inr run ↦
+          kept_by left written written_after before after
+          (subst (λ (a : ToolStatus). RunReceipts left written written_after before after a) done (subst (λ (o : Option Command). Receipts o left written written_after before after answer) run receipts))
+    ]

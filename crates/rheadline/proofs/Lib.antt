@@ -1,0 +1,4 @@
+pub mod Keeping
+pub mod Ledgers
+pub mod OpenRequests
+pub mod Running
