@@ -7,5 +7,7 @@
 mod edge;
 mod explain;
 mod own;
+mod progress;
 
 pub use edge::{answer, run, words_of};
+pub use progress::Progress;

@@ -9,6 +9,7 @@ ghost use Rattle.ranswer.specs.Status.{status_number};
 ghost use Rattle.redge.specs.Program.{RunAnswer};
 
 use io_ends::{Sink, Source, StdinSource, StdoutSink};
+use redge::Progress;
 use rnlp_cli::ToolStatus;
 use rrun::NoPace;
 use rwatch::{Counter, WatchKind, Watcher, Watchers};
@@ -31,9 +32,10 @@ const KINDS: [WatchKind; 7] = [
 ];
 
 fn main(rt: HostRuntime) -> ExitCode {
-    let mut source = StdinSource::new(rt.stdin());
+    let on_terminal = rt.stderr().is_terminal();
+    let mut source = Progress::new(&rt, StdinSource::new(rt.stdin()), on_terminal);
     let mut sink = StdoutSink::new(rt.stdout());
-    match run_watched(&rt, &mut source, &mut sink, rt.stderr().is_terminal()) {
+    match run_watched(&rt, &mut source, &mut sink, on_terminal) {
         Ok(code) => code,
         Err(_) => ExitCode::from(ToolStatus::NoMemory.number()),
     }

@@ -1,0 +1,63 @@
+// A source that tells a person how far it was read.
+ghost use Rattle.std.specs.Prelude.{◌≡◌};
+
+use io_ends::{Failed, Source};
+
+// So many bytes are read from one word to a person to the next: more than any input may have but a long report.
+const STEP: u64 = 1 << 27;
+
+/// A source that gives what another gives, and on a terminal tells a person how many bytes were read: each time that 128 MiB
+/// more were, and at the end of such a long input. A contract sees the other source alone.
+#[derive(Drop)]
+pub struct Progress<'a, R: Eprint, S: Source + Drop> {
+    rt: &'a R,
+    source: S,
+    on_terminal: bool,
+    // How many bytes were read, and of how many a person was told.
+    read: u64,
+    told: u64,
+}
+
+impl<'a, R: Eprint, S: Source + Drop> Progress<'a, R, S> {
+    /// A source of which nothing was read yet.
+    pub fn new(rt: &'a R, source: S, on_terminal: bool) -> Progress<'a, R, S>
+        ensures { result.source ≡ source }
+    {
+        Progress {
+            rt,
+            source,
+            on_terminal,
+            read: 0,
+            told: 0,
+        }
+    }
+
+    // Counts bytes, and tells a person where that is due. That standard error fails changes nothing.
+    fn count(&mut self, bytes: usize)
+        ensures { self.new.source ≡ self.old.source }
+    {
+        self.read = self.read.saturating_add(bytes as u64);
+        let more = self.read.saturating_sub(self.told) >= STEP;
+        let ended = bytes == 0 && self.told > 0;
+        if more || ended {
+            self.told = self.read;
+            let _ = self
+                .rt
+                .eprintln(format_args!("rnlp: {} bytes read", self.read));
+        }
+    }
+}
+
+impl<'a, R: Eprint, S: Source + Drop> Source for Progress<'a, R, S> {
+    ghost left = { λ s. S.left s.source };
+
+    ghost faults = { λ s. S.faults s.source };
+
+    fn read(&mut self, buf: &mut [u8]) -> Result<usize, Failed> {
+        let given = self.source.read(buf)?;
+        if self.on_terminal {
+            self.count(given);
+        }
+        Ok(given)
+    }
+}
