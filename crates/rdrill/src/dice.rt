@@ -5,12 +5,12 @@ ghost use Rattle.rdrill.specs.Draws.{next_draw};
 /// A drawing number. Each draw makes the next one of it.
 #[derive(Clone, Copy)]
 pub struct Dice {
-    pub x: u64,
+    pub x: u32,
 }
 
 impl Dice {
     /// Draws a number below `k`.
-    pub fn draw(&mut self, k: u64) -> u64
+    pub fn draw(&mut self, k: u32) -> u32
         requires small { self.old.x < 65537 }
         requires some { 0 < k }
         ensures dice { self.new.x ≡ next_draw self.old.x }

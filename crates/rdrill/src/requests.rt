@@ -10,7 +10,7 @@ use rset::ResourceSet;
 use std::alloc::{AllocError, Global};
 
 /// The kind of request that a draw of five gives.
-pub fn kind_drawn(n: u64) -> Kind
+pub fn kind_drawn(n: u32) -> Kind
     ensures { result ≡ kind_drawn n }
 {
     match n {

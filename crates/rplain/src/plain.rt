@@ -248,14 +248,14 @@ impl Plain {
         self.halves -= may_rise(&self.claims, seat, place) as usize;
         self.marks[seat as usize] = false;
         let left = take_seat(&mut self.claims, seat, place, self.read);
-        let seen = settle_any(
+        settle_any(
             &mut self.claims,
             &left,
             self.asked,
             &mut self.before,
             &mut self.changes,
+            &mut self.seen,
         );
-        self.seen = seen;
     }
 
     // Takes a rise.
@@ -266,14 +266,14 @@ impl Plain {
     {
         self.halves -= 1;
         let left = take_read_half(&mut self.claims, seat, self.read);
-        let seen = settle(
+        settle(
             &mut self.claims,
             &left,
             self.asked,
             &mut self.before,
             &mut self.changes,
+            &mut self.seen,
         );
-        self.seen = seen;
     }
 
     // Takes an ask. No status changes, so that only what is asked for is looked at.

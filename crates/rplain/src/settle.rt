@@ -17,20 +17,21 @@ use rclaim::Changes;
 use rmodel::Claimed;
 
 /// Settles the claims once, grants what is asked for, and makes the changes those from the claims before. `before` is room,
-/// and `asked` whether anything was ever asked for. It answers what is seen of the claims then.
+/// and `asked` whether anything was ever asked for. `seen` becomes what is seen of the claims then.
 fn settle_once(
     claims: &mut [Claimed],
     left: &Left,
     asked: bool,
     before: &mut Vec<Claimed>,
     changes: &mut Changes,
-) -> Seen
+    seen: &mut Seen,
+)
     requires left { IsLeft claims.old left.now }
     requires asked { asked ≡ false → some_asks claims.old ≡ false }
     requires room { length claims.old ≤ GRANT_ROOM }
     requires before_room { length claims.old ≤ vec_capacity before.old }
     ensures settled { claims.new ≡ given (settled claims.old) }
-    ensures seen { result ≡ seen_of claims.new }
+    ensures seen { seen.new ≡ seen_of claims.new }
     ensures capacity { vec_capacity before.new ≡ vec_capacity before.old }
     ensures statuses { changes.new.statuses ≡ status_changes claims.old claims.new }
     ensures grants { changes.new.grants ≡ grant_changes claims.old claims.new }
@@ -38,39 +39,39 @@ fn settle_once(
     changes.clear();
     if some_asks(claims, asked) {
         copy_into(before, claims);
-        let seen = sweep(claims, left, changes);
+        sweep(claims, left, changes, seen);
         if some_gets(claims) {
             give(claims, changes);
             tell_changes(before, claims, changes);
         }
-        seen
     } else {
-        sweep(claims, left, changes)
+        sweep(claims, left, changes, seen);
     }
 }
 
 /// Settles the claims of a list once, grants what is asked for, and makes the changes those from the list before.
-/// `before` is room, and `asked` whether anything was ever asked for. It answers what is seen of the claims then.
+/// `before` is room, and `asked` whether anything was ever asked for. `seen` becomes what is seen of the claims then.
 pub(crate) fn settle(
     claims: &mut Vec<Claimed>,
     left: &Left,
     asked: bool,
     before: &mut Vec<Claimed>,
     changes: &mut Changes,
-) -> Seen
+    seen: &mut Seen,
+)
     requires left { IsLeft claims.old.items left.now }
     requires asked { asked ≡ false → some_asks claims.old.items ≡ false }
     requires room { length claims.old.items ≤ GRANT_ROOM }
     requires before_room { length claims.old.items ≤ vec_capacity before.old }
     ensures items { claims.new.items ≡ given (settled claims.old.items) }
-    ensures seen { result ≡ seen_of claims.new.items }
+    ensures seen { seen.new ≡ seen_of claims.new.items }
     ensures len { length claims.new.items ≡ length claims.old.items }
     ensures capacity { vec_capacity claims.new ≡ vec_capacity claims.old }
     ensures before_capacity { vec_capacity before.new ≡ vec_capacity before.old }
     ensures statuses { changes.new.statuses ≡ status_changes claims.old.items claims.new.items }
     ensures grants { changes.new.grants ≡ grant_changes claims.old.items claims.new.items }
 {
-    settle_once(claims, left, asked, before, changes)
+    settle_once(claims, left, asked, before, changes, seen);
 }
 
 /// The same of a list that may have no claim: there is nothing to do then.
@@ -80,13 +81,14 @@ pub(crate) fn settle_any(
     asked: bool,
     before: &mut Vec<Claimed>,
     changes: &mut Changes,
-) -> Seen
+    seen: &mut Seen,
+)
     requires left { IsLeft claims.old.items left.now }
     requires asked { asked ≡ false → some_asks claims.old.items ≡ false }
     requires room { length claims.old.items ≤ GRANT_ROOM }
     requires before_room { length claims.old.items ≤ vec_capacity before.old }
     ensures items { claims.new.items ≡ given (settled claims.old.items) }
-    ensures seen { result ≡ seen_of claims.new.items }
+    ensures seen { seen.new ≡ seen_of claims.new.items }
     ensures len { length claims.new.items ≡ length claims.old.items }
     ensures capacity { vec_capacity claims.new ≡ vec_capacity claims.old }
     ensures before_capacity { vec_capacity before.new ≡ vec_capacity before.old }
@@ -95,9 +97,10 @@ pub(crate) fn settle_any(
 {
     if claims.is_empty() {
         changes.clear();
-        return no_seen();
+        *seen = no_seen();
+        return;
     }
-    settle(claims, left, asked, before, changes)
+    settle(claims, left, asked, before, changes, seen);
 }
 
 /// Grants what is asked for in the claims of a list, and makes the changes those from the list before.

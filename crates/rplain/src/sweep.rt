@@ -175,29 +175,19 @@ fn swept_at(claims: &[Claimed], i: usize, left: &Left, seen: &Seen) -> Claimed
     }
 }
 
-/// Settles the claim at a place, which is not seen to stay, tells what changes of it, and answers what is seen of the
-/// claims as far as this one.
+/// Settles the claim at a place, which is not seen to stay, and tells what changes of it.
 #[inline(never)]
-fn sweep_claim(
-    claims: &mut [Claimed],
-    i: usize,
-    left: &Left,
-    seen: Seen,
-    changes: &mut Changes,
-) -> Seen
+fn sweep_claim(claims: &mut [Claimed], i: usize, left: &Left, seen: Seen, changes: &mut Changes)
     requires place { i < length claims.old }
     requires goes { (d : Claimed) → remains left.now seen (slice_index_or claims.old i d) ≡ false }
-    requires read_only { (d : Claimed) → let y = swept left.now seen claims.old (slice_index_or claims.old i d) in y.claim.write_half ≡ false → y.claim.writes ≡ empty }
     requires statuses_room { length changes.old.statuses < STATUS_ROOM }
     requires grants_room { length changes.old.grants < GRANT_ROOM }
     ensures claims { (d : Claimed) → claims.new ≡ slice_set claims.old i (swept left.now seen claims.old (slice_index_or claims.old i d)) }
     ensures changes { (d : Claimed) → let x = slice_index_or claims.old i d in changes.new ≡ with_change changes.old x (swept left.now seen claims.old x) }
-    ensures seen { (d : Claimed) → result ≡ with_seen seen (swept left.now seen claims.old (slice_index_or claims.old i d)) }
 {
     let now = swept_at(claims, i, left, &seen);
     tell_claim(&claims[i], &now, changes);
-    claims[i] = now;
-    with_seen(seen, &now)
+    claims[i].status = now.status;
 }
 
 /// Settles the claim at a place, tells what changes of it, and answers what is seen of the claims as far as this one. Most
@@ -222,7 +212,8 @@ fn sweep_at(
     if remains(left, &seen, x) {
         return with_seen(seen, x);
     }
-    sweep_claim(claims, i, left, seen, changes)
+    sweep_claim(claims, i, left, seen, changes);
+    with_seen(seen, &claims[i])
 }
 
 /// The same of a claim that is a write.
@@ -246,7 +237,8 @@ fn sweep_write_at(
     if write_remains(left, &seen, x) {
         return with_write(seen, x);
     }
-    sweep_claim(claims, i, left, seen, changes)
+    sweep_claim(claims, i, left, seen, changes);
+    with_write(seen, &claims[i])
 }
 
 /// Settles the claims where all are writes, as nobody has read anything.
@@ -285,19 +277,19 @@ fn sweep_all(claims: &mut [Claimed], left: &Left, changes: &mut Changes) -> Seen
     seen
 }
 
-/// Settles the claims that a removal leaves, tells what changes, and answers what is seen of them then.
-pub(crate) fn sweep(claims: &mut [Claimed], left: &Left, changes: &mut Changes) -> Seen
+/// Settles the claims that a removal leaves, tells what changes, and makes `seen` what is seen of them then.
+pub(crate) fn sweep(claims: &mut [Claimed], left: &Left, changes: &mut Changes, seen: &mut Seen)
     requires left { IsLeft claims.old left.now }
     requires room { length claims.old ≤ GRANT_ROOM }
     requires none { changes.old ≡ no_changes }
     ensures claims { claims.new ≡ settled claims.old }
-    ensures seen { result ≡ seen_of claims.new }
+    ensures seen { seen.new ≡ seen_of claims.new }
     ensures statuses { changes.new.statuses ≡ status_changes claims.old claims.new }
     ensures grants { changes.new.grants ≡ grant_changes claims.old claims.new }
 {
-    if left.read.is_empty() {
+    *seen = if left.read.is_empty() {
         sweep_writes(claims, left, changes)
     } else {
         sweep_all(claims, left, changes)
-    }
+    };
 }

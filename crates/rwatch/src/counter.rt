@@ -2,6 +2,7 @@
 ghost use Rattle.std.specs.Prelude.{◌≡◌, None};
 ghost use Rattle.rwatch.specs.Seen.{Seen, told, event_at};
 
+use crate::kinds::count_on;
 use crate::{WatchKind, Watcher};
 use rclaim::{Changes, Event};
 
@@ -37,6 +38,6 @@ impl Watcher for Counter {
     }
 
     fn told(&mut self, event: &Event, changes: &Changes) {
-        self.count = self.kind.count_after(self.count, event, changes);
+        count_on(&mut self.count, self.kind, event, changes);
     }
 }

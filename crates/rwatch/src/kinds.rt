@@ -1,7 +1,9 @@
 // What watchers count.
-ghost use Rattle.std.specs.Prelude.{◌≡◌};
+ghost use Rattle.std.specs.Prelude.{◌≡◌, ◌+◌, true, false, min};
 ghost use Rattle.std.specs.List.{count_by};
-ghost use Rattle.rwatch.specs.Weights.{weight, is_of_events, kind_of, is_status, count_after};
+ghost use Rattle.rclaim.specs.Changes.{ChangeLists};
+ghost use Rattle.rclaim.specs.declared.event.Event.{Event};
+ghost use Rattle.rwatch.specs.Weights.{weight, is_of_events, kind_of, is_status, greatest, count_after};
 
 use rclaim::{Changes, Event, Status, StatusChange};
 
@@ -30,8 +32,25 @@ impl WatchKind {
         ensures { result ≡ weight self event.now changes.now }
     {
         if self.is_of_events() {
-            return u64::from(self == kind_of(event));
+            self.weight_of_event(event)
+        } else {
+            self.weight_of_changes(changes)
         }
+    }
+
+    // How much an event weighs for a kind that counts events.
+    fn weight_of_event(self, event: &Event) -> u64
+        requires { is_of_events self ≡ true }
+        ensures { (changes : ChangeLists) → result ≡ weight self event.now changes }
+    {
+        u64::from(self == kind_of(event))
+    }
+
+    // How much changes weigh for a kind that counts changes.
+    fn weight_of_changes(self, changes: &Changes) -> u64
+        requires { is_of_events self ≡ false }
+        ensures { (event : Event) → result ≡ weight self event changes.now }
+    {
         match self {
             WatchKind::Entitled => count_of(&changes.statuses, false),
             WatchKind::Satisfied => count_of(&changes.statuses, true),
@@ -54,6 +73,28 @@ impl WatchKind {
         ensures { result ≡ count_after self count event.now changes.now }
     {
         count.saturating_add(self.weight(event, changes))
+    }
+}
+
+// Counts a step on. To most kinds most steps weigh nothing, so the two sorts of kinds go their ways apart.
+pub fn count_on(count: &mut u64, kind: WatchKind, event: &Event, changes: &Changes)
+    ensures { count.new ≡ count_after kind count.old event.now changes.now }
+{
+    if kind.is_of_events() {
+        add(count, kind.weight_of_event(event));
+    } else {
+        add(count, kind.weight_of_changes(changes));
+    }
+}
+
+// Adds a weight to a count, which ends at the greatest value. Nothing is written where there is none.
+#[inline]
+fn add(count: &mut u64, weight: u64)
+    ensures { count.new ≡ min (count.old + weight) greatest }
+{
+    let so_far = *count;
+    if weight > 0 {
+        *count = so_far.saturating_add(weight);
     }
 }
 

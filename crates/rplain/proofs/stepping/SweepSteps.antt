@@ -39,6 +39,15 @@ pub stays_swept : (left : Left) (seen : Seen) (xs : List Claimed) (x : Claimed) 
 unfolding swept
 stays_swept left seen xs x stays = ap (λ b. cond b x (with_status x (swept_status left seen xs x))) stays
 
+-- the pass changes nothing but the status
+pub status_swept : (left : Left) (seen : Seen) (xs : List Claimed) (x : Claimed) → with_status x (swept left seen xs x).status ≡ swept left seen xs x
+unfolding swept
+status_swept left seen xs x = at (remains left seen x)
+  where
+    at : (b : Bool) → let y = cond b x (with_status x (swept_status left seen xs x)) in with_status x y.status ≡ y
+    at true = refl
+    at false = refl
+
 -- a claim after the pass is the same claim
 pub swept_same : (left : Left) (seen : Seen) (xs : List Claimed) (x : Claimed) → (swept left seen xs x).claim ≡ x.claim
 unfolding swept

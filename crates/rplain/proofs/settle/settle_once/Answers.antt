@@ -15,18 +15,18 @@ use Rattle.rplain.proofs.settle.settle_once.Goals as goal
 pub tell_changes-requires-clause-same : goal.tell_changes-requires-clause-same
 tell_changes-requires-clause-same c =
     let xs = c.args.claims.now in
-    subst (λ (p : List Claimed × List Claimed). AllZip SameClaim p.0 p.1) (λ k. (sym (c.deref.ensures.value ∙ c.copy_into.ensures.items) k, sym (c.give.ensures.claims ∙ ap given c.sweep-seen.ensures.claims) k))
+    subst (λ (p : List Claimed × List Claimed). AllZip SameClaim p.0 p.1) (λ k. (sym (c.deref.ensures.value ∙ c.copy_into.ensures.items) k, sym (c.give.ensures.claims ∙ ap given c.sweep.ensures.claims) k))
     (same_given xs (settled xs) (same_claims xs (settled xs) (settles_settled xs c.requires.left.well_formed)))
 
 pub returns-else-some_asks-clause-settled : goal.returns-else-some_asks-clause-settled
 returns-else-some_asks-clause-settled c =
     let xs = c.args.claims.now in
-    c.sweep.ensures.claims ∙ sym (given_none (settled xs) (settled_asks xs c.requires.left.well_formed ∙ sym c.some_asks.ensures ∙ c.if-some_asks.false))
+    c.sweep-else-some_asks.ensures.claims ∙ sym (given_none (settled xs) (settled_asks xs c.requires.left.well_formed ∙ sym c.some_asks.ensures ∙ c.if-some_asks.false))
 
 pub returns-then-some_gets-clause-seen : goal.returns-then-some_gets-clause-seen
-returns-then-some_gets-clause-seen c = c.sweep-seen.ensures.seen ∙ seen_standing c.sweep-seen.new.claims _ (given_standing c.sweep-seen.new.claims) ∙ ap seen_of (sym c.give.ensures.claims)
+returns-then-some_gets-clause-seen c = c.sweep.ensures.seen ∙ seen_standing c.sweep.new.claims _ (given_standing c.sweep.new.claims) ∙ ap seen_of (sym c.give.ensures.claims)
 
 pub returns-else-some_gets-clause-settled : goal.returns-else-some_gets-clause-settled
 returns-else-some_gets-clause-settled c =
-    c.sweep-seen.ensures.claims
-    ∙ sym (given_unless (settled c.args.claims.now) (ap (λ xs. list_any (gets xs) xs) (sym c.sweep-seen.ensures.claims) ∙ sym c.some_gets.ensures ∙ c.if-some_gets.false))
+    c.sweep.ensures.claims
+    ∙ sym (given_unless (settled c.args.claims.now) (ap (λ xs. list_any (gets xs) xs) (sym c.sweep.ensures.claims) ∙ sym c.some_gets.ensures ∙ c.if-some_gets.false))

@@ -1,6 +1,6 @@
 use Rattle.std.proofs.Common.{◌≡◌, ℕ, ◌<◌, List, length, true, get_or, sym, ap, ◌∙◌}
 use Rattle.std.proofs.Math.ListN.{set}
-use Rattle.std.proofs.lemmas.List.{set-get_or, get_or_default}
+use Rattle.std.proofs.lemmas.List.{set-get_or, get_or-set_same, get_or_default}
 use Rattle.rmodel.proofs.ListFacts.{contrary}
 use Rattle.rmodel.specs.declared.claimed.Claimed.{Claimed}
 use Rattle.rmodel.specs.Changes.{with_change}
@@ -28,10 +28,14 @@ sweep_claim-requires-clause-goes c = λ d.
     write_stays c.args.left.now c.args.seen (get_or xs c.args.i d) (c.requires.write d)
     ∙ ap (write_remains c.args.left.now c.args.seen) (sym (get_or_default xs c.args.i e d c.requires.place)) ∙ sym c.if-write_remains.ensures
 
-pub sweep_claim-requires-clause-read_only : goal.sweep_claim-requires-clause-read_only
-sweep_claim-requires-clause-read_only c = λ d reads.
+pub with_write-requires-2 : goal.with_write-requires-2
+with_write-requires-2 c =
     let xs = c.args.claims.now in
-    contrary _ (ap (λ k. k.write_half) (swept_same c.args.left.now c.args.seen xs (get_or xs c.args.i d)) ∙ c.requires.write d) reads
+    let i = c.args.i in
+    let e = c.index-claims-i-2.result in
+    ap (λ (zs : List Claimed). (get_or zs i e).claim.write_half) (c.sweep_claim.ensures.claims e)
+    ∙ ap (λ (z : Claimed). z.claim.write_half) (get_or-set_same xs i _ e c.requires.place)
+    ∙ ap (λ k. k.write_half) (swept_same c.args.left.now c.args.seen xs (get_or xs i e)) ∙ c.requires.write e
 
 pub returns-then-write_remains-clause-claims : goal.returns-then-write_remains-clause-claims
 returns-then-write_remains-clause-claims c = λ d.

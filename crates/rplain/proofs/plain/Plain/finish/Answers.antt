@@ -30,8 +30,8 @@ overflow_sub-self c =
     let gone = finished_halves c.args.seat a.claims.items c.self.invariant.reached.sound.one_each in
     subst (λ (n : ℕ). n ≤ a.halves) (sym (as_number c.may_rise.result ∙ ap (λ b. cond b 1 0) (c.may_rise.ensures ∙ ap (λ (xs : List Claimed). may_rise xs c.args.seat) c.deref.ensures.value))) (omega (arith, were, gone))
 
-pub settle_any-seen-requires-clause-left : goal.settle_any-seen-requires-clause-left
-settle_any-seen-requires-clause-left c =
+pub settle_any-requires-clause-left : goal.settle_any-requires-clause-left
+settle_any-requires-clause-left c =
     let a = c.self.inside in
     let e = Finish c.args.seat in
     let comes = kept_comes a c.args.self.now e c.self.view_is c.requires.fits c.requires.accepted tt in
@@ -41,13 +41,13 @@ settle_any-seen-requires-clause-left c =
 pub take_seat-left-requires-clause-distinct : goal.take_seat-left-requires-clause-distinct
 take_seat-left-requires-clause-distinct c = c.self.invariant.reached.sound.one_each
 
-pub settle_any-seen-requires-clause-asked : goal.settle_any-seen-requires-clause-asked
-settle_any-seen-requires-clause-asked c = λ unasked.
+pub settle_any-requires-clause-asked : goal.settle_any-requires-clause-asked
+settle_any-requires-clause-asked c = λ unasked.
     let xs = c.self.inside.claims.items in
     ap some_asks c.take_seat-left.ensures.items ∙ unasked_left (λ x. not (is_of c.args.seat x)) xs (c.self.invariant.unasked unasked)
 
-pub settle_any-seen-requires-clause-room : goal.settle_any-seen-requires-clause-room
-settle_any-seen-requires-clause-room c =
+pub settle_any-requires-clause-room : goal.settle_any-requires-clause-room
+settle_any-requires-clause-room c =
     let a = c.self.inside in
     let e = Finish c.args.seat in
     let comes = kept_comes a c.args.self.now e c.self.view_is c.requires.fits c.requires.accepted tt in
@@ -56,8 +56,8 @@ settle_any-seen-requires-clause-room c =
     let seats = c.self.invariant.seats in
     omega arith
 
-pub settle_any-seen-requires-clause-before_room : goal.settle_any-seen-requires-clause-before_room
-settle_any-seen-requires-clause-before_room c =
+pub settle_any-requires-clause-before_room : goal.settle_any-requires-clause-before_room
+settle_any-requires-clause-before_room c =
     let a = c.self.inside in
     let e = Finish c.args.seat in
     let comes = kept_comes a c.args.self.now e c.self.view_is c.requires.fits c.requires.accepted tt in
@@ -73,27 +73,27 @@ invariant_of-self c =
     let e = Finish c.args.seat in
     let comes = kept_comes a c.args.self.now e c.self.view_is c.requires.fits c.requires.accepted tt in
     record {
-      reached = subst (λ (xs : List Claimed). IsReached (record (state_of a) { claims = xs })) (sym (c.settle_any-seen.ensures.items ∙ ap (λ xs. given (settled xs)) c.take_seat-left.ensures.items))
+      reached = subst (λ (xs : List Claimed). IsReached (record (state_of a) { claims = xs })) (sym (c.settle_any.ensures.items ∙ ap (λ xs. given (settled xs)) c.take_seat-left.ensures.items))
           (reached_next (state_of a) e c.self.invariant.reached comes);
-      seen = c.settle_any-seen.ensures.seen;
-      marks = subst (λ (xs : List Claimed). AreMarked (set a.marks c.args.seat false) xs) (sym (c.settle_any-seen.ensures.items ∙ ap (λ xs. given (settled xs)) c.take_seat-left.ensures.items))
+      seen = c.settle_any.ensures.seen;
+      marks = subst (λ (xs : List Claimed). AreMarked (set a.marks c.args.seat false) xs) (sym (c.settle_any.ensures.items ∙ ap (λ xs. given (settled xs)) c.take_seat-left.ensures.items))
           (marked_next (state_of a) e c.self.invariant.reached.sound comes (set a.marks c.args.seat false) (finished_marked a.marks a.claims.items c.args.seat c.self.invariant.marks));
       halves =
           let gone = finished_halves c.args.seat a.claims.items c.self.invariant.reached.sound.one_each in
           let next = halves_next (state_of a) e c.self.invariant.reached.sound comes in
-          let are = ap (count_by (λ x. is_read_half x.claim)) (c.settle_any-seen.ensures.items ∙ ap (λ xs. given (settled xs)) c.take_seat-left.ensures.items) in
+          let are = ap (count_by (λ x. is_read_half x.claim)) (c.settle_any.ensures.items ∙ ap (λ xs. given (settled xs)) c.take_seat-left.ensures.items) in
           (λ i. c.self.invariant.halves i - (as_number c.may_rise.result ∙ ap (λ b. cond b 1 0) (c.may_rise.ensures ∙ ap (λ (xs : List Claimed). may_rise xs c.args.seat) c.deref.ensures.value)) i) ∙ omega (arith, gone, next, are);
       some_cap = c.self.invariant.some_cap;
-      within = subst (λ (xs : List Claimed). AreReadWithin a.read xs) (sym (c.settle_any-seen.ensures.items ∙ ap (λ xs. given (settled xs)) c.take_seat-left.ensures.items))
+      within = subst (λ (xs : List Claimed). AreReadWithin a.read xs) (sym (c.settle_any.ensures.items ∙ ap (λ xs. given (settled xs)) c.take_seat-left.ensures.items))
           (within_next (state_of a) e c.self.invariant.reached.sound comes a.read (all_filter _ (λ x. not (is_of c.args.seat x)) a.claims.items c.self.invariant.within));
       unasked = λ unasked.
-          ap (λ xs. some_asks xs) (c.settle_any-seen.ensures.items ∙ ap (λ xs. given (settled xs)) c.take_seat-left.ensures.items)
+          ap (λ xs. some_asks xs) (c.settle_any.ensures.items ∙ ap (λ xs. given (settled xs)) c.take_seat-left.ensures.items)
           ∙ unasked_next (state_of a) e c.self.invariant.reached.sound comes (unasked_left (λ x. not (is_of c.args.seat x)) a.claims.items (c.self.invariant.unasked unasked));
       cap = c.self.invariant.cap;
       some_seats = c.self.invariant.some_seats;
       seats = c.self.invariant.seats;
-      claims_room = c.settle_any-seen.ensures.capacity ∙ c.take_seat-left.ensures.capacity ∙ c.self.invariant.claims_room;
-      before_room = c.settle_any-seen.ensures.before_capacity ∙ c.self.invariant.before_room;
+      claims_room = c.settle_any.ensures.capacity ∙ c.take_seat-left.ensures.capacity ∙ c.self.invariant.claims_room;
+      before_room = c.settle_any.ensures.before_capacity ∙ c.self.invariant.before_room;
     }
 
 pub returns : goal.returns
@@ -103,6 +103,6 @@ returns c =
     let comes = kept_comes a c.args.self.now e c.self.view_is c.requires.fits c.requires.accepted tt in
     let items = c.take_seat-left.ensures.items in
     taken a c.args.self.now e _ c.self.view_is c.self.invariant comes
-    (ap (λ (ys : List Claimed). let s : LockState = record (state_of a) { claims = ys } in s) (c.settle_any-seen.ensures.items ∙ ap (λ xs. given (settled xs)) items))
-    (c.settle_any-seen.ensures.statuses ∙ ap (λ ys. status_changes ys c.settle_any-seen.new.claims.items) items)
-    (c.settle_any-seen.ensures.grants ∙ ap (λ ys. grant_changes ys c.settle_any-seen.new.claims.items) items)
+    (ap (λ (ys : List Claimed). let s : LockState = record (state_of a) { claims = ys } in s) (c.settle_any.ensures.items ∙ ap (λ xs. given (settled xs)) items))
+    (c.settle_any.ensures.statuses ∙ ap (λ ys. status_changes ys c.settle_any.new.claims.items) items)
+    (c.settle_any.ensures.grants ∙ ap (λ ys. grant_changes ys c.settle_any.new.claims.items) items)

@@ -29,21 +29,21 @@ overflow_sub-self c =
     let gone = risen_halves c.args.seat a.claims.items c.self.invariant.reached.sound.one_each (rises (state_of a) c.args.seat comes.accepted) in
     omega (arith, were, gone)
 
-pub settle-seen-requires-clause-left : goal.settle-seen-requires-clause-left
-settle-seen-requires-clause-left c =
+pub settle-requires-clause-left : goal.settle-requires-clause-left
+settle-requires-clause-left c =
     let a = c.self.inside in
     let e = Rise c.args.seat in
     let comes = kept_comes a c.args.self.now e c.self.view_is c.requires.fits c.requires.accepted tt in
     subst (λ (p : List Claimed × Left). IsLeft p.0 p.1) (λ k. (sym c.take_read_half-left.ensures.items k, sym c.take_read_half-left.ensures.left k))
     (is_left_by (state_of a) e (is_read_of c.args.seat) a.read c.self.invariant.reached c.self.invariant.within comes refl)
 
-pub settle-seen-requires-clause-asked : goal.settle-seen-requires-clause-asked
-settle-seen-requires-clause-asked c = λ unasked.
+pub settle-requires-clause-asked : goal.settle-requires-clause-asked
+settle-requires-clause-asked c = λ unasked.
     let xs = c.self.inside.claims.items in
     ap some_asks c.take_read_half-left.ensures.items ∙ unasked_left (λ x. not (is_read_of c.args.seat x)) xs (c.self.invariant.unasked unasked)
 
-pub settle-seen-requires-clause-room : goal.settle-seen-requires-clause-room
-settle-seen-requires-clause-room c =
+pub settle-requires-clause-room : goal.settle-requires-clause-room
+settle-requires-clause-room c =
     let a = c.self.inside in
     let e = Rise c.args.seat in
     let comes = kept_comes a c.args.self.now e c.self.view_is c.requires.fits c.requires.accepted tt in
@@ -52,8 +52,8 @@ settle-seen-requires-clause-room c =
     let seats = c.self.invariant.seats in
     omega arith
 
-pub settle-seen-requires-clause-before_room : goal.settle-seen-requires-clause-before_room
-settle-seen-requires-clause-before_room c =
+pub settle-requires-clause-before_room : goal.settle-requires-clause-before_room
+settle-requires-clause-before_room c =
     let a = c.self.inside in
     let e = Rise c.args.seat in
     let comes = kept_comes a c.args.self.now e c.self.view_is c.requires.fits c.requires.accepted tt in
@@ -69,28 +69,28 @@ invariant_of-self c =
     let e = Rise c.args.seat in
     let comes = kept_comes a c.args.self.now e c.self.view_is c.requires.fits c.requires.accepted tt in
     record {
-      reached = subst (λ (xs : List Claimed). IsReached (record (state_of a) { claims = xs })) (sym (c.settle-seen.ensures.items ∙ ap (λ xs. given (settled xs)) c.take_read_half-left.ensures.items))
+      reached = subst (λ (xs : List Claimed). IsReached (record (state_of a) { claims = xs })) (sym (c.settle.ensures.items ∙ ap (λ xs. given (settled xs)) c.take_read_half-left.ensures.items))
           (reached_next (state_of a) e c.self.invariant.reached comes);
-      seen = c.settle-seen.ensures.seen;
-      marks = subst (λ (xs : List Claimed). AreMarked (a.marks) xs) (sym (c.settle-seen.ensures.items ∙ ap (λ xs. given (settled xs)) c.take_read_half-left.ensures.items))
+      seen = c.settle.ensures.seen;
+      marks = subst (λ (xs : List Claimed). AreMarked (a.marks) xs) (sym (c.settle.ensures.items ∙ ap (λ xs. given (settled xs)) c.take_read_half-left.ensures.items))
           (marked_next (state_of a) e c.self.invariant.reached.sound comes (a.marks) (all_filter (λ x. get_or a.marks x.claim.seat false ≡ true) (λ x. not (is_read_of c.args.seat x)) a.claims.items c.self.invariant.marks));
       halves =
           let were = c.self.invariant.halves in
           let gone = risen_halves c.args.seat a.claims.items c.self.invariant.reached.sound.one_each (rises (state_of a) c.args.seat comes.accepted) in
           let next = halves_next (state_of a) e c.self.invariant.reached.sound comes in
-          let are = ap (count_by (λ x. is_read_half x.claim)) (c.settle-seen.ensures.items ∙ ap (λ xs. given (settled xs)) c.take_read_half-left.ensures.items) in
+          let are = ap (count_by (λ x. is_read_half x.claim)) (c.settle.ensures.items ∙ ap (λ xs. given (settled xs)) c.take_read_half-left.ensures.items) in
           omega arith;
       some_cap = c.self.invariant.some_cap;
-      within = subst (λ (xs : List Claimed). AreReadWithin a.read xs) (sym (c.settle-seen.ensures.items ∙ ap (λ xs. given (settled xs)) c.take_read_half-left.ensures.items))
+      within = subst (λ (xs : List Claimed). AreReadWithin a.read xs) (sym (c.settle.ensures.items ∙ ap (λ xs. given (settled xs)) c.take_read_half-left.ensures.items))
           (within_next (state_of a) e c.self.invariant.reached.sound comes a.read (all_filter _ (λ x. not (is_read_of c.args.seat x)) a.claims.items c.self.invariant.within));
       unasked = λ unasked.
-          ap (λ xs. some_asks xs) (c.settle-seen.ensures.items ∙ ap (λ xs. given (settled xs)) c.take_read_half-left.ensures.items)
+          ap (λ xs. some_asks xs) (c.settle.ensures.items ∙ ap (λ xs. given (settled xs)) c.take_read_half-left.ensures.items)
           ∙ unasked_next (state_of a) e c.self.invariant.reached.sound comes (unasked_left (λ x. not (is_read_of c.args.seat x)) a.claims.items (c.self.invariant.unasked unasked));
       cap = c.self.invariant.cap;
       some_seats = c.self.invariant.some_seats;
       seats = c.self.invariant.seats;
-      claims_room = c.settle-seen.ensures.capacity ∙ c.take_read_half-left.ensures.capacity ∙ c.self.invariant.claims_room;
-      before_room = c.settle-seen.ensures.before_capacity ∙ c.self.invariant.before_room;
+      claims_room = c.settle.ensures.capacity ∙ c.take_read_half-left.ensures.capacity ∙ c.self.invariant.claims_room;
+      before_room = c.settle.ensures.before_capacity ∙ c.self.invariant.before_room;
     }
 
 pub returns : goal.returns
@@ -100,6 +100,6 @@ returns c =
     let comes = kept_comes a c.args.self.now e c.self.view_is c.requires.fits c.requires.accepted tt in
     let items = c.take_read_half-left.ensures.items in
     taken a c.args.self.now e _ c.self.view_is c.self.invariant comes
-    (ap (λ (ys : List Claimed). let s : LockState = record (state_of a) { claims = ys } in s) (c.settle-seen.ensures.items ∙ ap (λ xs. given (settled xs)) items))
-    (c.settle-seen.ensures.statuses ∙ ap (λ ys. status_changes ys c.settle-seen.new.claims.items) items)
-    (c.settle-seen.ensures.grants ∙ ap (λ ys. grant_changes ys c.settle-seen.new.claims.items) items)
+    (ap (λ (ys : List Claimed). let s : LockState = record (state_of a) { claims = ys } in s) (c.settle.ensures.items ∙ ap (λ xs. given (settled xs)) items))
+    (c.settle.ensures.statuses ∙ ap (λ ys. status_changes ys c.settle.new.claims.items) items)
+    (c.settle.ensures.grants ∙ ap (λ ys. grant_changes ys c.settle.new.claims.items) items)
