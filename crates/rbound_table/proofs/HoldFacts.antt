@@ -1,5 +1,5 @@
 -- Which claims can hold up a write of a resource by another task.
-use Rattle.std.proofs.Common.{◌≡◌, ◌≢◌, ◌<◌, ◌&&◌, ◌||◌, ◌==◌, ◌⊎◌, not, ℕ, Bool, true, false, cond, List, [], ◌∷◌, get_or, None, IsTrue, refl, sym, ap, subst, ◌∙◌, inl, inr, arith}
+use Rattle.std.proofs.Common.{◌≡◌, ◌≢◌, ◌<◌, ◌&&◌, ◌||◌, ◌==◌, ◌⊎◌, not, ℕ, Bool, true, false, cond, List, [], ◌∷◌, map, get_or, None, IsTrue, refl, sym, ap, subst, ◌∙◌, inl, inr, arith}
 use Rattle.std.specs.List.{list_any, range_with_len, AllByRecursion}
 use Rattle.std.specs.FinSet.{empty, union, contains}
 use Rattle.std.proofs.lemmas.Bool.{eq-eqb, eqb-true, and_parts, and_from, or_left, or_right, or_cases}
@@ -22,13 +22,15 @@ use Rattle.rbound.proofs.BesideFacts.{beside_same, beside_longest, beside_all, r
 use Rattle.rbound_table.specs.Tables.{key_of, is_under, together, cell_at}
 use Rattle.rbound_table.specs.AllTables.{AreTables}
 use Rattle.rbound_table.specs.Two.{no_length, only, two_at}
-use Rattle.rbound_table.specs.Delays.{readers_at, readers_of, held}
+use Rattle.rbound_table.specs.Leaders.{leaders_at, led_beside}
+use Rattle.rbound_table.specs.Delays.{all_leaders, readers_of, held}
 use Rattle.rbound_table.specs.declared.table.Cell.{Cell}
 use Rattle.rbound_table.specs.declared.table.Key.TheVariants.{Reads, Writes, Halves}
 use Rattle.rbound_table.specs.declared.tables.Tables.{Tables}
 use Rattle.rbound_table.specs.declared.two.TwoLongest.{TwoLongest}
 use Rattle.rbound_table.proofs.QueryFacts.{among_any, any_and, meets_rising}
-use Rattle.rbound_table.proofs.TwoFacts.{IsFair, only_fair, two_beside_at, two_beside_fair, joined_at}
+use Rattle.rbound_table.proofs.TwoFacts.{IsFair, only_fair, joined_at}
+use Rattle.rbound_table.proofs.LeaderFacts.{led_beside_at, led_beside_fair}
 
 -- a set meets what some claims have together where it meets the key of one
 meets_together : (s : Set) (key : Needed → Set) (p : Needed → Bool) (ns : List Needed) → meets s (together key p ns) ≡ list_any (λ v. p v && meets s (key v)) ns
@@ -50,6 +52,10 @@ together_below key p (n ∷ ns) all = at (p n) (together_below key p ns all.1)
 
 pub no_member : (s : Set) (l : ℕ) (P : Type 0) → s ≡ empty → contains s l ≡ true → P
 no_member s l P none has = contrary true refl (sym has ∙ ap (λ t. contains t l) none ∙ contains_empty l)
+
+map_map : {X Y : Type 0} (g : X → Y) (f : ℕ → X) (ks : List ℕ) → map g (map f ks) ≡ map (λ k. g (f k)) ks
+map_map g f [] = refl
+map_map g f (k ∷ ks) = ap (λ ys. g (f k) ∷ ys) (map_map g f ks)
 
 -- ---- tests
 
@@ -156,22 +162,24 @@ module _ (ns : List Needed) (tasks : ℕ) (are : AreSound ns tasks) where
 
   module _ (tables : Tables) (ts : AreTables ns tasks tables) where
     -- what other tasks than the writer read
-    reader_is : (s m me : ℕ) → m < RESOURCES → two_at (readers_at tables.reads.items tasks s m) me ≡ longest (λ n. not (n.claim.seat == me) && (not (n.claim.seat == s) && contains n.claim.reads m)) ns
+    reader_is : (s m me : ℕ) → m < RESOURCES → two_at (led_beside (leaders_at tables.reads.items tasks m) s) me ≡ longest (λ n. not (n.claim.seat == me) && (not (n.claim.seat == s) && contains n.claim.reads m)) ns
     reader_is s m me within =
-        two_beside_at tasks s me (λ t. (cell_at tables.reads.items t m).longest)
+        led_beside_at tasks s me (λ t. (cell_at tables.reads.items t m).longest)
         ∙ beside_all ns tasks are.seats me (λ t. cond (t == s) None (cell_at tables.reads.items t m).longest) (λ n. not (n.claim.seat == s) && contains n.claim.reads m)
         (λ t some.
         ap (λ (c : Cell). cond (t == s) None c.longest) (ts.reads.has t m some within)
         ∙ unless (t == s) (is_under (key_of Reads) t m) ns
         ∙ longest_same (λ n. not (t == s) && is_under (key_of Reads) t m n) (λ n. (n.claim.seat == t) && (not (n.claim.seat == s) && contains n.claim.reads m)) ns (λ n there. seated n.claim.seat t s (contains n.claim.reads m)))
 
-    nth_reader : (s m : ℕ) → m < RESOURCES → get_or (readers_of tables.reads.items tasks s) m no_length ≡ readers_at tables.reads.items tasks s m
-    nth_reader s m within = get_or-map-range_with_len (readers_at tables.reads.items tasks s) 0 RESOURCES m m no_length within (omega arith)
+    nth_reader : (s m : ℕ) → m < RESOURCES → get_or (readers_of (all_leaders tables.reads.items tasks) s) m no_length ≡ led_beside (leaders_at tables.reads.items tasks m) s
+    nth_reader s m within =
+        ap (λ row. get_or row m no_length) (map_map (λ l. led_beside l s) (leaders_at tables.reads.items tasks) (range_with_len 0 RESOURCES))
+        ∙ get_or-map-range_with_len (λ k. led_beside (leaders_at tables.reads.items tasks k) s) 0 RESOURCES m m no_length within (omega arith)
 
     readers_are : (s me : ℕ) (b : Set) → all_below RESOURCES b ≡ true
-        → longest_of (λ m. two_at (get_or (readers_of tables.reads.items tasks s) m no_length) me) (rising b) ≡ longest (λ n. not (n.claim.seat == me) && (not (n.claim.seat == s) && meets n.claim.reads b)) ns
+        → longest_of (λ m. two_at (get_or (readers_of (all_leaders tables.reads.items tasks) s) m no_length) me) (rising b) ≡ longest (λ n. not (n.claim.seat == me) && (not (n.claim.seat == s) && meets n.claim.reads b)) ns
     readers_are s me b below =
-        longest_of_same (λ m. two_at (get_or (readers_of tables.reads.items tasks s) m no_length) me) (λ m. longest (λ n. not (n.claim.seat == me) && (not (n.claim.seat == s) && contains n.claim.reads m)) ns) (rising b)
+        longest_of_same (λ m. two_at (get_or (readers_of (all_leaders tables.reads.items tasks) s) m no_length) me) (λ m. longest (λ n. not (n.claim.seat == me) && (not (n.claim.seat == s) && contains n.claim.reads m)) ns) (rising b)
         (λ m there. let small = rising_below b m (among_any (rising b) m there) in ap (λ two. two_at two me) (nth_reader s m small) ∙ reader_is s m me small)
         ∙ sym (longest_any (λ m n. not (n.claim.seat == me) && (not (n.claim.seat == s) && contains n.claim.reads m)) (rising b) ns)
         ∙ longest_same (λ n. list_any (λ m. not (n.claim.seat == me) && (not (n.claim.seat == s) && contains n.claim.reads m)) (rising b)) (λ n. not (n.claim.seat == me) && (not (n.claim.seat == s) && meets n.claim.reads b)) ns
@@ -181,7 +189,7 @@ module _ (ns : List Needed) (tasks : ℕ) (are : AreSound ns tasks) where
 
     held_is : (l s me : ℕ) → l < RESOURCES → s < tasks → two_at (held tables tasks s l) me ≡ longest (λ n. not (n.claim.seat == me) && list_any (holds l s n) ns) ns
     held_is l s me within writer =
-        let readers = readers_of tables.reads.items tasks s in
+        let readers = readers_of (all_leaders tables.reads.items tasks) s in
         let half = (cell_at tables.halves.items s l).longest in
         let b = (cell_at tables.writes.items s l).beside in
         let w = together (key_of Writes) (is_under (key_of Writes) s l) ns in
@@ -190,7 +198,7 @@ module _ (ns : List Needed) (tasks : ℕ) (are : AreSound ns tasks) where
         let own : two_at (only s half) me ≡ longest (λ n. not (s == me) && is_under (key_of Halves) s l n) ns =
         ap (λ (c : Cell). cond (s == me) None c.longest) (ts.halves.has s l writer within) ∙ unless (s == me) (is_under (key_of Halves) s l) ns in
         joined_at (λ m. get_or readers m no_length) me (rising b) (only s half) (only_fair s half)
-        (λ m there. subst (λ (two : TwoLongest). IsFair two) (sym (nth_reader s m (rising_below b m (among_any (rising b) m there)))) (two_beside_fair tasks s (λ t. (cell_at tables.reads.items t m).longest)))
+        (λ m there. subst (λ (two : TwoLongest). IsFair two) (sym (nth_reader s m (rising_below b m (among_any (rising b) m there)))) (led_beside_fair tasks s (λ t. (cell_at tables.reads.items t m).longest)))
         ∙ (λ i. longer (own i) ((readers_are s me b below ∙ ap (λ z. longest (λ n. not (n.claim.seat == me) && (not (n.claim.seat == s) && meets n.claim.reads z)) ns) written) i))
         ∙ sym (longest_or (λ n. not (s == me) && is_under (key_of Halves) s l n) (λ n. not (n.claim.seat == me) && (not (n.claim.seat == s) && meets n.claim.reads w)) ns)
         ∙ longest_same (λ n. (not (s == me) && is_under (key_of Halves) s l n) || (not (n.claim.seat == me) && (not (n.claim.seat == s) && meets n.claim.reads w))) (λ n. not (n.claim.seat == me) && list_any (holds l s n) ns) ns

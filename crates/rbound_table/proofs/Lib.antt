@@ -1,4 +1,6 @@
 pub mod TwoFacts
+pub mod TopFacts
+pub mod LeaderFacts
 pub mod RowFacts
 pub mod TableFacts
 pub mod QueryFacts
@@ -8,3 +10,4 @@ pub mod PlaceZoneFacts
 pub mod ZoneFacts
 pub mod AnswerFacts
 pub mod BoundFacts
+pub mod TotalFacts

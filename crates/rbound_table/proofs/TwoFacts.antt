@@ -1,5 +1,5 @@
 -- The two longest tell the longest of all tasks but any one.
-use Rattle.std.proofs.Common.{◌≡◌, ◌<◌, ◌≤◌, ◌==◌, ℕ, Bool, true, false, cond, List, [], ◌∷◌, fold, max, Option, Some, None, refl, sym, ap, ◌∙◌, inl, inr, arith}
+use Rattle.std.proofs.Common.{◌≡◌, ◌<◌, ◌≤◌, ◌==◌, ℕ, Bool, true, false, cond, List, [], ◌∷◌, fold, max, Option, Some, None, refl, sym, ap, ◌∙◌, ◌⊎◌, inl, inr, arith}
 use Rattle.std.specs.List.{range_with_len}
 use Rattle.std.proofs.lemmas.Bool.{ltb-true, ltb-false}
 use Rattle.std.proofs.lemmas.Bool.Decides.{eqb_tells}
@@ -7,8 +7,7 @@ use Rattle.rmodel.specs.WellFormed.{Among}
 use Rattle.rbound.specs.Longest.{longer, longest_of}
 use Rattle.rbound.specs.ZoneRows.{beside}
 use Rattle.rbound.proofs.LongestClaims.{longer_none, longer_assoc}
-use Rattle.rbound_table.specs.Two.{only, no_length, two_at, is_longer, led_by, both}
-use Rattle.rbound_table.specs.Delays.{two_beside}
+use Rattle.rbound_table.specs.Two.{only, no_length, two_at, is_longer, led_by, both, two_of, two_beside}
 use Rattle.rbound_table.specs.declared.two.TwoLongest.{TwoLongest}
 
 absorbs : (a b : Option ℕ) → is_longer a b ≡ true → longer a b ≡ a
@@ -21,11 +20,11 @@ absorbed None b h = longer_none b
 absorbed (Some a) None h = absurd cc
 absorbed (Some a) (Some b) h = let least : a ≤ b = ltb-false b a h in let same : max b a ≡ b = omega arith in ap (λ x. Some x) same
 
-itself : (a : Option ℕ) → longer a a ≡ a
+pub itself : (a : Option ℕ) → longer a a ≡ a
 itself None = refl
 itself (Some a) = let same : max a a ≡ a = omega arith in ap (λ x. Some x) same
 
-swapped : (a b : Option ℕ) → longer a b ≡ longer b a
+pub swapped : (a b : Option ℕ) → longer a b ≡ longer b a
 swapped None b = sym (longer_none b)
 swapped (Some a) None = refl
 swapped (Some a) (Some b) = let same : max a b ≡ max b a = omega arith in ap (λ x. Some x) same
@@ -78,6 +77,13 @@ both_fair a b first second = at (is_longer b.longest a.longest) refl
     at true h = led_fair b a second first (absorbs b.longest a.longest h)
     at false h = led_fair a b first second (absorbed b.longest a.longest h)
 
+both_longest : (a b : TwoLongest) → (both a b).longest ≡ longer a.longest b.longest
+both_longest a b = at (is_longer b.longest a.longest) refl
+  where
+    at : (c : Bool) → is_longer b.longest a.longest ≡ c → (cond c (led_by b a) (led_by a b)).longest ≡ longer a.longest b.longest
+    at true h = sym (absorbs b.longest a.longest h) ∙ swapped b.longest a.longest
+    at false h = sym (absorbed b.longest a.longest h)
+
 -- ---- of all tasks but one
 
 none_more : (c : Bool) (m : Option ℕ) → m ≡ cond c m (longer m None)
@@ -124,6 +130,46 @@ two_beside_at tasks writer me f =
 
 pub two_beside_fair : (tasks writer : ℕ) (f : ℕ → Option ℕ) → IsFair (two_beside tasks writer f)
 two_beside_fair tasks writer f = (twos_from writer 0 f (range_with_len 0 tasks) no_length refl).0
+
+-- ---- of all tasks
+
+all_from : (me : ℕ) (f : ℕ → Option ℕ) (ks : List ℕ) (two : TwoLongest) → IsFair two
+    → two_at (fold (λ two t. both two (only t (f t))) two ks) me ≡ fold (λ most t. cond (t == me) most (longer most (f t))) (two_at two me) ks
+all_from me f [] two fair = refl
+all_from me f (k ∷ ks) two fair =
+    all_from me f ks (both two (only k (f k))) (both_fair two (only k (f k)) fair (only_fair k (f k)))
+    ∙ ap (λ m. fold (λ most t. cond (t == me) most (longer most (f t))) m ks)
+    (both_at two (only k (f k)) me fair (only_fair k (f k)) ∙ not_mine (k == me) (two_at two me) (f k))
+
+-- *The two longest of all tasks* tell the longest of all but one
+pub two_of_at : (tasks me : ℕ) (f : ℕ → Option ℕ) → two_at (two_of tasks f) me ≡ beside tasks me f
+two_of_at tasks me f =
+    all_from me f (range_with_len 0 tasks) no_length refl
+    ∙ ap (λ m. fold (λ most t. cond (t == me) most (longer most (f t))) m (range_with_len 0 tasks)) (either (0 == me) None)
+
+-- their longest is the longest of all
+longest_from : (f : ℕ → Option ℕ) (ks : List ℕ) (two : TwoLongest) → (fold (λ two t. both two (only t (f t))) two ks).longest ≡ longer two.longest (longest_of f ks)
+longest_from f [] two = sym (longer_none two.longest)
+longest_from f (k ∷ ks) two =
+    longest_from f ks (both two (only k (f k))) ∙ ap (λ x. longer x (longest_of f ks)) (both_longest two (only k (f k))) ∙ longer_assoc two.longest (f k) (longest_of f ks)
+
+pub longest_is_of_all : (tasks : ℕ) (f : ℕ → Option ℕ) → (two_of tasks f).longest ≡ longest_of f (range_with_len 0 tasks)
+longest_is_of_all tasks f = longest_from f (range_with_len 0 tasks) no_length
+
+-- and it is that of its task, where there is one
+abbrev pub Leads : (ℕ → Option ℕ) → List ℕ → TwoLongest → Type 0
+Leads f all two = (two.longest ≡ None) ⊎ (Among two.task all × (f two.task ≡ two.longest))
+
+leads_from : (f : ℕ → Option ℕ) (all ks : List ℕ) (two : TwoLongest) → ((k : ℕ) → Among k ks → Among k all) → Leads f all two → Leads f all (fold (λ two t. both two (only t (f t))) two ks)
+leads_from f all [] two within leads = leads
+leads_from f all (k ∷ ks) two within leads = leads_from f all ks (both two (only k (f k))) (λ m there. within m (inr there)) (at (is_longer (f k) two.longest))
+  where
+    at : (c : Bool) → Leads f all (cond c (led_by (only k (f k)) two) (led_by two (only k (f k))))
+    at true = inr (within k (inl refl), refl)
+    at false = leads
+
+pub two_of_leads : (tasks : ℕ) (f : ℕ → Option ℕ) → Leads f (range_with_len 0 tasks) (two_of tasks f)
+two_of_leads tasks f = leads_from f (range_with_len 0 tasks) (range_with_len 0 tasks) no_length (λ k there. there) (inl refl)
 
 -- ---- of many
 

@@ -1,26 +1,25 @@
 -- Of each resource and each task, the longest claim of another task that can hold up a write of the resource by a further one.
-use Rattle.std.specs.Prelude.{◌==◌, ℕ, List, [], map, fold, slice_index_or, Option, if◌then◌else◌}
+use Rattle.std.specs.Prelude.{ℕ, List, [], map, fold, slice_index_or, Option, None}
 use Rattle.std.specs.List.{range_with_len}
 use Rattle.rset.specs.Sets.{rising}
 use Rattle.rset.specs.declared.TheConstants.{RESOURCES}
+use Rattle.rbound.specs.Longest.{longer}
 use Rattle.rbound.specs.ZoneRows.{beside}
 use Rattle.rbound_table.specs.Tables.{cell_at}
 use Rattle.rbound_table.specs.Two.{no_length, only, two_at, both}
+use Rattle.rbound_table.specs.Leaders.{leaders_at, led_beside}
 use Rattle.rbound_table.specs.declared.table.Cell.{Cell}
 use Rattle.rbound_table.specs.declared.tables.Tables.{Tables}
 use Rattle.rbound_table.specs.declared.two.TwoLongest.{TwoLongest}
+use Rattle.rbound_table.specs.declared.leaders.Leaders.{Leaders}
 
--- the two longest of these lengths, of all tasks but one
-abbrev pub two_beside : ℕ → ℕ → (ℕ → Option ℕ) → TwoLongest
-two_beside tasks writer f = fold (λ two t. if t == writer then two else both two (only t (f t))) no_length (range_with_len 0 tasks)
+-- of each resource the tasks of which a table has the longest
+abbrev pub all_leaders : List Cell → ℕ → List Leaders
+all_leaders cells tasks = map (leaders_at cells tasks) (range_with_len 0 RESOURCES)
 
--- the two longest that a table has at a resource, of other tasks than the writer
-abbrev pub readers_at : List Cell → ℕ → ℕ → ℕ → TwoLongest
-readers_at cells tasks writer m = two_beside tasks writer (λ t. (cell_at cells t m).longest)
-
--- at each resource
-abbrev pub readers_of : List Cell → ℕ → ℕ → List TwoLongest
-readers_of cells tasks writer = map (readers_at cells tasks writer) (range_with_len 0 RESOURCES)
+-- by these, the two longest of other tasks than the writer, of each resource
+abbrev pub readers_of : List Leaders → ℕ → List TwoLongest
+readers_of leaders writer = map (λ l. led_beside l writer) leaders
 
 -- by these, the two longest that can hold up what the writer writes with a resource: the read halves of its own upgrades, and what others read of
 -- all that it writes with the resource
@@ -29,7 +28,7 @@ held_by tables readers writer l =
     fold (λ two m. both two (slice_index_or readers m no_length)) (only writer (cell_at tables.halves.items writer l).longest) (rising (cell_at tables.writes.items writer l).beside)
 
 abbrev pub held : Tables → ℕ → ℕ → ℕ → TwoLongest
-held tables tasks writer l = held_by tables (readers_of tables.reads.items tasks writer) writer l
+held tables tasks writer l = held_by tables (readers_of (all_leaders tables.reads.items tasks) writer) writer l
 
 -- of each writer, at each resource
 abbrev pub holders_in : Tables → ℕ → List (List TwoLongest)
@@ -42,6 +41,10 @@ holders_at rows writer l = slice_index_or (slice_index_or rows writer []) l no_l
 -- the longest of other tasks that can hold up a write of another task
 abbrev pub delay_at : List (List TwoLongest) → ℕ → ℕ → ℕ → Option ℕ
 delay_at rows tasks l me = beside tasks me (λ writer. two_at (holders_at rows writer l) me)
+
+-- the longest of all that can hold up a write of the resource
+abbrev pub top_at : List (List TwoLongest) → ℕ → ℕ → Option ℕ
+top_at rows tasks l = fold (λ most writer. longer most (longer (holders_at rows writer l).longest (holders_at rows writer l).next)) None (range_with_len 0 tasks)
 
 -- at each resource, for each task
 abbrev pub delays_in : Tables → ℕ → List (List (Option ℕ))

@@ -8,7 +8,9 @@ use Rattle.rset.specs.declared.TheConstants.{RESOURCES}
 use Rattle.rbound.specs.Longest.{longer}
 use Rattle.rbound.specs.ZoneRows.{beside, row_at}
 use Rattle.rbound_table.specs.Tables.{cell_at}
+use Rattle.rbound_table.specs.Two.{two_of}
 use Rattle.rbound_table.specs.declared.table.Cell.{Cell}
+use Rattle.rbound_table.specs.declared.two.TwoLongest.{TwoLongest}
 
 -- rows as they are kept
 abbrev pub rows_in : {X : Type 0} → List (Vec X Global) → List (List X)
@@ -17,6 +19,10 @@ rows_in rows = map (λ v. v.items) rows
 -- the longest that a table has at a resource of other tasks than one
 abbrev pub others_at : List Cell → ℕ → ℕ → ℕ → Option ℕ
 others_at cells tasks l me = beside tasks me (λ t. (cell_at cells t l).longest)
+
+-- the two longest that it has at a resource
+abbrev pub two_longest_at : List Cell → ℕ → ℕ → TwoLongest
+two_longest_at cells tasks l = two_of tasks (λ t. (cell_at cells t l).longest)
 
 -- at each resource, for each task
 abbrev pub others_in : List Cell → ℕ → List (List (Option ℕ))

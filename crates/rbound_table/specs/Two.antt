@@ -1,5 +1,6 @@
 -- The two longest of some lengths of tasks, which tell the longest of all tasks but any one.
-use Rattle.std.specs.Prelude.{◌==◌, ℕ, Bool, true, false, nat_lt, Option, Some, None, if◌then◌else◌}
+use Rattle.std.specs.Prelude.{◌==◌, ℕ, Bool, true, false, nat_lt, fold, Option, Some, None, if◌then◌else◌}
+use Rattle.std.specs.List.{range_with_len}
 use Rattle.rbound.specs.Longest.{longer}
 use Rattle.rbound_table.specs.declared.two.TwoLongest.{TwoLongest}
 
@@ -28,3 +29,11 @@ led_by a b = record { task = a.task; longest = a.longest; next = longer a.next (
 -- of both: led by the one with the longest
 abbrev pub both : TwoLongest → TwoLongest → TwoLongest
 both a b = if is_longer b.longest a.longest then led_by b a else led_by a b
+
+-- the two longest of these lengths, of all tasks
+abbrev pub two_of : ℕ → (ℕ → Option ℕ) → TwoLongest
+two_of tasks f = fold (λ two t. both two (only t (f t))) no_length (range_with_len 0 tasks)
+
+-- of all tasks but one
+abbrev pub two_beside : ℕ → ℕ → (ℕ → Option ℕ) → TwoLongest
+two_beside tasks but f = fold (λ two t. if t == but then two else both two (only t (f t))) no_length (range_with_len 0 tasks)

@@ -13,8 +13,9 @@ use crate::lengths::longest_over;
 use crate::other_lengths::{OtherLengths, other_lengths_of};
 use crate::rows::rows_of;
 use crate::tables::{Tables, tables_of};
+use crate::totals::{bound_by, totals_of};
 use crate::zones::zones_of;
-use rbound::{Bound, Needed, Needs, ZoneRows, write_bound};
+use rbound::{Bound, Needed, Needs, ZoneRows};
 use rclaim::Claim;
 use rset::{RESOURCES, ResourceSet};
 use std::alloc::{AllocError, Global};
@@ -40,9 +41,10 @@ fn write_bounds(
     requires { 1 ≤ cap }
     ensures { IfOk result (λ bounds. map numbers_in bounds.items ≡ map (numbers_of rows.now tasks cap) (range_with_len 0 tasks)) }
 {
+    let totals = totals_of(rows, tasks);
     let mut bounds = Vec::new(alloc);
     for task in 0..tasks {
-        bounds.push(write_bound(alloc, rows, tasks, cap, task)?)?;
+        bounds.push(bound_by(alloc, rows, &totals, tasks, cap, task)?)?;
     }
     Ok(bounds)
 }

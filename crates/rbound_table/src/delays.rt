@@ -1,13 +1,12 @@
 // Of each resource and each task, the longest claim of another task that can hold up a write of the resource by a further one.
-ghost use Rattle.std.specs.Prelude.{◌≡◌, IfOk, map, slice_index_or};
+ghost use Rattle.std.specs.Prelude.{◌≡◌, ◌<◌, IfOk, IfSome, map, slice_index_or};
 ghost use Rattle.std.specs.List.{range_with_len};
 ghost use Rattle.rset.specs.declared.TheConstants.{RESOURCES};
-ghost use Rattle.rbound.specs.ZoneRows.{beside};
-ghost use Rattle.rbound_table.specs.Tables.{cell_at};
-ghost use Rattle.rbound_table.specs.Two.{no_length, two_at};
+ghost use Rattle.rbound_table.specs.Two.{no_length};
 ghost use Rattle.rbound_table.specs.Lengths.{rows_in};
-ghost use Rattle.rbound_table.specs.Delays.{readers_at, readers_of, held_by, held, holders_in, holders_at, delay_at, delays_in};
+ghost use Rattle.rbound_table.specs.Delays.{all_leaders, readers_of, held_by, held, holders_in, holders_at, delay_at, top_at, delays_in};
 
+use crate::leaders::{Leaders, leaders_at, led_beside};
 use crate::table::{Cell, cell_at};
 use crate::tables::Tables;
 use crate::two::{TwoLongest, both, no_length, only, two_at};
@@ -15,30 +14,22 @@ use rbound::longer;
 use rset::RESOURCES;
 use std::alloc::{AllocError, Global};
 
-/// The two longest that a table has at a resource, of other tasks than the writer.
-fn readers_at(cells: &[Cell], tasks: u8, writer: u8, m: u8) -> TwoLongest
-    ensures { result ≡ readers_at cells.now tasks writer m }
-{
-    (0..tasks).fold(no_length(), |two, task| {
-        if task == writer {
-            two
-        } else {
-            both(two, only(task, cell_at(cells, task, m).longest))
-        }
-    })
-}
-
-/// The same at each resource.
-fn readers_of(
-    alloc: Global,
-    cells: &[Cell],
-    tasks: u8,
-    writer: u8,
-) -> Result<Vec<TwoLongest>, AllocError>
-    ensures { IfOk result (λ row. row.items ≡ readers_of cells.now tasks writer) }
+/// Of each resource the tasks that read it longest.
+fn all_leaders(alloc: Global, cells: &[Cell], tasks: u8) -> Result<Vec<Leaders>, AllocError>
+    ensures { IfOk result (λ all. all.items ≡ all_leaders cells.now tasks) }
 {
     (0..RESOURCES as u8)
-        .map(|m| readers_at(cells, tasks, writer, m))
+        .map(|m| leaders_at(cells, tasks, m))
+        .collect(alloc)
+}
+
+/// The two longest that other tasks than the writer read, of each resource.
+fn readers_of(alloc: Global, leaders: &[Leaders], writer: u8) -> Result<Vec<TwoLongest>, AllocError>
+    ensures { IfOk result (λ row. row.items ≡ readers_of leaders.now writer) }
+{
+    leaders
+        .iter()
+        .map(|all| led_beside(*all, writer))
         .collect(alloc)
 }
 
@@ -80,9 +71,10 @@ fn held_row(
 fn holders_of(alloc: Global, tables: &Tables, tasks: u8) -> Result<Vec<Vec<TwoLongest>>, AllocError>
     ensures { IfOk result (λ rows. rows_in rows.items ≡ holders_in tables.now tasks) }
 {
+    let leaders = all_leaders(alloc, &tables.reads, tasks)?;
     let mut rows = Vec::new(alloc);
     for writer in 0..tasks {
-        let readers = readers_of(alloc, &tables.reads, tasks, writer)?;
+        let readers = readers_of(alloc, &leaders, writer)?;
         rows.push(held_row(alloc, tables, &readers, writer)?)?;
     }
     Ok(rows)
@@ -113,6 +105,42 @@ fn delay_at(rows: &[Vec<TwoLongest>], tasks: u8, l: u8, me: u8) -> Option<u32>
     })
 }
 
+/// The longest claim of all that can hold up a write of the resource.
+fn top_at(rows: &[Vec<TwoLongest>], tasks: u8, l: u8) -> Option<u32>
+    ensures { result ≡ top_at (rows_in rows.now) tasks l }
+{
+    (0..tasks).fold(None, |most, writer| {
+        let two = holders_at(rows, writer, l);
+        longer(most, longer(two.longest, two.next))
+    })
+}
+
+/// A writer whose writes of the resource a claim of this length can hold up, where there is one.
+fn writer_held(rows: &[Vec<TwoLongest>], tasks: u8, l: u8, top: Option<u32>) -> Option<u8>
+    ensures { IfSome result (λ writer. writer < tasks) }
+{
+    (0..tasks).find(|writer| holders_at(rows, *writer, l).longest == top)
+}
+
+/// What `delay_at` finds: the longest of all, where it is of another task and holds up a further one.
+fn delay_by(
+    rows: &[Vec<TwoLongest>],
+    tasks: u8,
+    l: u8,
+    me: u8,
+    top: Option<u32>,
+    writer: Option<u8>,
+) -> Option<u32>
+    requires top { top ≡ top_at (rows_in rows.now) tasks l }
+    requires writer { IfSome writer (λ w. w < tasks) }
+    ensures { result ≡ delay_at (rows_in rows.now) tasks l me }
+{
+    match writer {
+        Some(w) if w != me && two_at(holders_at(rows, w, l), me) == top => top,
+        _ => delay_at(rows, tasks, l, me),
+    }
+}
+
 /// The same for each task.
 fn delay_row(
     alloc: Global,
@@ -122,8 +150,10 @@ fn delay_row(
 ) -> Result<Vec<Option<u32>>, AllocError>
     ensures { IfOk result (λ row. row.items ≡ map (delay_at (rows_in rows.now) tasks l) (range_with_len 0 tasks)) }
 {
+    let top = top_at(rows, tasks, l);
+    let writer = writer_held(rows, tasks, l, top);
     (0..tasks)
-        .map(|me| delay_at(rows, tasks, l, me))
+        .map(|me| delay_by(rows, tasks, l, me, top, writer))
         .collect(alloc)
 }
 

@@ -3,26 +3,32 @@ ghost use Rattle.std.specs.Prelude.{◌≡◌, IfOk, IsTrue, map};
 ghost use Rattle.std.specs.List.{range_with_len};
 ghost use Rattle.rset.specs.Sets.{all_below};
 ghost use Rattle.rset.specs.declared.TheConstants.{RESOURCES};
-ghost use Rattle.rbound.specs.ZoneRows.{beside, row_at};
+ghost use Rattle.rbound.specs.ZoneRows.{row_at};
 ghost use Rattle.rbound_table.specs.Tables.{cell_at};
-ghost use Rattle.rbound_table.specs.Lengths.{rows_in, others_at, others_in, length_at, longest_over};
+ghost use Rattle.rbound_table.specs.Lengths.{rows_in, two_longest_at, others_at, others_in, length_at, longest_over};
 
 use crate::table::{Cell, cell_at};
+use crate::two::{TwoLongest, both, no_length, only, two_at};
 use rbound::longer;
 use rset::{RESOURCES, ResourceSet};
 use std::alloc::{AllocError, Global};
 
-/// The longest that a table has at a resource of other tasks than this one.
-fn longest_beside(cells: &[Cell], tasks: u8, l: u8, me: u8) -> Option<u32>
-    ensures { result ≡ beside tasks me (λ t. (cell_at cells.now t l).longest) }
+/// The two longest that a table has at a resource.
+pub(crate) fn two_longest_at(cells: &[Cell], tasks: u8, l: u8) -> TwoLongest
+    ensures { result ≡ two_longest_at cells.now tasks l }
 {
-    (0..tasks).fold(None, |most, task| {
-        if task == me {
-            most
-        } else {
-            longer(most, cell_at(cells, task, l).longest)
-        }
+    (0..tasks).fold(no_length(), |two, task| {
+        both(two, only(task, cell_at(cells, task, l).longest))
     })
+}
+
+/// The longest that a table has at a resource of other tasks than one, by the two longest there.
+#[tactic(auto, using(crate::proofs::TwoFacts::two_of_at))]
+fn others_at(cells: &[Cell], tasks: u8, l: u8, me: u8, two: TwoLongest) -> Option<u32>
+    requires { two ≡ two_longest_at cells.now tasks l }
+    ensures { result ≡ others_at cells.now tasks l me }
+{
+    two_at(two, me)
 }
 
 /// The same for each task.
@@ -34,8 +40,9 @@ fn others_row(
 ) -> Result<Vec<Option<u32>>, AllocError>
     ensures { IfOk result (λ row. row.items ≡ map (others_at cells.now tasks l) (range_with_len 0 tasks)) }
 {
+    let two = two_longest_at(cells, tasks, l);
     (0..tasks)
-        .map(|me| longest_beside(cells, tasks, l, me))
+        .map(|me| others_at(cells, tasks, l, me, two))
         .collect(alloc)
 }
 
@@ -67,7 +74,7 @@ fn length_at(rows: &[Vec<Option<u32>>], l: u8, me: u8) -> Option<u32>
 }
 
 /// The length for a task.
-fn nth_length(row: &[Option<u32>], me: u8) -> Option<u32>
+pub(crate) fn nth_length(row: &[Option<u32>], me: u8) -> Option<u32>
     ensures { result ≡ row_at row.now me }
 {
     match row.get(usize::from(me)) {

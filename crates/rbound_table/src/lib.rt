@@ -4,11 +4,13 @@
 mod answers;
 mod bounds;
 mod delays;
+mod leaders;
 mod lengths;
 mod other_lengths;
 mod rows;
 mod table;
 mod tables;
+mod totals;
 mod two;
 mod zones;
 

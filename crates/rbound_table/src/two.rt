@@ -7,9 +7,9 @@ use rbound::longer;
 /// The longest length, a task that has it, and the longest of all other tasks.
 #[derive(Clone, Copy)]
 pub(crate) struct TwoLongest {
-    task: u8,
-    longest: Option<u32>,
-    next: Option<u32>,
+    pub(crate) task: u8,
+    pub(crate) longest: Option<u32>,
+    pub(crate) next: Option<u32>,
 }
 
 /// Those of no task.

@@ -96,6 +96,10 @@ impl ToldBounds {
         requires told { (seats : ℕ) × (events : List Event) × (items : List Told) × KnowsTold self.now groups seats cap events items }
         ensures { IfOk result (λ first. (seats : ℕ) (events : List Event) (items : List Told) → KnowsTold self.now groups seats cap events items → first ≡ first_other (said items) (map (bound_by groups seats cap events) (waits_of items))) }
     {
+        // Where no bound was told, none is looked up, and no table of them is made.
+        if self.kept.is_empty() {
+            return Ok(None);
+        }
         let bounds = self.needs.bounds(alloc, groups, cap)?;
         Ok(self.first_by(&bounds))
     }
