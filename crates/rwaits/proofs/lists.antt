@@ -1,2 +1,3 @@
 -- What is kept, as lists.
 pub mod Kept
+pub mod Seats

@@ -9,3 +9,8 @@ pub mod Quiet
 pub mod Heads
 pub mod Stood
 pub mod Grants
+pub mod Turns
+pub mod Leasts
+pub mod Reached
+pub mod Lost
+pub mod Undue

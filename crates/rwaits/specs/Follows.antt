@@ -16,7 +16,7 @@ use Rattle.rwaits.specs.Waiting.{HoldWaiting, HoldRising, ends_none}
 
 -- a follower has its room
 pub record HaveRoom (a : Following) : Type 0 where
-  pub last : vec_capacity a.last ≡ 2 * SEATS
+  pub last : 2 * SEATS ≤ vec_capacity a.last
   pub seats : length a.runs.items ≡ SEATS
   pub runs : AllByRecursion HasRoom a.runs.items
   pub scratch : HasRoom a.scratch

@@ -1,5 +1,5 @@
 -- The least claims of lines, kept from event to event.
-use Rattle.std.specs.Prelude.{◌≡◌, ◌≤◌, ◌<◌, ◌*◌, true, length, vec_capacity}
+use Rattle.std.specs.Prelude.{◌≡◌, ◌≤◌, ◌<◌, ◌*◌, true, length}
 use Rattle.std.specs.List.{AllByRecursion}
 use Rattle.rset.specs.declared.TheConstants.{SEATS}
 use Rattle.rmodel.specs.WellFormed.{EachPair, Rises, Distinct}
@@ -10,12 +10,12 @@ use Rattle.rwaits.specs.Lines.{IsTold}
 -- heads have a place for each seat
 pub record HasPlaces (h : Heads) : Type 0 where
   pub now : length h.now.items ≡ SEATS
-  pub next : length h.next.items ≡ SEATS
-  pub classes : vec_capacity h.classes ≡ 2 * SEATS
+  pub last : length h.last.items ≡ SEATS
+  pub behind : length h.behind.items ≡ SEATS
 
 -- if they are told, they are those of the claims at a moment
 abbrev pub TellsNow : Heads → Moment → Type 0
-TellsNow h m = h.told ≡ true → IsTold h.now.items h.classes.items m
+TellsNow h m = h.told ≡ true → IsTold h.now.items h.behind.items m
 
 -- claims are such as those of a state
 pub record IsMoment (m : Moment) : Type 0 where

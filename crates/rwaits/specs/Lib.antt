@@ -2,6 +2,7 @@ pub mod Last
 pub mod Shown
 pub mod Tracked
 pub mod Follow
+pub mod Found
 pub mod Lines
 pub mod Heads
 pub mod Past

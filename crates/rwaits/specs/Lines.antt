@@ -1,67 +1,141 @@
--- The least claims of lines, found from the front in one pass.
-use Rattle.std.specs.Prelude.{◌≡◌, true, ◌==◌, ℕ, Option, Some, None, List, [], ◌∷◌, fold, slice_get, unwrap_or, if◌then◌else◌}
-use Rattle.std.specs.List.{AllByRecursion}
-use Rattle.std.specs.FinSet.{union}
+-- The heads of writes: the least claims of their lines.
+use Rattle.std.specs.Prelude.{◌≡◌, true, false, ◌&&◌, ◌||◌, ◌==◌, ◌≢◌, ◌<◌, nat_lt, ℕ, Bool, Option, Some, List, slice_get, unwrap_or, if◌then◌else◌}
+use Rattle.std.specs.List.{list_any, AllByRecursion}
+use Rattle.std.specs.FinSet.{contains, empty, is_subset}
 use Rattle.rset.specs.Sets.{Set, meets}
+use Rattle.rset.specs.declared.TheConstants.{SEATS}
 use Rattle.rclaim.specs.declared.claim.Claim.{Claim}
+use Rattle.rclaim.specs.declared.event.Event.{Event}
+use Rattle.rclaim.specs.declared.event.Event.TheVariants as event
+use Rattle.rbound.specs.declared.which.Which.{Which}
+use Rattle.rbound.specs.declared.which.Which.TheVariants.{First, Rise, Ask}
 use Rattle.rmodel.specs.declared.claimed.Claimed.{Claimed}
 use Rattle.rmodel.specs.Claims.{is_satisfied}
-use Rattle.rbound.specs.declared.which.Which.{Which}
-use Rattle.rcover.specs.Ended.{waits_in}
 use Rattle.rcover.specs.Line.{least_of}
 use Rattle.rcover.specs.Moments.{Moment, holds_at}
-use Rattle.rcover.specs.Told.{stands}
+use Rattle.rwaits.specs.declared.lines.Found.{Found}
 use Rattle.rwaits.specs.declared.lines.Head.{Head}
-use Rattle.rwaits.specs.declared.lines.Class.{Class}
+use Rattle.rclaim.specs.declared.changes.StatusChange.{StatusChange}
+use Rattle.rwaits.specs.Past.{rises_at}
+use Rattle.rwaits.specs.Quiet.{tells_write_of}
+use Rattle.rwaits.specs.Tracked.{keeper_at}
+
+-- an event takes the claims of a seat away
+abbrev pub takes_seat : Event → ℕ → Bool
+takes_seat (event.Issue t r) seat = false
+takes_seat (event.Finish t) seat = t == seat
+takes_seat (event.Rise t) seat = false
+takes_seat (event.Ask t part) seat = false
+
+-- the head of a write: the least in its line, and whether that is satisfied
+abbrev pub head_of : Moment → Claim → Head
+head_of m c = record { claim = least_of c m; holds = holds_at (least_of c m) m }
+
+-- what is told of a wait goes by the head of its claim: of a write
+abbrev pub needs_head : Which → Claimed → Bool
+needs_head First x = x.claim.write_half
+needs_head Rise x = true
+needs_head (Ask number) x = false
 
 -- a claim as the least of its line
 abbrev pub own_head : Claimed → Head
 own_head x = record { claim = x.claim; holds = is_satisfied x }
 
--- the places from which a least claim is reached, once a write behind is one of its lines
-abbrev pub widened : Class → Claimed → Class
-widened k x = record { head = k.head; places = union k.places x.claim.places }
+-- what is found of a line, with a claim in place of the least so far if its stamp is smaller, and with these places left
+abbrev pub lowered : Found → Claim → Set → Found
+lowered f d left = if nat_lt d.stamp f.stamp then record { seat = d.seat; stamp = d.stamp; left = left } else record { seat = f.seat; stamp = f.stamp; left = left }
 
--- classes stand by the stamp of their least claim. A write joins the first whose places it shares, or makes one of its own
-abbrev pub joined : List Class → Claimed → List Class
-joined [] x = record { head = own_head x; places = x.claim.places } ∷ []
-joined (k ∷ ks) x = if meets k.places x.claim.places then widened k x ∷ ks else k ∷ joined ks x
+-- heads for each seat tell those of the writes among some claims, at a moment
+abbrev pub TellAt : List Head → Moment → List Claimed → Type 0
+TellAt hs m zs = AllByRecursion (λ z. z.claim.write_half ≡ true → slice_get hs z.claim.seat ≡ Some (head_of m z.claim)) zs
 
--- the least claim that is reached from some places
-abbrev pub low_in : List Class → Set → Option Head
-low_in [] places = None
-low_in (k ∷ ks) places = if meets k.places places then Some k.head else low_in ks places
-
--- the least in the line of a write behind these
-abbrev pub head_in : List Class → Claimed → Head
-head_in ks x = unwrap_or (low_in ks x.claim.places) (own_head x)
-
-abbrev pub with_write : List Class → Claimed → List Class
-with_write ks x = if x.claim.write_half then joined ks x else ks
-
--- the classes of the writes among some claims
-abbrev pub classes_of : Moment → List Class
-classes_of m = fold with_write [] m
-
--- the least in the line of a claim, and whether it is satisfied
-abbrev pub head_of : Moment → Claim → Head
-head_of m c = record { claim = least_of c m; holds = holds_at (least_of c m) m }
-
--- heads for each seat tell those of each write at a moment
+-- and those of all writes at a moment
 abbrev pub TellHeads : List Head → Moment → Type 0
-TellHeads hs m = AllByRecursion (λ x. x.claim.write_half ≡ true → slice_get hs x.claim.seat ≡ Some (head_of m x.claim)) m
+TellHeads hs m = TellAt hs m m
 
--- heads for each seat, and classes, are those of the writes at a moment
-pub record IsTold (hs : List Head) (ks : List Class) (m : Moment) : Type 0 where
+-- the set that is kept for a seat
+abbrev pub set_at : List Set → ℕ → Set
+set_at ss seat = unwrap_or (slice_get ss seat) empty
+
+-- the seat of a write is in the set of the seat of its least claim
+abbrev pub IsBehind : List Set → Moment → Claimed → Type 0
+IsBehind ss m z = contains (set_at ss (least_of z.claim m).seat) z.claim.seat ≡ true
+
+-- so are the seats of these writes: sets by the seats of least claims, with others in them maybe
+abbrev pub HoldBehind : List Set → Moment → List Claimed → Type 0
+HoldBehind ss m zs = AllByRecursion (λ z. z.claim.write_half ≡ true → IsBehind ss m z) zs
+
+-- heads for each seat, and the sets, are those of the writes at a moment
+pub record IsTold (hs : List Head) (ss : List Set) (m : Moment) : Type 0 where
   pub heads : TellHeads hs m
-  pub classes : ks ≡ classes_of m
+  pub behind : HoldBehind ss m m
 
--- a head for the seat of a write, and else those that there were
-abbrev pub heads_with : List Head → List Class → Claimed → ℕ → Option Head
-heads_with hs ks x seat = if x.claim.write_half then (if seat == x.claim.seat then Some (head_in ks x) else slice_get hs seat) else slice_get hs seat
+-- sets have no fewer members than others
+abbrev pub HoldMore : List Set → List Set → Type 0
+HoldMore ss ss' = (least seat : ℕ) → contains (set_at ss least) seat ≡ true → contains (set_at ss' least) seat ≡ true
 
--- of a write whose wait goes on from m to n, heads for each seat tell the least of its line at both
-abbrev pub HeadsTell : List Head → List Head → Moment → Moment → Claimed → Type 0
-HeadsTell hs hs' m n x =
-    x.claim.write_half ≡ true → (w : Which) → waits_in w n x ≡ true → stands (waits_in w) x.claim m ≡ true
-    → (slice_get hs x.claim.seat ≡ Some (head_of m x.claim)) × (slice_get hs' x.claim.seat ≡ Some (head_of n x.claim))
+-- another head for the seat of a write, and else those that there were
+abbrev pub heads_with : List Head → Head → Claimed → ℕ → Option Head
+heads_with hs h x seat = if x.claim.write_half then (if seat == x.claim.seat then Some h else slice_get hs seat) else slice_get hs seat
+
+-- the same of all of them but those whose least claim is of a seat
+abbrev pub HoldBehindBut : ℕ → List Set → Moment → List Claimed → Type 0
+HoldBehindBut lost ss m zs = AllByRecursion (λ z. z.claim.write_half ≡ true → (least_of z.claim m).seat ≢ lost → IsBehind ss m z) zs
+
+-- ---- from a moment m to the next, n, where no claim comes
+
+-- a seat has a write claim
+abbrev pub has_write : ℕ → Moment → Bool
+has_write seat m = list_any (λ x. (x.claim.seat == seat) && x.claim.write_half) m
+
+-- the seat of the least claim in the line of the write that an event takes away is this one, if it takes one
+abbrev pub IsLost : ℕ → Event → Moment → Type 0
+IsLost lost e m = AllByRecursion (λ x. x.claim.write_half ≡ true → takes_seat e x.claim.seat ≡ true → (least_of x.claim m).seat ≡ lost) m
+
+-- a head, satisfied where its seat is one of these
+abbrev pub with_told : Set → Head → Head
+with_told came h = if contains came h.claim.seat then record { claim = h.claim; holds = true } else h
+
+-- a write whose seat is not touched has another least claim than the one that is lost, and its least claim is not told to be satisfied
+pub record IsTouched (lost : ℕ) (statuses : List StatusChange) (touched : Set) (m : Moment) (x : Claimed) : Type 0 where
+  pub not_lost : x.claim.write_half ≡ true → contains touched x.claim.seat ≡ false → (least_of x.claim m).seat ≢ lost
+  pub not_told : x.claim.write_half ≡ true → contains touched x.claim.seat ≡ false → tells_write_of statuses (least_of x.claim m).seat ≡ false
+
+-- the head of a write stays where its least claim is of another seat than the one that is lost, but that the least claim may have come to be satisfied;
+-- where its seat is not among those that are touched, it stays as it is
+pub record GoesBy (lost : ℕ) (came touched : Set) (m n : Moment) (x : Claimed) : Type 0 where
+  pub still : x.claim.write_half ≡ true → contains touched x.claim.seat ≡ false → head_of n x.claim ≡ head_of m x.claim
+  pub elsewhere : x.claim.write_half ≡ true → contains touched x.claim.seat ≡ false → (least_of x.claim m).seat ≢ lost
+  pub seat : x.claim.write_half ≡ true → (least_of x.claim m).seat < SEATS
+  pub head : x.claim.write_half ≡ true → (least_of x.claim m).seat ≢ lost → head_of n x.claim ≡ with_told came (head_of m x.claim)
+
+-- heads for each seat tell that of a write at both moments
+abbrev pub HeadsAre : List Head → List Head → Moment → Moment → Claimed → Type 0
+HeadsAre hs hs' m n x = (slice_get hs x.claim.seat ≡ Some (head_of m x.claim)) × (slice_get hs' x.claim.seat ≡ Some (head_of n x.claim))
+
+-- they do so where the head of a write changed, and no other did
+pub record HeadsTell (hs' hs : List Head) (changed : Set) (m n : Moment) (x : Claimed) : Type 0 where
+  pub others : x.claim.write_half ≡ true → contains changed x.claim.seat ≡ true → HeadsAre hs hs' m n x
+  pub same : x.claim.write_half ≡ true → contains changed x.claim.seat ≡ false → head_of n x.claim ≡ head_of m x.claim
+
+-- one claim more was gone on with: its head is that of the next moment, and for other seats all is as it was
+pub record IsTurned (now last : List Head) (changed : Set) (now' last' : List Head) (changed' : Set) (m n : Moment) (x : Claimed) : Type 0 where
+  pub head : x.claim.write_half ≡ true → slice_get now' x.claim.seat ≡ Some (head_of n x.claim)
+  pub tells : HeadsTell now' last' changed' m n x
+  pub now_stays : (seat : ℕ) → (x.claim.write_half ≡ true → seat ≢ x.claim.seat) → slice_get now' seat ≡ slice_get now seat
+  pub last_stays : (seat : ℕ) → (x.claim.write_half ≡ true → seat ≢ x.claim.seat) → slice_get last' seat ≡ slice_get last seat
+  pub changed_stays : (seat : ℕ) → (x.claim.write_half ≡ true → seat ≢ x.claim.seat) → contains changed' seat ≡ contains changed seat
+
+-- resources that hold all that the writes of these seats write
+abbrev pub HoldWritten : Set → Set → Moment → Type 0
+HoldWritten written came m = AllByRecursion (λ x. x.claim.write_half ≡ true → contains came x.claim.seat ≡ true → is_subset x.claim.writes written ≡ true) m
+
+-- where a read reads none of these resources, the write that keeps it waiting does not become satisfied
+abbrev pub ReadStays : Set → Moment → Moment → Claimed → Type 0
+ReadStays written m n x =
+    x.claim.write_half ≡ false → meets x.claim.reads written ≡ false
+    → (v : Claim) → keeper_at x.claim m ≡ Some v → holds_at v m ≡ false → holds_at v n ≡ false
+
+-- what is kept of the wait of a claim may change by an event: the wait begins, the head of the write changed, or the read reads some of what came to be held
+abbrev pub is_due : Event → Set → Set → Claimed → Bool
+is_due e changed written x = rises_at e x.claim.seat || (if x.claim.write_half then contains changed x.claim.seat else meets x.claim.reads written)

@@ -1,14 +1,15 @@
 -- Claims of whose wait an event that is no issue ends none.
-use Rattle.std.specs.Prelude.{◌≡◌, ◌==◌, ℕ, Bool, true, false, not, ◌&&◌, List, []}
+use Rattle.std.specs.Prelude.{◌≡◌, ◌==◌, ℕ, Bool, true, not, ◌&&◌, List, []}
 use Rattle.std.specs.List.{list_any}
+use Rattle.std.specs.FinSet.{contains}
+use Rattle.rset.specs.Sets.{Set}
 use Rattle.rclaim.specs.declared.changes.GrantChange.{GrantChange}
 use Rattle.rclaim.specs.declared.changes.StatusChange.{StatusChange}
-use Rattle.rclaim.specs.declared.claim.Claim.{Claim}
 use Rattle.rmodel.specs.Claims.{satisfied_by}
 use Rattle.rmodel.specs.declared.claimed.Claimed.{Claimed}
 use Rattle.rbound.specs.declared.which.Which.{Which}
 use Rattle.rcover.specs.Ended.{waits_in}
-use Rattle.rcover.specs.Moments.{Moment, holds_at}
+use Rattle.rcover.specs.Moments.{Moment}
 use Rattle.rcover.specs.Told.{waits_for_ask, stands}
 
 -- some grant is of this seat
@@ -19,14 +20,14 @@ has_grant gs seat = list_any (λ g. g.seat == seat) gs
 abbrev pub is_quiet : ℕ → List GrantChange → Claimed → Bool
 is_quiet seat gs x = not (x.claim.seat == seat) && (not (waits_for_ask [] x) && not (has_grant gs x.claim.seat))
 
+-- a claim is of none of these seats, and no ask of it is pending
+abbrev pub is_aside : Set → Claimed → Bool
+is_aside seats x = not (contains seats x.claim.seat) && not (waits_for_ask [] x)
+
 -- then its wait goes on
 abbrev pub GoesOn : ℕ → List GrantChange → Moment → Moment → Claimed → Type 0
 GoesOn seat gs m n x = is_quiet seat gs x ≡ true → (w : Which) → waits_in w m x ≡ true → stands (waits_in w) x.claim n ≡ true
 
--- some write is told to be satisfied
-abbrev pub tells_write : List StatusChange → Bool
-tells_write cs = list_any (λ c. c.write_half && satisfied_by c.status) cs
-
--- from m to n no write becomes satisfied
-abbrev pub NoWriteComes : Moment → Moment → Type 0
-NoWriteComes m n = (v : Claim) → v.write_half ≡ true → holds_at v m ≡ false → holds_at v n ≡ false
+-- the write of a seat is told to be satisfied
+abbrev pub tells_write_of : List StatusChange → ℕ → Bool
+tells_write_of cs seat = list_any (λ c. (c.seat == seat) && (c.write_half && satisfied_by c.status)) cs

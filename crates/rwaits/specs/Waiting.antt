@@ -46,6 +46,14 @@ risen_by seats (Finish seat) = seats
 risen_by seats (Rise seat) = insert seats seat
 risen_by seats (Ask seat part) = seats
 
+-- the place behind which the claims of the seat of an event stand, where so many claims were there and so many are there now:
+-- those of an issue stand behind all that were there, and a finish leaves none
+abbrev pub first_of : Event → ℕ → ℕ → ℕ
+first_of (Issue seat r) there all = there
+first_of (Finish seat) there all = all
+first_of (Rise seat) there all = 0
+first_of (Ask seat part) there all = 0
+
 -- an event ends no wait: it is an issue, or no seat waits
 abbrev pub ends_none : Set → Event → Bool
 ends_none seats e = is_issue e || is_subset seats empty

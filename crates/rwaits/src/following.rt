@@ -14,11 +14,12 @@ ghost use Rattle.rwaits.specs.Waiting.{ends_none};
 
 use crate::follow::{clear_run, keep};
 use crate::heads::Heads;
-use crate::noted::{is_issue, note_ask, note_lengths, tells_write};
+use crate::lines::touched_by;
+use crate::noted::{is_issue, note_ask, note_lengths, seats_told, written_by};
 use crate::run::Run;
 use crate::section::Lengths;
 use crate::tell::tell;
-use crate::waiting::{ends_none, note_ended, note_rise, note_risen, note_seat};
+use crate::waiting::{ends_none, first_of, note_ended, note_rise, note_risen, note_seat};
 use rclaim::Event;
 use rcover::WaitEnd;
 use rmodel::{Claimed, Machine, Refused};
@@ -84,12 +85,10 @@ fn new_runs(alloc: Global) -> Result<Vec<Run>, AllocError>
 fn copy_claims(to: &mut Vec<Claimed>, from: &[Claimed])
     requires { length from.now ≤ vec_capacity to.old }
     ensures items { to.new.items ≡ from.now }
-    ensures capacity { vec_capacity to.new ≡ vec_capacity to.old }
+    ensures capacity { vec_capacity to.old ≤ vec_capacity to.new }
 {
     to.clear();
-    for x in from {
-        to.push_reserved(*x);
-    }
+    let _copied = to.extend_from_slice(from);
 }
 
 impl Following {
@@ -177,8 +176,9 @@ impl Following {
         self.ended.clear();
         note_lengths(&mut self.lengths, event);
         note_ask(&mut self.asks, event);
-        note_seat(&mut self.waiting, event.seat(), machine.claims());
-        note_risen(&mut self.rising, event.seat(), machine.claims());
+        let first = first_of(event, self.there, machine.claims());
+        note_seat(&mut self.waiting, event.seat(), first, machine.claims());
+        note_risen(&mut self.rising, event.seat(), first, machine.claims());
         self.heads
             .pass(is_issue(event), self.there, machine.claims());
     }
@@ -189,10 +189,12 @@ impl Following {
         requires other { ends_none self.old.waiting event.now ≡ false }
         ensures { (p : Past) → IsAhead self.old machine.now p event.now → Follows self.new (with_event p event.now) }
     {
+        self.heads.tell_now(&self.last);
         tell(
             &mut self.ended,
             &mut self.scratch,
             &self.runs,
+            &self.heads.now,
             &self.lengths,
             &self.asks,
             self.waiting,
@@ -203,23 +205,27 @@ impl Following {
         );
         note_lengths(&mut self.lengths, event);
         note_ask(&mut self.asks, event);
-        note_seat(&mut self.waiting, event.seat(), machine.claims());
+        let first = first_of(event, self.there, machine.claims());
+        note_seat(&mut self.waiting, event.seat(), first, machine.claims());
         note_ended(&mut self.waiting, &self.ended, machine.claims());
         note_rise(&mut self.rising, event);
-        self.heads.tell_both(&self.last, machine.claims());
+        let came = seats_told(&machine.changes().statuses);
+        let lost = self.heads.lost(event, &self.last);
+        let touched = touched_by(&self.heads.behind, lost, &machine.changes().statuses);
+        self.heads.turn(lost, came, touched, machine.claims());
         keep(
             &mut self.runs,
             self.waiting,
             self.rising,
             event,
-            tells_write(&machine.changes().statuses),
+            written_by(came, machine.claims()),
             &self.lengths,
+            self.heads.changed,
+            &self.heads.last,
             &self.heads.now,
-            &self.heads.next,
             &self.last,
             machine.claims(),
         );
-        self.heads.turn();
     }
 
     /// The waits with at least one moment that the last event ended, by rising stamp, with the numbers of their covers.

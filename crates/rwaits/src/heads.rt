@@ -1,31 +1,33 @@
 // The least claims of the lines of all writes, kept from event to event.
-ghost use Rattle.std.specs.Prelude.{◌≡◌, ◌≤◌, [], true, IfOk, length, take};
+ghost use Rattle.std.specs.Prelude.{◌≡◌, ◌≤◌, ◌<◌, [], true, IfOk, length, take};
+ghost use Rattle.std.specs.List.{AllByRecursion};
 ghost use Rattle.rcover.specs.Moments.{Moment};
 ghost use Rattle.rset.specs.declared.TheConstants.{SEATS};
-ghost use Rattle.rwaits.specs.Lines.{TellHeads, IsTold};
+ghost use Rattle.rclaim.specs.Events.{seat_of};
+ghost use Rattle.rwaits.specs.Lines.{TellAt, TellHeads, GoesBy, HeadsTell, IsLost, IsTold, HoldBehind};
 ghost use Rattle.rwaits.specs.Heads.{HasPlaces, TellsNow, IsMoment};
 
-use crate::lines::{Class, Head, no_head, tell_heads, tell_new};
+use crate::lines::{Head, forget, no_head, tell_heads, turn_heads};
+use crate::noted::has_write;
+use rclaim::Event;
 use rmodel::Claimed;
-use rset::SEATS;
+use rset::{ResourceSet, SEATS};
 use std::alloc::{AllocError, Global};
-use std::mem;
 
 // A place for each seat.
 const PLACES: usize = SEATS as usize;
-
-// Room for the claims of all seats.
-const CLAIMS: usize = 2 * PLACES;
 
 /// The least claims of the lines of all writes, for each seat.
 #[derive(Drop)]
 pub(crate) struct Heads {
     /// Those of the claims that are there.
     pub(crate) now: Vec<Head>,
-    /// Room for those behind the next event.
-    pub(crate) next: Vec<Head>,
-    /// The places from which each is reached.
-    classes: Vec<Class>,
+    /// Those of the claims before, where they were others.
+    pub(crate) last: Vec<Head>,
+    /// Of each seat, those of the writes whose least claim is its own, with others maybe.
+    pub(crate) behind: Vec<ResourceSet>,
+    /// The seats of the writes of which they were others.
+    pub(crate) changed: ResourceSet,
     // Whether they are told: they are not, where nobody asked for them.
     told: bool,
 }
@@ -41,6 +43,17 @@ fn new_heads(alloc: Global) -> Result<Vec<Head>, AllocError>
     Ok(heads)
 }
 
+/// A set without members, for each seat.
+fn new_sets(alloc: Global) -> Result<Vec<ResourceSet>, AllocError>
+    ensures { IfOk result (λ v. length v.items ≡ SEATS) }
+{
+    let mut sets = Vec::new(alloc);
+    for _ in 0..PLACES {
+        sets.push(ResourceSet::empty())?;
+    }
+    Ok(sets)
+}
+
 impl Heads {
     /// Heads that are not told, with all room for them.
     pub(crate) fn new(alloc: Global) -> Result<Heads, AllocError>
@@ -49,8 +62,9 @@ impl Heads {
     {
         Ok(Heads {
             now: new_heads(alloc)?,
-            next: new_heads(alloc)?,
-            classes: Vec::with_capacity(alloc, CLAIMS)?,
+            last: new_heads(alloc)?,
+            behind: new_sets(alloc)?,
+            changed: ResourceSet::empty(),
             told: false,
         })
     }
@@ -68,44 +82,68 @@ impl Heads {
             return;
         }
         if self.told {
-            tell_new(&mut self.now, &mut self.classes, moment, there);
+            tell_heads(&mut self.now, &mut self.behind, moment, there);
         }
     }
 
-    // Tells of the claims that are there, if it is not told.
-    fn tell_now(&mut self, moment: &[Claimed])
+    /// Tells of the claims that are there, if it is not told.
+    pub(crate) fn tell_now(&mut self, moment: &[Claimed])
         requires moment { IsMoment moment.now }
         requires room { HasPlaces self.old }
         requires told { TellsNow self.old moment.now }
         ensures room { HasPlaces self.new }
-        ensures told { TellHeads self.new.now.items moment.now }
+        ensures told { IsTold self.new.now.items self.new.behind.items moment.now }
     {
         if !self.told {
-            tell_heads(&mut self.now, &mut self.classes, moment);
+            tell_heads(&mut self.now, &mut self.behind, moment, 0);
+            self.told = true;
         }
     }
 
-    /// Tells of the claims that are there, and of those behind the next event.
-    pub(crate) fn tell_both(&mut self, last: &[Claimed], next: &[Claimed])
-        requires last { IsMoment last.now }
-        requires next { IsMoment next.now }
-        requires room { HasPlaces self.old }
-        requires told { TellsNow self.old last.now }
-        ensures room { HasPlaces self.new }
-        ensures now { TellHeads self.new.now.items last.now }
-        ensures next { IsTold self.new.next.items self.new.classes.items next.now }
+    /// The seat of the least claim in the line of the write that an event takes away; any other seat or none where it takes none.
+    pub(crate) fn lost(&self, event: &Event, moment: &[Claimed]) -> u8
+        requires low { seat_of event.now < SEATS }
+        requires room { HasPlaces self.now }
+        requires told { TellHeads self.now.now.items moment.now }
+        ensures { IsLost result event.now moment.now }
     {
-        self.tell_now(last);
-        tell_heads(&mut self.next, &mut self.classes, next);
+        match event {
+            Event::Finish { seat } => {
+                if has_write(*seat, moment) {
+                    self.now[*seat as usize].claim.seat
+                } else {
+                    SEATS
+                }
+            }
+            _ => SEATS,
+        }
     }
 
-    /// Takes those behind the next event for those that are there.
-    pub(crate) fn turn(&mut self)
-        requires { HasPlaces self.old }
+    /// Goes on to the moment behind an event that brings no claim. `lost` is the seat of the least claim in the line of the write
+    /// that it takes away, `came` are the seats of the writes that became satisfied, and `touched` those of the writes that have
+    /// one of these for their least claim.
+    pub(crate) fn turn(
+        &mut self,
+        lost: u8,
+        came: ResourceSet,
+        touched: ResourceSet,
+        moment: &[Claimed],
+    )
+        requires moment { IsMoment moment.now }
+        requires room { HasPlaces self.old }
         ensures room { HasPlaces self.new }
-        ensures told { (moment : Moment) → IsTold self.old.next.items self.old.classes.items moment → TellsNow self.new moment }
+        ensures told { (m : Moment) → TellAt self.old.now.items m moment.now → HoldBehind self.old.behind.items m moment.now → AllByRecursion (GoesBy lost came touched m moment.now) moment.now → TellsNow self.new moment.now }
+        ensures tell { (m : Moment) → TellAt self.old.now.items m moment.now → AllByRecursion (GoesBy lost came touched m moment.now) moment.now → AllByRecursion (HeadsTell self.new.now.items self.new.last.items self.new.changed m moment.now) moment.now }
     {
-        mem::swap(&mut self.now, &mut self.next);
-        self.told = true;
+        forget(&mut self.behind, lost);
+        self.changed = turn_heads(
+            &mut self.now,
+            &mut self.last,
+            &mut self.behind,
+            lost,
+            came,
+            touched,
+            moment,
+        );
     }
 }

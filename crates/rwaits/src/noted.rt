@@ -1,20 +1,36 @@
 // What is noted of the last request of each seat.
-ghost use Rattle.std.specs.Prelude.{◌≡◌, ◌<◌, ◌^◌, not, ℕ, length, slice_index};
+ghost use Rattle.std.specs.Prelude.{◌≡◌, ◌<◌, ◌^◌, ◌==◌, ◌&&◌, ◌||◌, not, true, false, ℕ, length, slice_index};
+ghost use Rattle.rmodel.specs.Claims.{satisfied_by};
 ghost use Rattle.rclaim.specs.Events.{seat_of};
 ghost use Rattle.rclaim.specs.declared.claim.Claim.{Claim};
 ghost use Rattle.rcover.specs.History.{count_ask};
 ghost use Rattle.rwaits.specs.Follow.{length_by};
-ghost use Rattle.rwaits.specs.Quiet.{tells_write};
+ghost use Rattle.std.specs.FinSet.{contains, is_subset};
+ghost use Rattle.std.specs.List.{AllByRecursion};
+ghost use Rattle.rset.specs.Sets.{Set};
+ghost use Rattle.rset.specs.declared.TheConstants.{SEATS};
+ghost use Rattle.rcover.specs.Moments.{Moment};
+ghost use Rattle.rwaits.specs.Quiet.{tells_write_of, has_grant};
+ghost use Rattle.rwaits.specs.Lines.{has_write, HoldWritten};
 ghost use Rattle.rwaits.specs.Past.{is_issue, noted, rises_at};
 
 use crate::section::Lengths;
-use rclaim::{Event, Status, StatusChange};
+use rclaim::{Event, GrantChange, Status, StatusChange};
+use rmodel::Claimed;
+use rset::{ResourceSet, SEATS};
 
 /// Whether an event is an issue.
 pub(crate) fn is_issue(event: &Event) -> bool
     ensures { result ≡ is_issue event.now }
 {
     matches!(event, Event::Issue { .. })
+}
+
+/// Whether an upgrade rises by an event.
+pub(crate) fn is_rise(event: &Event) -> bool
+    ensures { (seat : ℕ) → result ≡ false → rises_at event.now seat ≡ false }
+{
+    matches!(event, Event::Rise { .. })
 }
 
 /// Whether the wait of a seat stood before an event that is no issue: only that of the upgrade that rises begins with it.
@@ -59,11 +75,92 @@ pub(crate) fn note_ask(asks: &mut [usize], event: &Event)
     }
 }
 
-/// Whether some write is told to be satisfied.
-pub(crate) fn tells_write(statuses: &[StatusChange]) -> bool
-    ensures { result ≡ tells_write statuses.now }
+/// Whether it is told that a write became satisfied.
+pub(crate) fn is_write_told(s: &StatusChange) -> bool
+    ensures { result ≡ (s.now.write_half && satisfied_by s.now.status) }
 {
-    statuses
+    s.write_half && matches!(s.status, Status::Satisfied)
+}
+
+/// The same seats with this one, if it is told that it `comes`.
+fn with_seat_if(seats: ResourceSet, comes: bool, seat: u8) -> ResourceSet
+    ensures { (other : ℕ) → other < SEATS → contains result other ≡ ((seat == other && comes) || contains seats other) }
+{
+    if comes && seat < SEATS {
+        seats.with(seat)
+    } else {
+        seats
+    }
+}
+
+/// The same seats with that of a status, if it is told that a write became satisfied.
+fn with_told(seats: ResourceSet, s: &StatusChange) -> ResourceSet
+    ensures { (other : ℕ) → other < SEATS → contains result other ≡ ((s.now.seat == other && (s.now.write_half && satisfied_by s.now.status)) || contains seats other) }
+{
+    with_seat_if(seats, is_write_told(s), s.seat)
+}
+
+/// The seats of the writes that are told to be satisfied.
+pub(crate) fn seats_told(statuses: &[StatusChange]) -> ResourceSet
+    ensures { (seat : ℕ) → seat < SEATS → contains result seat ≡ tells_write_of statuses.now seat }
+{
+    let mut seats = ResourceSet::empty();
+    for s in statuses {
+        seats = with_told(seats, s);
+    }
+    seats
+}
+
+/// The seats to which something is granted.
+fn seats_granted(grants: &[GrantChange]) -> ResourceSet
+    ensures { (seat : ℕ) → seat < SEATS → contains result seat ≡ has_grant grants.now seat }
+{
+    let mut seats = ResourceSet::empty();
+    for g in grants {
+        seats = with_seat_if(seats, true, g.seat);
+    }
+    seats
+}
+
+/// The seat of an event, and those to which something is granted.
+pub(crate) fn busy_seats(seat: u8, grants: &[GrantChange]) -> ResourceSet
+    ensures { (other : ℕ) → other < SEATS → contains result other ≡ ((seat == other) || has_grant grants.now other) }
+{
+    with_seat_if(seats_granted(grants), true, seat)
+}
+
+/// Whether a seat has a write claim.
+pub(crate) fn has_write(seat: u8, moment: &[Claimed]) -> bool
+    ensures { result ≡ has_write seat moment.now }
+{
+    moment
         .iter()
-        .any(|s| s.write_half && matches!(s.status, Status::Satisfied))
+        .any(|x| x.claim.seat == seat && x.claim.write_half)
+}
+
+/// These resources and what a claim writes, if it is a write of one of these seats.
+fn with_written(written: ResourceSet, came: ResourceSet, x: &Claimed) -> ResourceSet
+    requires { x.now.claim.seat < SEATS }
+    ensures own { x.now.claim.write_half ≡ true → contains came x.now.claim.seat ≡ true → is_subset x.now.claim.writes result ≡ true }
+    ensures others { (s : Set) → is_subset s written ≡ true → is_subset s result ≡ true }
+{
+    if x.claim.write_half && came.has(x.claim.seat) {
+        return written.union(x.claim.writes);
+    }
+    written
+}
+
+/// Resources that hold all that the writes of these seats write.
+pub(crate) fn written_by(came: ResourceSet, moment: &[Claimed]) -> ResourceSet
+    requires { AllByRecursion (λ x. x.claim.seat < SEATS) moment.now }
+    ensures { HoldWritten result came moment.now }
+{
+    let mut written = ResourceSet::empty();
+    if came.is_empty() {
+        return written;
+    }
+    for x in moment {
+        written = with_written(written, came, x);
+    }
+    written
 }

@@ -12,7 +12,6 @@ ghost use Rattle.rmodel.specs.WellFormed.{EachPair, Rises};
 ghost use Rattle.rwaits.specs.Shown.{write_closed};
 ghost use Rattle.rcover.specs.Lists.{AreAtMost};
 ghost use Rattle.rwaits.specs.Tracked.{no_sections, keeper_at, read_closed_if, gone_on};
-ghost use Rattle.rwaits.specs.Quiet.{NoWriteComes};
 
 use crate::lines::Head;
 use crate::section::{Lengths, Section, add_found, push_section};
@@ -147,16 +146,13 @@ fn close_read(
 }
 
 /// Keeps the read that was taken for the write that keeps a read claim waiting, if that write is satisfied at the next moment.
-/// Where no write `comes` to be satisfied, nothing is looked at.
 fn close_read_of(
     reads: &mut Vec<Section>,
-    comes: bool,
     lengths: &[Lengths],
     c: &Claim,
     last: &[Claimed],
     next: &[Claimed],
 )
-    requires comes { comes ≡ false → NoWriteComes last.now next.now }
     requires room { 1 ≤ vec_capacity reads.old }
     requires last_rises { EachPair Rises last.now }
     requires next_rises { EachPair Rises next.now }
@@ -164,15 +160,12 @@ fn close_read_of(
     ensures capacity { vec_capacity reads.new ≡ vec_capacity reads.old }
     ensures lengths { (len : Claim → ℕ) → AreOf (length_by lengths.now) len last.now → HaveLengths len reads.old.items → HaveLengths len reads.new.items }
 {
-    if comes {
-        close_read(reads, lengths, keeper_at(c, last), last, next);
-    }
+    close_read(reads, lengths, keeper_at(c, last), last, next);
 }
 
 /// What a run keeps once the next moment comes: the wait of the claim goes on.
 fn go_on(
     run: &mut Run,
-    comes: bool,
     lengths: &[Lengths],
     c: &Claim,
     least: &Head,
@@ -180,7 +173,6 @@ fn go_on(
     last: &[Claimed],
     next: &[Claimed],
 )
-    requires comes { comes ≡ false → NoWriteComes last.now next.now }
     requires last_rises { EachPair Rises last.now }
     requires next_rises { EachPair Rises next.now }
     requires heads { c.now.write_half ≡ true → (least.now ≡ head_of last.now c.now) × (next_least.now ≡ head_of next.now c.now) }
@@ -191,7 +183,7 @@ fn go_on(
     ensures lengths { (len : Claim → ℕ) → AreOf (length_by lengths.now) len last.now → length_by lengths.now c.now ≡ len c.now → AreLong len run.old → AreLong len run.new }
 {
     if !c.write_half {
-        close_read_of(&mut run.reads, comes, lengths, c, last, next);
+        close_read_of(&mut run.reads, lengths, c, last, next);
         return;
     }
     close_reads(&mut run.reads, lengths, least, last, next_least, next);
@@ -213,7 +205,6 @@ pub(crate) fn clear(run: &mut Run)
 pub(crate) fn keep_by(
     run: &mut Run,
     stood: bool,
-    comes: bool,
     lengths: &[Lengths],
     c: &Claim,
     least: &Head,
@@ -221,7 +212,6 @@ pub(crate) fn keep_by(
     last: &[Claimed],
     next: &[Claimed],
 )
-    requires comes { comes ≡ false → NoWriteComes last.now next.now }
     requires last_rises { EachPair Rises last.now }
     requires next_rises { EachPair Rises next.now }
     requires heads { stood ≡ true → c.now.write_half ≡ true → (least.now ≡ head_of last.now c.now) × (next_least.now ≡ head_of next.now c.now) }
@@ -232,7 +222,7 @@ pub(crate) fn keep_by(
     ensures lengths { (len : Claim → ℕ) → AreOf (length_by lengths.now) len last.now → length_by lengths.now c.now ≡ len c.now → AreLong len run.old → AreLong len run.new }
 {
     if stood {
-        go_on(run, comes, lengths, c, least, next_least, last, next);
+        go_on(run, lengths, c, least, next_least, last, next);
         return;
     }
     clear(run);

@@ -1,5 +1,5 @@
 // The sections of a wait at its last moment.
-ghost use Rattle.std.specs.Prelude.{◌≡◌, [], ℕ, IfSome};
+ghost use Rattle.std.specs.Prelude.{◌≡◌, true, [], ℕ, IfSome};
 ghost use Rattle.std.specs.Option.{option_to_list};
 ghost use Rattle.rclaim.specs.declared.claim.Claim.{Claim};
 ghost use Rattle.rset.specs.declared.TheConstants.{SEATS};
@@ -11,34 +11,38 @@ ghost use Rattle.rwaits.specs.Last.{first_at};
 ghost use Rattle.rcover.specs.Lists.{is_wanted};
 ghost use Rattle.rwaits.specs.Shown.{write_shown};
 ghost use Rattle.rcover.specs.Lists.{AreAtMost};
+ghost use Rattle.rcover.specs.Moments.{holds_at};
+ghost use Rattle.rwaits.specs.Lines.{head_of, needs_head};
 ghost use Rattle.rwaits.specs.Tracked.{read_shown, read_shown_if, shown};
 ghost use Rattle.rcover.specs.Within.{numbers_of};
 
+use crate::lines::Head;
 use crate::run::{Run, first_at};
 use crate::section::{Lengths, add_found, copy_sections, push_section, sum_of};
 use rbound::Which;
 use rclaim::Claim;
-use rcover::{WaitEnd, Wanted, holds_at, keeper_at, least_of};
+use rcover::{WaitEnd, Wanted, holds_at, keeper_at};
 use rmodel::Claimed;
 
 /// Makes `shown` the sections of a write wait whose least claim is this.
-fn show_write(shown: &mut Run, run: &Run, lengths: &[Lengths], least: &Claim, moment: &[Claimed])
+fn show_write(shown: &mut Run, run: &Run, lengths: &[Lengths], least: &Head, moment: &[Claimed])
+    requires holds { least.now.holds ≡ holds_at least.now.claim moment.now }
     requires room { HasRoom shown.old }
-    requires few { AreAtMost SEATS (write_shown least.now (kept_in run.now) moment.now) }
-    ensures shown { kept_in shown.new ≡ write_shown least.now (kept_in run.now) moment.now }
+    requires few { AreAtMost SEATS (write_shown least.now.claim (kept_in run.now) moment.now) }
+    ensures shown { kept_in shown.new ≡ write_shown least.now.claim (kept_in run.now) moment.now }
     ensures room { HasRoom shown.new }
-    ensures lengths { (len : Claim → ℕ) → AreOf (length_by lengths.now) len moment.now → length_by lengths.now least.now ≡ len least.now → AreLong len run.now → AreLong len shown.new }
+    ensures lengths { (len : Claim → ℕ) → AreOf (length_by lengths.now) len moment.now → length_by lengths.now least.now.claim ≡ len least.now.claim → AreLong len run.now → AreLong len shown.new }
 {
     copy_sections(&mut shown.reads, &run.reads);
     copy_sections(&mut shown.writes, &run.writes);
-    if holds_at(least, moment) {
-        push_section(&mut shown.writes, lengths, least);
+    if least.holds {
+        push_section(&mut shown.writes, lengths, &least.claim);
         return;
     }
     add_found(
         &mut shown.reads,
         lengths,
-        first_at(&Wanted::ReadAgainst(*least), moment),
+        first_at(&Wanted::ReadAgainst(least.claim), moment),
     );
 }
 
@@ -94,15 +98,18 @@ fn show_read_if(
     }
 }
 
-/// Makes `into` the sections of a wait of a claim at its last moment, of which the run keeps the closed ones.
+/// Makes `into` the sections of a wait of a claim at its last moment, of which the run keeps the closed ones. `least` is the head
+/// of the claim, if that is a write.
 pub(crate) fn show(
     into: &mut Run,
     run: &Run,
     lengths: &[Lengths],
     which: Which,
+    least: &Head,
     x: &Claimed,
     moment: &[Claimed],
 )
+    requires least { needs_head which x.now ≡ true → least.now ≡ head_of moment.now x.now.claim }
     requires room { HasRoom into.old }
     requires few { AreAtMost SEATS (shown which x.now (kept_in run.now) moment.now) }
     ensures shown { kept_in into.new ≡ shown which x.now (kept_in run.now) moment.now }
@@ -113,12 +120,12 @@ pub(crate) fn show(
     match which {
         Which::First => {
             if c.write_half {
-                show_write(into, run, lengths, &least_of(c, moment), moment);
+                show_write(into, run, lengths, least, moment);
             } else {
                 show_read_if(into, run, lengths, keeper_at(c, moment), moment);
             }
         }
-        Which::Rise => show_write(into, run, lengths, &least_of(c, moment), moment),
+        Which::Rise => show_write(into, run, lengths, least, moment),
         Which::Ask(_) => show_found(into, lengths, &Wanted::OnPart(*c, x.asked), moment),
     }
 }

@@ -1,8 +1,10 @@
 // Which seats wait.
-ghost use Rattle.std.specs.Prelude.{◌≡◌, ◌<◌, ◌&&◌, ◌||◌, nat_lt};
+ghost use Rattle.std.specs.Prelude.{◌≡◌, ◌≤◌, ◌<◌, ◌==◌, ◌&&◌, ◌||◌, false, length, nat_lt, take};
+ghost use Rattle.std.specs.List.{list_any};
+ghost use Rattle.rcover.specs.Told.{waits_to_rise};
 ghost use Rattle.rset.specs.declared.TheConstants.{SEATS};
 ghost use Rattle.rwaits.specs.Follow.{may_wait};
-ghost use Rattle.rwaits.specs.Waiting.{some_wait, seat_waits, HoldWaiting, with_seat, seat_rises, with_risen, risen_by, ends_none};
+ghost use Rattle.rwaits.specs.Waiting.{some_wait, seat_waits, HoldWaiting, with_seat, seat_rises, with_risen, risen_by, first_of, ends_none};
 ghost use Rattle.rclaim.specs.Events.{seat_of};
 
 use crate::noted::is_issue;
@@ -25,13 +27,33 @@ fn some_wait(moment: &[Claimed], x: &Claimed) -> bool
     may_wait(moment, x) || x.asked.len() > 0
 }
 
-/// Whether some claim of a seat is in a wait, or asks for something.
-fn seat_waits(moment: &[Claimed], seat: u8) -> bool
+/// The place behind which the claims of the seat of an event stand: those that an issue brings stand behind all that were
+/// there, and a finish leaves none.
+pub(crate) fn first_of(event: &Event, there: usize, moment: &[Claimed]) -> usize
+    ensures { result ≡ first_of event.now there (length moment.now) }
+{
+    match event {
+        Event::Issue { .. } => there,
+        Event::Finish { .. } => moment.len(),
+        _ => 0,
+    }
+}
+
+/// Whether one of some claims is of a seat, and in a wait or asking for something.
+fn some_waits(moment: &[Claimed], some: &[Claimed], seat: u8) -> bool
+    ensures { result ≡ list_any (λ x. (x.claim.seat == seat) && some_wait moment.now x) some.now }
+{
+    some.iter()
+        .any(|x| x.claim.seat == seat && some_wait(moment, x))
+}
+
+/// Whether some claim of a seat is in a wait, or asks for something. No claim before this place is of the seat.
+fn seat_waits(moment: &[Claimed], first: usize, seat: u8) -> bool
+    requires first { first ≤ length moment.now }
+    requires none { list_any (λ x. x.claim.seat == seat) (take first moment.now) ≡ false }
     ensures { result ≡ seat_waits moment.now seat }
 {
-    moment
-        .iter()
-        .any(|x| x.claim.seat == seat && some_wait(moment, x))
+    some_waits(moment, &moment[first..], seat)
 }
 
 /// Whether an event ends no wait, where these seats wait: it is an issue, or none does.
@@ -41,33 +63,46 @@ pub(crate) fn ends_none(waiting: ResourceSet, event: &Event) -> bool
     is_issue(event) || waiting.within(ResourceSet::empty())
 }
 
-/// Notes of a seat whether it waits at a moment. A set of seats is kept as one of numbers.
-pub(crate) fn note_seat(waiting: &mut ResourceSet, seat: u8, moment: &[Claimed])
-    requires { seat < SEATS }
+/// Notes of a seat whether it waits at a moment, where no claim before this place is of the seat. A set of seats is kept as one
+/// of numbers.
+pub(crate) fn note_seat(waiting: &mut ResourceSet, seat: u8, first: usize, moment: &[Claimed])
+    requires low { seat < SEATS }
+    requires first { first ≤ length moment.now }
+    requires none { list_any (λ x. x.claim.seat == seat) (take first moment.now) ≡ false }
     ensures { waiting.new ≡ with_seat waiting.old moment.now seat }
 {
-    *waiting = if seat_waits(moment, seat) {
+    *waiting = if seat_waits(moment, first, seat) {
         waiting.with(seat)
     } else {
         waiting.without(seat)
     };
 }
 
-/// Whether an upgrade of a seat waits to rise.
-fn seat_rises(moment: &[Claimed], seat: u8) -> bool
-    ensures { result ≡ seat_rises moment.now seat }
+/// Whether one of some claims is an upgrade of a seat that waits to rise.
+fn some_rises(moment: &[Claimed], some: &[Claimed], seat: u8) -> bool
+    ensures { result ≡ list_any (λ x. (x.claim.seat == seat) && waits_to_rise moment.now x) some.now }
 {
-    moment
-        .iter()
+    some.iter()
         .any(|x| x.claim.seat == seat && waits_to_rise(moment, x))
 }
 
-/// Notes of a seat whether its upgrade waits to rise at a moment.
-pub(crate) fn note_risen(rising: &mut ResourceSet, seat: u8, moment: &[Claimed])
-    requires { seat < SEATS }
+/// Whether an upgrade of a seat waits to rise. No claim before this place is of the seat.
+fn seat_rises(moment: &[Claimed], first: usize, seat: u8) -> bool
+    requires first { first ≤ length moment.now }
+    requires none { list_any (λ x. x.claim.seat == seat) (take first moment.now) ≡ false }
+    ensures { result ≡ seat_rises moment.now seat }
+{
+    some_rises(moment, &moment[first..], seat)
+}
+
+/// Notes of a seat whether its upgrade waits to rise at a moment, where no claim before this place is of the seat.
+pub(crate) fn note_risen(rising: &mut ResourceSet, seat: u8, first: usize, moment: &[Claimed])
+    requires low { seat < SEATS }
+    requires first { first ≤ length moment.now }
+    requires none { list_any (λ x. x.claim.seat == seat) (take first moment.now) ≡ false }
     ensures { rising.new ≡ with_risen rising.old moment.now seat }
 {
-    *rising = if seat_rises(moment, seat) {
+    *rising = if seat_rises(moment, first, seat) {
         rising.with(seat)
     } else {
         rising.without(seat)
@@ -90,7 +125,7 @@ fn note_end(waiting: &mut ResourceSet, end: &WaitEnd, moment: &[Claimed])
     ensures { HoldWaiting waiting.new moment.now }
 {
     if end.seat < SEATS {
-        note_seat(waiting, end.seat, moment);
+        note_seat(waiting, end.seat, 0, moment);
     }
 }
 

@@ -1,5 +1,5 @@
 -- Sections that are kept, and their claims.
-use Rattle.std.proofs.Common.{true, false, None, Option, drop, add-one, drop-cons, ◌≡◌, ℕ, zero, suc, ◌<◌, ◌+◌, ◌++◌, get_or, arith, Bool, ◌||◌, ◌&&◌, cond, Some, List, [], ◌∷◌, length, find, refl, sym, ap, subst, ◌∙◌}
+use Rattle.std.proofs.Common.{true, false, None, Option, drop, add-one, drop-cons, ◌≡◌, ℕ, zero, suc, ◌<◌, ◌+◌, ◌++◌, get_or, arith, Bool, ◌||◌, ◌&&◌, cond, Some, List, [], ◌∷◌, length, find, refl, sym, ap, subst, ◌∙◌, inl, inr}
 use Rattle.std.specs.Option.{IfSome, option_map, unwrap_or}
 use Rattle.rmodel.specs.declared.claimed.Claimed.{Claimed}
 use Rattle.rmodel.specs.Claims.{is_satisfied}
@@ -12,7 +12,7 @@ use Rattle.rcover.specs.Moments.{Moment, is_claim, holds_at}
 use Rattle.std.proofs.Math.ListN.{set}
 use Rattle.std.proofs.lemmas.List.Sums.{sum_by-cons}
 use Rattle.std.specs.List.{list_any, sum_by, AllByRecursion}
-use Rattle.rmodel.specs.WellFormed.{EachPair, Rises}
+use Rattle.rmodel.specs.WellFormed.{Among, EachPair, Rises}
 use Rattle.rmodel.proofs.ListFacts.{behind, false_from}
 use Rattle.std.proofs.lemmas.Bool.{and_parts}
 use Rattle.rcover.proofs.runs.Moments.{are_one}
@@ -22,7 +22,6 @@ use Rattle.rwaits.specs.Follow.{claims_of, HaveLengths, AreOf}
 use Rattle.rmodel.specs.Laws.{keeps_out}
 use Rattle.rcover.specs.Sections.{Sections}
 use Rattle.std.specs.Option.{option_to_list}
-use Rattle.rwaits.specs.Quiet.{NoWriteComes}
 use Rattle.rwaits.specs.Tracked.{keeper_at, read_closed_if}
 
 pub any_claims : (p : Claim → Bool) (ss : List Section) → list_any (λ s. p s.claim) ss ≡ list_any p (claims_of ss)
@@ -104,6 +103,25 @@ keeper_write c (x ∷ xs) =
     writes false false true h = h
     writes false false false h = h
 
+-- it stands there, and keeps the read out
+pub keeper_there : (c : Claim) (m : Moment) (v : Claim) → keeper_at c m ≡ Some v → (k : Claimed) × Among k m × (k.claim ≡ v) × (keeps_out c k ≡ true)
+keeper_there c [] v is = absurd (no_one v is)
+  where
+    no_one : (v : Claim) → None ≡ Some v → ⊥
+    no_one v h = cc
+keeper_there c (x ∷ xs) v is = at (keeper_there c xs v) (keeps_out c x) refl is
+  where
+    rest : Option Claimed
+    rest = find (keeps_out c) xs
+
+    same : (d : Claim) → Some d ≡ Some v → d ≡ v
+    same d h = cc
+
+    at : (option_map (λ (y : Claimed). y.claim) rest ≡ Some v → (k : Claimed) × Among k xs × (k.claim ≡ v) × (keeps_out c k ≡ true))
+        → (b : Bool) → keeps_out c x ≡ b → option_map (λ (y : Claimed). y.claim) (cond b (Some x) rest) ≡ Some v → (k : Claimed) × Among k (x ∷ xs) × (k.claim ≡ v) × (keeps_out c k ≡ true)
+    at more true on is = (x, inl refl, same x.claim is, on)
+    at more false off is = let r = more is in (r.0, inr r.1, r.2, r.3)
+
 -- a write is satisfied where the first claim that it is is
 pub holds_none : (c : Claim) (x : Claimed) → is_claim c x.claim ≡ true → c.write_half ≡ true → (xs : Moment) → AllByRecursion (Rises x) xs → holds_at c xs ≡ false
 holds_none c x is write [] all = refl
@@ -144,14 +162,14 @@ holds_first c write m rising = at (find (λ x. is_claim c x.claim) m) refl
     at None is = holds_found c write m rising None is false tt (λ _. refl)
     at (Some x) is = holds_found c write m rising (Some x) is (is_satisfied x) refl (λ h. cc)
 
--- where no write becomes satisfied, what is kept of a read wait stays
-pub read_not_closed : (m n : Moment) → NoWriteComes m n → (o : Option Claim) → IfSome o (λ v. v.write_half ≡ true) → (a : Sections) → read_closed_if o a m n ≡ a
-read_not_closed m n none None write a = refl
-read_not_closed m n none (Some v) write a =
+-- where the write that keeps a read waiting does not become satisfied, what is kept of the wait stays
+pub read_not_closed : (m n : Moment) (o : Option Claim) → ((v : Claim) → o ≡ Some v → holds_at v m ≡ false → holds_at v n ≡ false) → (a : Sections) → read_closed_if o a m n ≡ a
+read_not_closed m n None none a = refl
+read_not_closed m n (Some v) none a =
     let reads : (read_closed_if (Some v) a m n).reads ≡ a.reads
     = both_cases (holds_at v m)
     (λ on. ap (λ b. cond (holds_at v n) (cond b a.reads (option_to_list (first_at (λ d. conflicts d v) m))) a.reads) on ∙ at (holds_at v n) a.reads)
-    (λ off. ap (λ b. cond b (cond (holds_at v m) a.reads (option_to_list (first_at (λ d. conflicts d v) m))) a.reads) (none v write off)) in
+    (λ off. ap (λ b. cond b (cond (holds_at v m) a.reads (option_to_list (first_at (λ d. conflicts d v) m))) a.reads) (none v refl off)) in
     (λ i. let s : Sections = record { reads = reads i; writes = a.writes } in s)
   where
     at : (b : Bool) (r : List Claim) → cond b r r ≡ r

@@ -28,17 +28,19 @@ use Rattle.rmodel.proofs.reaching.Came.{goes, left}
 use Rattle.rmodel.proofs.reaching.Growing.{IsGrown, grown}
 use Rattle.rmodel.proofs.reaching.HeldBySeat.{nothing_of, is_nothing_of, within_nothing, held_of_plain, held_of_unsatisfied}
 use Rattle.rmodel.proofs.reaching.OneOfSeat.{not_nested}
+use Rattle.rmodel.proofs.reaching.Reached.{reached_next}
 use Rattle.rmodel.proofs.reaching.Soundness.{read_of_half}
 use Rattle.rmodel.proofs.settling.Keeping.{not_false}
 use Rattle.rmodel.proofs.settling.OneSettlement.{both_cases}
 use Rattle.rbound.specs.declared.which.Which.{Which}
 use Rattle.rbound.specs.declared.which.Which.TheVariants.{First, Rise, Ask}
 use Rattle.rcover.specs.Ended.{waits_in}
-use Rattle.rcover.specs.Moments.{Moment, is_claim, holds_at}
+use Rattle.rcover.specs.Moments.{Moment, is_claim}
 use Rattle.rcover.specs.Told.{is_rising_half, waits_first, has_read_claim, waits_to_rise, waits_for_ask, stands}
-use Rattle.rcover.proofs.runs.Moments.{are_one, is_itself}
+use Rattle.rcover.proofs.lists.Different.{among_filter_map}
+use Rattle.rcover.proofs.runs.Moments.{is_itself}
 use Rattle.rwaits.specs.Past.{is_issue}
-use Rattle.rwaits.specs.Quiet.{has_grant, is_quiet, tells_write, NoWriteComes}
+use Rattle.rwaits.specs.Quiet.{has_grant, is_quiet, tells_write_of}
 use Rattle.rwaits.proofs.told.Stood.{before, rising_parts}
 
 among_found : {X Y : Type 0} (f : X → Option Y) (xs : List X) (x : X) (y : Y) → Among x xs → f x ≡ Some y → Among y (filter_map f xs)
@@ -58,6 +60,15 @@ halves_same : (a b : Bool) → is_same a b ≡ true → a ≡ b
 halves_same true b h = sym h
 halves_same false true h = contrary false h refl
 halves_same false false h = refl
+
+-- a seat has one write claim at most
+pub one_write : (xs : Moment) → EachPair Distinct xs → (z x : Claimed) → Among z xs → Among x xs → z.claim.write_half ≡ true → x.claim.write_half ≡ true → z.claim.seat ≡ x.claim.seat → z ≡ x
+one_write xs distinct z x in_xs there z_write x_write seated =
+    elim (pair_among Distinct xs z x distinct in_xs there) [
+      | inl same ↦ same
+      | inr (inl two) ↦ (let h = two seated in contrary z.claim.write_half z_write (read_of_half z.claim h.reads))
+      | inr (inr two) ↦ (let h = two (sym seated) in contrary x.claim.write_half x_write (read_of_half x.claim h.reads))
+    ]
 
 module _ (xs : Moment) (distinct : EachPair Distinct xs) (x : Claimed) (there : Among x xs) where
   one_only : (z : Claimed) → Among z xs → is_claim_of x.claim.seat x.claim.write_half z ≡ true → z ≡ x
@@ -198,26 +209,35 @@ module _ (s : LockState) (e : Event) (reached : IsReached s) (comes : Comes s e)
   abbrev told : List StatusChange
   told = (changes_between s (next s e)).statuses
 
-  pub no_write_comes : tells_write told ≡ false → NoWriteComes s.claims (next s e).claims
+  -- a write that becomes satisfied is told with its seat
+  pub is_told : (y z : Claimed) → Among y (next s e).claims → Among z s.claims → y.claim ≡ z.claim → y.claim.write_half ≡ true → is_satisfied y ≡ true → is_satisfied z ≡ false → tells_write_of told y.claim.seat ≡ true
   unfolding changes_between
-  no_write_comes none v write before_off =
-      false_from (holds_at v (next s e).claims) (λ on.
-      let y = passing (λ z. is_satisfied z && is_claim v z.claim) (next s e).claims on in
-      let parts = and_parts (is_satisfied y.0) (is_claim v y.0.claim) y.2 in
-      let z = before s e reached comes old y.0 y.1 in
-      let was : was_in s.claims y.0.claim ≡ z.0
-      = ap (λ (d : Claim). unwrap_or (claim_at s.claims d.seat d.write_half) (waiting empty d)) z.2.claim
-      ∙ ap (λ o. unwrap_or o (waiting empty z.0.claim)) (found_one s.claims reached.sound.one_each z.0 z.1 s.claims (λ w h. h) z.1) in
-      let unsat : is_satisfied z.0 ≡ false
-      = false_from (is_satisfied z.0) (λ sat.
-      contrary (holds_at v s.claims)
-      (any_among (λ w. is_satisfied w && is_claim v w.claim) s.claims z.0 z.1 (and_from (is_satisfied z.0) (is_claim v z.0.claim) sat (ap (is_claim v) (sym z.2.claim) ∙ parts.1))) before_off) in
-      let changed_status : (number_of z.0.status == number_of y.0.status) ≡ false
-      = false_from (number_of z.0.status == number_of y.0.status) (λ same. contrary (is_satisfied z.0) (same_satisfied z.0.status y.0.status same parts.0) unsat) in
-      let change : StatusChange = record { seat = y.0.claim.seat; write_half = y.0.claim.write_half; status = y.0.status } in
-      let is : status_change (was_in s.claims y.0.claim) y.0 ≡ Some change = ap (λ (w : Claimed). status_change w y.0) was ∙ ap (λ b. cond b None (Some change)) changed_status in
-      let half : y.0.claim.write_half ≡ true = sym (are_one v y.0.claim parts.1).half ∙ write in
-      contrary (tells_write told)
-      (any_among (λ (c : StatusChange). c.write_half && satisfied_by c.status) told change
-      (among_found (λ x. status_change (was_in s.claims x.claim) x) (next s e).claims y.0 change y.1 is)
-      (and_from y.0.claim.write_half (satisfied_by y.0.status) half parts.0)) none)
+  is_told y z in_next in_claims claim half sat unsat =
+      let was : was_in s.claims y.claim ≡ z
+      = ap (λ (d : Claim). unwrap_or (claim_at s.claims d.seat d.write_half) (waiting empty d)) claim
+      ∙ ap (λ o. unwrap_or o (waiting empty z.claim)) (found_one s.claims reached.sound.one_each z in_claims s.claims (λ w h. h) in_claims) in
+      let changed_status : (number_of z.status == number_of y.status) ≡ false
+      = false_from (number_of z.status == number_of y.status) (λ same. contrary (is_satisfied z) (same_satisfied z.status y.status same sat) unsat) in
+      let change : StatusChange = record { seat = y.claim.seat; write_half = y.claim.write_half; status = y.status } in
+      let is : status_change (was_in s.claims y.claim) y ≡ Some change = ap (λ (w : Claimed). status_change w y) was ∙ ap (λ b. cond b None (Some change)) changed_status in
+      any_among (λ (c : StatusChange). (c.seat == y.claim.seat) && (c.write_half && satisfied_by c.status)) told change
+      (among_found (λ x. status_change (was_in s.claims x.claim) x) (next s e).claims y change in_next is)
+      (and_from (y.claim.seat == y.claim.seat) (y.claim.write_half && satisfied_by y.status) (eq-eqb y.claim.seat y.claim.seat refl) (and_from y.claim.write_half (satisfied_by y.status) half sat))
+
+  -- and a write that is told is satisfied
+  pub told_is : (y : Claimed) → Among y (next s e).claims → y.claim.write_half ≡ true → tells_write_of told y.claim.seat ≡ true → is_satisfied y ≡ true
+  unfolding changes_between
+  told_is y in_next half on =
+      let change = passing (λ (c : StatusChange). (c.seat == y.claim.seat) && (c.write_half && satisfied_by c.status)) told on in
+      let from = among_filter_map (λ x. status_change (was_in s.claims x.claim) x) (next s e).claims change.0 change.1 in
+      let is = of_change (number_of (was_in s.claims from.0.claim).status == number_of from.0.status) from.0 change.0 from.2 in
+      let parts = and_parts (change.0.seat == y.claim.seat) (change.0.write_half && satisfied_by change.0.status) change.2 in
+      let more = and_parts change.0.write_half (satisfied_by change.0.status) parts.1 in
+      let one : from.0 ≡ y
+      = one_write (next s e).claims (reached_next s e reached comes).sound.one_each from.0 y from.1 in_next (ap (λ (c : StatusChange). c.write_half) (sym is) ∙ more.0) half
+      (ap (λ (c : StatusChange). c.seat) (sym is) ∙ eqb-true change.0.seat y.claim.seat parts.0) in
+      ap is_satisfied (sym one) ∙ ap (λ (c : StatusChange). satisfied_by c.status) (sym is) ∙ more.1
+    where
+      of_change : (b : Bool) (y : Claimed) (c : StatusChange) → cond b None (Some (record { seat = y.claim.seat; write_half = y.claim.write_half; status = y.status })) ≡ Some c → c ≡ record { seat = y.claim.seat; write_half = y.claim.write_half; status = y.status }
+      of_change true y c h = cc
+      of_change false y c h = cc

@@ -1,5 +1,5 @@
 -- What a follower knows of the events that it followed holds with one event more.
-use Rattle.std.proofs.Common.{◌≡◌, ℕ, zero, suc, ◌*◌, ◌≤◌, ◌<◌, true, false, List, [], ◌∷◌, ◌++◌, append_assoc, length, length-append, drop, slice_get, Some, refl, sym, ap, subst, ◌∙◌, arith}
+use Rattle.std.proofs.Common.{◌≡◌, ℕ, zero, suc, ◌*◌, ◌≤◌, ◌<◌, true, false, List, [], ◌∷◌, ◌++◌, append_assoc, length, length-append, drop, refl, sym, ap, subst, ◌∙◌, arith}
 use Rattle.std.proofs.lemmas.List.{take-append-le, take_all}
 use Rattle.std.specs.Vec.{with_items}
 use Rattle.std.specs.declared.vec.Vec.{Vec}
@@ -36,7 +36,7 @@ use Rattle.rwaits.specs.declared.run.Run.{Run}
 use Rattle.rwaits.specs.declared.section.Section.{Section}
 use Rattle.rwaits.specs.Follow.{claims_of, kept_in, table_of, length_by, HasRoom, IsEmpty, AreLong, AreOf, may_wait, WaitApart, kept_of}
 use Rattle.rwaits.specs.declared.lines.Head.{Head}
-use Rattle.rwaits.specs.Lines.{head_of, TellHeads, HeadsTell}
+use Rattle.rwaits.specs.Lines.{TellAt, TellHeads, GoesBy, IsLost, IsTouched, HoldBehind, HoldWritten, ReadStays}
 use Rattle.rwaits.specs.Follows.{HaveRoom, Follows}
 use Rattle.rwaits.specs.Past.{Past, begun, with_event, start_of, state_of, noted, is_issue, StoodBy}
 use Rattle.rwaits.specs.Tracked.{shown, told}
@@ -46,10 +46,14 @@ use Rattle.rwaits.proofs.lists.Kept.{length_claims}
 use Rattle.rwaits.proofs.told.Noted.{lengths_next, lengths_stay, asks_more}
 use Rattle.rwaits.proofs.told.Rooms.{waits_apart, kept_each, all_next_few}
 use Rattle.rmodel.specs.Changes.{changes_between}
-use Rattle.rwaits.specs.Quiet.{GoesOn}
+use Rattle.rwaits.specs.Quiet.{GoesOn, tells_write_of}
+use Rattle.rclaim.specs.declared.changes.StatusChange.{StatusChange}
+use Rattle.rset.specs.Sets.{Set}
+use Rattle.std.specs.FinSet.{contains}
+use Rattle.rwaits.proofs.told.Lost.{behind_before, goes_by, read_stays, told_before}
 use Rattle.rwaits.proofs.told.Grants.{goes_on}
 use Rattle.rwaits.proofs.told.Stood.{stood_by}
-use Rattle.rwaits.proofs.told.Tracking.{shown_at_most, told_are_ended, tracked_next, tracked_opening, was_before}
+use Rattle.rwaits.proofs.told.Tracking.{shown_at_most, told_are_ended, tracked_next, tracked_opening}
 
 -- what runs with room keep is no more than there are seats
 run_few : (r : Run) → HasRoom r → AreAtMost SEATS (kept_in r)
@@ -78,6 +82,9 @@ refilled v rs same = refill v rs same
 
 pub refilled_heads : (v : Vec Head Global) (hs : List Head) → length hs ≡ length v.items → (with_items v hs).items ≡ hs
 refilled_heads v hs same = refill v hs same
+
+pub refilled_sets : (v : Vec Set Global) (ss : List Set) → length ss ≡ length v.items → (with_items v ss).items ≡ ss
+refilled_sets v ss same = refill v ss same
 
 -- the same lengths by another name
 renamed : (by by' len : Claim → ℕ) → ((c : Claim) → by' c ≡ by c) → (m : Moment) → AreOf by len m → AreOf by' len m
@@ -222,15 +229,29 @@ module _ (a : Following) (p : Past) (k : Follows a p) where
         all_from (GoesOn (seat_of e) (changes_between (state_of p) (next (state_of p) e)).grants m n) m
         (λ x there quiet. goes_on (state_of p) e reached comes old x there quiet)
 
-    -- heads that tell of both moments tell of each wait that goes on
-    pub heads_tell : (hs hs' : List Head) → TellHeads hs m → TellHeads hs' n → AllByRecursion (HeadsTell hs hs' m n) n
-    heads_tell hs hs' tells tells' =
-        all_from (HeadsTell hs hs' m n) n
-        (λ x there write w on stood.
-        let y = was_before p.groups p.seats p.cap es k.accepted e comes (waits_in w) x there stood in
-        let was = all_at (λ z. z.claim.write_half ≡ true → slice_get hs z.claim.seat ≡ Some (head_of m z.claim)) m y.0 tells y.1 (ap (λ d. d.write_half) y.2 ∙ write) in
-        let is = all_at (λ z. z.claim.write_half ≡ true → slice_get hs' z.claim.seat ≡ Some (head_of n z.claim)) n x tells' there write in
-        (subst (λ d. slice_get hs d.seat ≡ Some (head_of m d)) y.2 was, is))
+    -- heads that tell of all writes before the event tell of those behind it, and go on as they do
+    pub heads_turn : is_issue e ≡ false → (hs : List Head) (lost : ℕ) (came touched : Set) (last n' : Moment) (statuses : List StatusChange) → last ≡ m → n' ≡ n → IsLost lost e last → statuses ≡ (changes_between (state_of p) (next (state_of p) e)).statuses
+        → ((seat : ℕ) → seat < SEATS → contains came seat ≡ tells_write_of statuses seat) → AllByRecursion (IsTouched lost statuses touched last) last → TellHeads hs last → TellAt hs m n' × AllByRecursion (GoesBy lost came touched m n') n'
+    heads_turn old hs lost came touched last n' statuses is_m is_n is_lost are_told are touch tells = (
+      subst (TellAt hs m) (sym is_n) (told_before (state_of p) e reached comes old hs (subst (TellHeads hs) is_m tells)),
+      subst (λ (z : Moment). AllByRecursion (GoesBy lost came touched m z) z) (sym is_n)
+          (all_from (GoesBy lost came touched m n) n
+          (λ x there. goes_by (state_of p) e reached comes old came (λ seat low. are seat low ∙ ap (λ cs. tells_write_of cs seat) are_told)
+          (all_from (λ y. y.claim.seat < SEATS) m (λ y in_m. seat_in y in_m)) lost (subst (IsLost lost e) is_m is_lost) touched (subst (λ (z : List StatusChange × Moment). AllByRecursion (IsTouched lost z.0 touched z.1) z.1) (λ i. (are_told i, is_m i)) touch) x there (seat_in_next x there))),
+    )
+
+    -- sets that hold all writes before the event hold those behind it
+    pub behind_turn : is_issue e ≡ false → (ss : List Set) (last n' : Moment) → last ≡ m → n' ≡ n → HoldBehind ss last last → HoldBehind ss m n'
+    behind_turn old ss last n' is_m is_n hold = subst (HoldBehind ss m) (sym is_n) (behind_before (state_of p) e reached comes old ss (subst (λ (z : Moment). HoldBehind ss z z) is_m hold))
+
+    -- a read is kept waiting as before where it reads nothing of what came to be held
+    pub reads_next : is_issue e ≡ false → (came written : Set) (last n' : Moment) (statuses : List StatusChange) → last ≡ m → n' ≡ n → statuses ≡ (changes_between (state_of p) (next (state_of p) e)).statuses
+        → ((seat : ℕ) → seat < SEATS → contains came seat ≡ tells_write_of statuses seat) → HoldWritten written came n' → AllByRecursion (ReadStays written last n') n'
+    reads_next old came written last n' statuses is_m is_n are_told are hold =
+        subst (λ (z : Moment × Moment). AllByRecursion (ReadStays written z.0 z.1) z.1) (λ i. (sym is_m i, sym is_n i))
+        (all_from (ReadStays written m n) n
+        (λ x there. read_stays (state_of p) e reached comes old came (λ seat low. are seat low ∙ ap (λ cs. tells_write_of cs seat) are_told)
+        (all_from (λ y. y.claim.seat < SEATS) m (λ y in_m. seat_in y in_m)) written (subst (HoldWritten written came) is_n hold) (seats_next_at SEATS refl) x there))
 
     pub apart_next : EachPair (WaitApart n) n
     apart_next = waits_apart n n (λ x there. there) reached_on.sound.one_each

@@ -1,6 +1,7 @@
 -- Where no seat waits an event ends no wait; and which seats wait behind it.
-use Rattle.std.proofs.Common.{◌≡◌, ◌≢◌, ℕ, ◌==◌, nat_lt, Bool, true, false, not, ◌&&◌, ◌||◌, cond, Option, Some, None, List, [], ◌∷◌, map, refl, sym, ap, subst, ◌∙◌, inl, inr}
+use Rattle.std.proofs.Common.{◌≡◌, ◌≢◌, ℕ, ◌≤◌, ◌==◌, ◌-◌, nat_lt, Bool, true, false, not, ◌&&◌, ◌||◌, cond, Option, Some, None, List, [], ◌∷◌, ◌++◌, arith, drop, length, map, take, refl, sym, ap, subst, ◌∙◌, inl, inr}
 use Rattle.std.proofs.lemmas.Bool.{and_parts, and_from, eq-eqb, eqb-true}
+use Rattle.std.proofs.lemmas.List.{length-drop, take-append-drop, take_all}
 use Rattle.std.specs.List.{filter_map, cons_option, list_any, AllByRecursion}
 use Rattle.std.specs.FinSet.{contains, empty, insert, is_subset, len, len-empty, remove, union}
 use Rattle.std.specs.Ordering.{nat_cmp}
@@ -20,10 +21,11 @@ use Rattle.rmodel.specs.Settling.{settled}
 use Rattle.rmodel.specs.State.{LockState}
 use Rattle.rmodel.specs.Steps.{asking, changed, gets_asked, given, next, with_asked, Comes}
 use Rattle.rmodel.specs.WellFormed.{Among}
-use Rattle.rmodel.proofs.ListFacts.{contrary, false_from, all_at, all_from, among_append, among_filter, any_among, none_from}
-use Rattle.rmodel.proofs.reaching.Came.{among_map, zip_source}
+use Rattle.rmodel.proofs.ListFacts.{contrary, false_from, all_at, all_from, among_append, among_filter, any_among, none_among, none_from}
+use Rattle.rmodel.proofs.reaching.Came.{among_map, came, zip_source}
 use Rattle.rmodel.proofs.reaching.NewClaims.{IsNew, new_claims}
-use Rattle.rmodel.proofs.reaching.Soundness.{sound_changed}
+use Rattle.rmodel.proofs.reaching.Soundness.{seat_is_idle, sound_changed}
+use Rattle.rmodel.proofs.settling.Keeping.{not_false}
 use Rattle.rmodel.proofs.settling.OneSettlement.{both_cases}
 use Rattle.rmodel.proofs.settling.Settlement.{settles_settled}
 use Rattle.rbound.specs.declared.which.Which.{Which}
@@ -37,8 +39,8 @@ use Rattle.rcover.proofs.told.Few.{waits_told}
 use Rattle.rwaits.specs.Follow.{may_wait, kept_of, with_entry}
 use Rattle.rwaits.specs.Past.{is_issue, rises_at}
 use Rattle.rwaits.specs.Tracked.{gone_on, no_sections, told, told_if}
-use Rattle.rwaits.specs.Waiting.{some_wait, HoldWaiting, with_seat, HoldRising, with_risen, risen_by, ends_none}
-use Rattle.rwaits.proofs.told.Quiet.{begun_kept, begun_told, old_rises, old_waits}
+use Rattle.rwaits.specs.Waiting.{some_wait, HoldWaiting, with_seat, HoldRising, with_risen, risen_by, first_of, ends_none}
+use Rattle.rwaits.proofs.told.Quiet.{begun_kept, begun_told, old_rises, old_waits, there_before}
 use Rattle.rwaits.proofs.told.Stood.{before, first_was, rise_was}
 
 or_left : (a b : Bool) → a ≡ true → (a || b) ≡ true
@@ -279,3 +281,48 @@ module _ (s : LockState) (e : Event) (reached : IsReached s) (comes : Comes s e)
 -- an event that may end a wait is no issue
 pub plain_of : (seats : Set) (e : Event) → ends_none seats e ≡ false → is_issue e ≡ false
 plain_of seats e may = false_from (is_issue e) (λ issue. contrary (ends_none seats e) (or_left (is_issue e) (is_subset seats empty) issue) may)
+
+-- ---- where the claims of the seat of an event stand
+
+-- what some behind a place pass, where none before it can
+pub any_behind : (p q : Claimed → Bool) → ((x : Claimed) → p x ≡ true → q x ≡ true) → (i : ℕ) (xs : Moment) → list_any q (take i xs) ≡ false → list_any p (drop i xs) ≡ list_any p xs
+any_behind p q within i xs none =
+    sym (ap (list_any p) (sym (take-append-drop i xs)) ∙ joined (take i xs) (drop i xs)
+    ∙ ap (λ b. b || list_any p (drop i xs)) (none_from p (take i xs) (λ x there. false_from (p x) (λ on. contrary (q x) (within x on) (none_among q (take i xs) x none there)))))
+  where
+    joined : (ys zs : Moment) → list_any p (ys ++ zs) ≡ (list_any p ys || list_any p zs)
+    joined [] zs = refl
+    joined (y ∷ ys) zs = ap (λ b. p y || b) (joined ys zs) ∙ over (p y) (list_any p ys) (list_any p zs)
+      where
+        over : (a b c : Bool) → (a || (b || c)) ≡ ((a || b) || c)
+        over true b c = refl
+        over false b c = refl
+
+-- what stands from a place on
+pub rest_is : (xs : Moment) (i : ℕ) → take (length xs - i) (drop i xs) ≡ drop i xs
+rest_is xs i = let long = length-drop i xs in take_all (length xs - i) (drop i xs) (omega arith)
+
+-- a finish leaves no claim of its seat
+none_left : (s : LockState) (seat : ℕ) → IsReached s → Comes s (Finish seat) → list_any (λ x. x.claim.seat == seat) (next s (Finish seat)).claims ≡ false
+none_left s seat reached comes =
+    none_from (λ x. x.claim.seat == seat) (next s (Finish seat)).claims
+    (λ x there. false_from (x.claim.seat == seat) (λ on.
+    let from = came s (Finish seat) reached comes x there in
+    let same : x.claim.seat ≡ from.0.claim.seat = ap (λ (d : Claim). d.seat) (from.1.given.claim ∙ from.1.by_rule.same) in
+    let kept = (among_filter (λ y. not (y.claim.seat == seat)) s.claims from.0 from.1.in_changed).1 in
+    contrary (from.0.claim.seat == seat) (eq-eqb from.0.claim.seat seat (sym same ∙ eqb-true x.claim.seat seat on)) (not_false (from.0.claim.seat == seat) kept)))
+
+pub none_before : (s : LockState) (e : Event) → IsReached s → Comes s e → (there : ℕ) → there ≡ length s.claims
+    → (first_of e there (length (next s e).claims) ≤ length (next s e).claims) × (list_any (λ x. x.claim.seat == seat_of e) (take (first_of e there (length (next s e).claims)) (next s e).claims) ≡ false)
+none_before s (Issue seat r) reached comes there is =
+    let was = there_before s (Issue seat r) reached comes refl in (
+      subst (λ k. k ≤ length (next s (Issue seat r)).claims) (sym is) was.1,
+      ap (λ k. list_any (λ x. x.claim.seat == seat) (take k (next s (Issue seat r)).claims)) is ∙ ap (list_any (λ x. x.claim.seat == seat)) was.0 ∙ seat_is_idle s seat r comes.accepted,
+    )
+none_before s (Finish seat) reached comes there is =
+    let n = (next s (Finish seat)).claims in (
+      omega arith,
+      ap (list_any (λ x. x.claim.seat == seat)) (take_all (length n) n (omega arith)) ∙ none_left s seat reached comes,
+    )
+none_before s (event.Rise seat) reached comes there is = (omega arith, refl)
+none_before s (event.Ask seat part) reached comes there is = (omega arith, refl)

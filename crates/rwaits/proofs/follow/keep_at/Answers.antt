@@ -5,6 +5,7 @@ use Rattle.rcover.specs.Told.{waits_first, waits_to_rise}
 use Rattle.rcover.specs.Lists.{AreAtMost}
 use Rattle.rwaits.specs.Tracked.{kept_by}
 use Rattle.rwaits.proofs.told.Tables.{first_kept, none_kept}
+use Rattle.rwaits.proofs.told.Undue.{heads_due, undue_kept}
 use Rattle.std.specs.FinSet.{contains}
 use Rattle.rwaits.proofs.told.Waiting.{not_first, not_rise, not_risen}
 use Rattle.rwaits.proofs.follow.keep_at.Goals as goal
@@ -47,3 +48,18 @@ keep_wait-requires-clause-waits c = sym (c.waits_first.ensures c.args.next.now) 
 
 pub keep_wait-requires-clause-stood : goal.keep_wait-requires-clause-stood
 keep_wait-requires-clause-stood c = c.requires.stood.first (sym (c.waits_first.ensures c.args.next.now) ∙ c.if-waits_first.true)
+
+pub returns-then-not-is_due-clause-kept : goal.returns-then-not-is_due-clause-kept
+returns-then-not-is_due-clause-kept c = λ seat.
+    undue_kept c.args.event.now c.args.changed c.args.written c.args.last.now c.args.next.now c.args.x.now c.args.heads.now c.args.next_heads.now c.requires.heads
+    (sym c.is_due.ensures ∙ c.if-not-is_due.true) c.requires.stood c.requires.reads (table_of c.args.runs.now) seat
+
+pub keep_wait-requires-clause-heads : goal.keep_wait-requires-clause-heads
+keep_wait-requires-clause-heads c =
+    heads_due c.args.event.now c.args.changed c.args.written c.args.last.now c.args.next.now c.args.x.now c.args.heads.now c.args.next_heads.now c.requires.heads
+    (sym c.is_due.ensures ∙ c.if-not-is_due.false)
+
+pub keep_wait-requires-then-waits_to_rise-clause-heads : goal.keep_wait-requires-then-waits_to_rise-clause-heads
+keep_wait-requires-then-waits_to_rise-clause-heads c =
+    heads_due c.args.event.now c.args.changed c.args.written c.args.last.now c.args.next.now c.args.x.now c.args.heads.now c.args.next_heads.now c.requires.heads
+    (sym c.is_due.ensures ∙ c.if-not-is_due.false)

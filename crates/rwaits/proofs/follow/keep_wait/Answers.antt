@@ -1,7 +1,9 @@
 use Rattle.std.proofs.Common.{◌≡◌, Some, length, refl, sym, ◌∙◌}
 use Rattle.std.proofs.lemmas.Option.{slice_get_read}
 use Rattle.rwaits.specs.declared.lines.Head.{Head}
+use Rattle.rmodel.proofs.settling.Keeping.{not_false}
 use Rattle.rwaits.specs.Follow.{AreLong}
+use Rattle.rwaits.specs.Past.{rises_at}
 use Rattle.rwaits.proofs.lists.Kept.{all_set, all_get}
 use Rattle.rwaits.proofs.follow.keep_wait.Goals as goal
 
@@ -16,7 +18,7 @@ some_one a b h = cc
 pub keep_by-requires-clause-heads : goal.keep_by-requires-clause-heads
 keep_by-requires-clause-heads c = λ stood write.
     let seat = c.args.x.now.claim.seat in
-    let are = c.requires.heads write c.args.which c.requires.waits (c.requires.stood ∙ sym c.has_stood.ensures ∙ stood) in
+    let are = c.requires.heads (not_false (rises_at c.args.event.now seat) (sym c.has_stood.ensures ∙ stood)) write in
     let hs = c.args.heads.now in
     let hs' = c.args.next_heads.now in (
       some_one _ _ (sym (slice_get_read hs (length hs) seat c.index-heads-x.result refl c.requires.head.0 c.index-heads-x.is) ∙ are.0),

@@ -1,13 +1,16 @@
 use Rattle.std.proofs.Common.{◌≡◌, sym, ap, subst, ◌∙◌}
 use Rattle.std.specs.Option.{IfSome}
+use Rattle.rwaits.specs.declared.lines.Head.{Head}
 use Rattle.rwaits.specs.Follow.{length_by}
+use Rattle.rwaits.specs.Lines.{needs_head}
 use Rattle.rwaits.proofs.lists.Kept.{least_has, keeper_has}
 use Rattle.rwaits.proofs.show.show.Goals as goal
 
 pub returns-then-c-clause-lengths : goal.returns-then-c-clause-lengths
 returns-then-c-clause-lengths c = λ len are own have.
     let by = length_by c.args.lengths.now in
-    c.show_write.ensures.lengths len are (ap by c.least_of.ensures ∙ least_has by len c.args.x.now.claim own c.args.moment.now are ∙ ap len (sym c.least_of.ensures)) have
+    let least = ap (λ (h : Head). h.claim) (c.requires.least (ap (λ w. needs_head w c.args.x.now) c.in-First.is ∙ c.if-c.true)) in
+    c.show_write.ensures.lengths len are (ap by least ∙ least_has by len c.args.x.now.claim own c.args.moment.now are ∙ ap len (sym least)) have
 
 pub returns-else-c-clause-lengths : goal.returns-else-c-clause-lengths
 returns-else-c-clause-lengths c = λ len are own have.
@@ -17,8 +20,8 @@ returns-else-c-clause-lengths c = λ len are own have.
 pub returns-in-Rise-clause-lengths : goal.returns-in-Rise-clause-lengths
 returns-in-Rise-clause-lengths c = λ len are own have.
     let by = length_by c.args.lengths.now in
-    c.show_write-in-Rise.ensures.lengths len are
-    (ap by c.least_of-in-Rise.ensures ∙ least_has by len c.args.x.now.claim own c.args.moment.now are ∙ ap len (sym c.least_of-in-Rise.ensures)) have
+    let least = ap (λ (h : Head). h.claim) (c.requires.least (ap (λ w. needs_head w c.args.x.now) c.in-Rise.is)) in
+    c.show_write-in-Rise.ensures.lengths len are (ap by least ∙ least_has by len c.args.x.now.claim own c.args.moment.now are ∙ ap len (sym least)) have
 
 pub returns-in-Ask-clause-lengths : goal.returns-in-Ask-clause-lengths
 returns-in-Ask-clause-lengths c = λ len are own have. c.show_found.ensures.lengths len are

@@ -42,10 +42,10 @@ quiet_told es m n a x len goes = at (wait_of es m x) refl
     at None is = refl
     at (Some w) is = ap (λ b. cond b None (Some (wait_end w x.claim (numbers_of len (shown w x a m))))) (goes w (waits_told es m x w is))
 
-pub returns-then-is_quiet-clause-told : goal.returns-then-is_quiet-clause-told
-returns-then-is_quiet-clause-told c = λ es asks are own have.
+pub returns-then-is_aside-clause-told : goal.returns-then-is_aside-clause-told
+returns-then-is_aside-clause-told c = λ es asks are own have.
     let before = c.args.ended.now.items in
-    sym (ap (λ o. before ++ option_to_list o) (quiet_told es c.args.last.now c.args.next.now (kept_in c.args.run.now) c.args.x.now (length_in es) (c.requires.quiet (sym c.is_quiet.ensures ∙ c.if-is_quiet.true))) ∙ append-nil before)
+    sym (ap (λ o. before ++ option_to_list o) (quiet_told es c.args.last.now c.args.next.now (kept_in c.args.run.now) c.args.x.now (length_in es) (c.requires.quiet (sym c.is_aside.ensures ∙ c.if-is_aside.true))) ∙ append-nil before)
 
 pub returns-then-not-has-clause-told : goal.returns-then-not-has-clause-told
 returns-then-not-has-clause-told c = λ es asks are own have.

@@ -1,5 +1,5 @@
-use Rattle.std.proofs.Common.{◌≡◌, ℕ, ◌<◌, true, List, ◌∷◌, ◌++◌, length, sym, ap, subst, ◌∙◌, arith}
-use Rattle.std.specs.List.{AllByRecursion}
+use Rattle.std.proofs.Common.{◌≡◌, ℕ, ◌<◌, ◌≤◌, ◌==◌, true, false, List, ◌∷◌, ◌++◌, length, take, sym, ap, subst, ◌∙◌, arith}
+use Rattle.std.specs.List.{list_any, AllByRecursion}
 use Rattle.std.specs.Prelude.{slice_index}
 use Rattle.rset.specs.declared.TheConstants.{SEATS}
 use Rattle.rclaim.specs.Events.{seat_of}
@@ -16,36 +16,45 @@ use Rattle.rwaits.specs.declared.following.Following.{Following}
 use Rattle.rwaits.specs.declared.run.Run.{Run}
 use Rattle.rwaits.specs.Follow.{table_of, length_by, HasRoom, AreLong, AreOf, may_wait, WaitApart, kept_of}
 use Rattle.rwaits.specs.declared.lines.Head.{Head}
-use Rattle.rwaits.specs.Lines.{TellHeads, HeadsTell}
+use Rattle.rclaim.specs.declared.changes.StatusChange.{StatusChange}
+use Rattle.rwaits.proofs.told.Turns.{touched_all}
+use Rattle.rwaits.specs.Lines.{HoldBehind, IsTouched, HeadsTell, IsLost, HoldWritten, TellHeads}
 use Rattle.rclaim.specs.Changes.{ChangeLists}
 use Rattle.rclaim.specs.declared.changes.GrantChange.{GrantChange}
 use Rattle.rmodel.specs.Changes.{changes_between}
 use Rattle.rwaits.specs.Past.{state_of, StoodBy}
-use Rattle.rwaits.specs.Quiet.{GoesOn, NoWriteComes, tells_write}
-use Rattle.rwaits.proofs.told.Grants.{no_write_comes}
+use Rattle.rwaits.specs.Quiet.{GoesOn}
 use Rattle.rwaits.specs.Tracked.{shown, told}
-use Rattle.rwaits.proofs.told.Knowing.{reached, seats_now, shown_few, asks_now, lengths_now, long_now, event_seat, seats_next, apart_next, few_next, lengths_stay_on, lengths_come, refilled, is_moment_now, is_moment_next, known, rising_now, seats_both, rising_next, heads_tell, stood_next, quiet_now}
+use Rattle.rwaits.proofs.told.Knowing.{reached, claims_few, seats_now, shown_few, asks_now, lengths_now, long_now, event_seat, seats_next, apart_next, few_next, lengths_stay_on, lengths_come, refilled, is_moment_now, is_moment_next, known, rising_now, seats_both, rising_next, behind_turn, heads_turn, reads_next, stood_next, quiet_now}
 use Rattle.rwaits.proofs.told.Noted.{asks_at_most}
 use Rattle.rset.specs.Sets.{Set}
 use Rattle.rwaits.specs.Heads.{IsMoment, TellsNow}
-use Rattle.rwaits.specs.Waiting.{HoldRising, HoldWaiting, with_seat}
-use Rattle.rwaits.proofs.told.Waiting.{plain_of, rising_on, waiting_next}
+use Rattle.rwaits.specs.Waiting.{HoldRising, HoldWaiting, with_seat, first_of}
+use Rattle.rwaits.proofs.told.Waiting.{none_before, plain_of, rising_on, waiting_next}
 use Rattle.rwaits.proofs.following.Following.advance.Goals as goal
 
 pub tell-requires-clause-seats : goal.tell-requires-clause-seats
 tell-requires-clause-seats c =
     let p = c.requires.ahead.0 in
     let k = c.requires.ahead.1.follows in
-    let at_m = c.deref-3.ensures.value ∙ c.requires.ahead.1.noted c.requires.other in
-    subst (λ (z : List Run × Moment). AllByRecursion (λ x. (x.claim.seat < length z.0) × (x.claim.seat < length c.args.self.now.asks)) z.1) (λ i. (sym c.deref.ensures.value i, sym at_m i)) (seats_now c.args.self.now p k)
+    let at_m = c.deref-5.ensures.value ∙ c.requires.ahead.1.noted c.requires.other in
+    subst (λ (z : List Run × Moment). AllByRecursion (λ x. (x.claim.seat < length z.0) × (x.claim.seat < length c.args.self.now.asks)) z.1) (λ i. (sym c.deref-2.ensures.value i, sym at_m i)) (seats_now c.args.self.now p k)
+
+pub tell-requires-clause-room : goal.tell-requires-clause-room
+tell-requires-clause-room c =
+    let k = c.requires.ahead.1.follows in
+    let few = claims_few c.args.self.now c.requires.ahead.0 k in
+    let room = k.room.ended in
+    let long = ap (λ (l : Moment). length l) (c.deref-5.ensures.value ∙ c.requires.ahead.1.noted c.requires.other) in
+    omega arith
 
 pub tell-requires-clause-few : goal.tell-requires-clause-few
 tell-requires-clause-few c =
     let p = c.requires.ahead.0 in
     let k = c.requires.ahead.1.follows in
-    let at_m = c.deref-3.ensures.value ∙ c.requires.ahead.1.noted c.requires.other in
+    let at_m = c.deref-5.ensures.value ∙ c.requires.ahead.1.noted c.requires.other in
     subst (λ (z : List Run × Moment). AllByRecursion (λ x. (w : Which) → waits_in w z.1 x ≡ true → AreAtMost SEATS (shown w x (table_of z.0 x.claim.seat) z.1)) z.1)
-    (λ i. (sym c.deref.ensures.value i, sym at_m i)) (shown_few c.args.self.now p k)
+    (λ i. (sym c.deref-2.ensures.value i, sym at_m i)) (shown_few c.args.self.now p k)
 
 pub note_lengths-requires : goal.note_lengths-requires
 note_lengths-requires c = subst (λ l. seat_of c.args.event.now < l) (sym c.requires.ahead.1.follows.room.lengths) (event_seat c.args.self.now c.requires.ahead.0 c.requires.ahead.1.follows c.args.event.now c.requires.ahead.1.comes)
@@ -63,59 +72,66 @@ note_ask-requires-clause-few c =
     let most = c.requires.ahead.2 in
     omega arith
 
-pub tell_both-requires-clause-last : goal.tell_both-requires-clause-last
-tell_both-requires-clause-last c =
+pub tell_now-requires-clause-moment : goal.tell_now-requires-clause-moment
+tell_now-requires-clause-moment c =
     let p = c.requires.ahead.0 in
     let k = c.requires.ahead.1.follows in
-    subst IsMoment (sym (c.deref-5.ensures.value ∙ c.requires.ahead.1.noted c.requires.other)) (is_moment_now c.args.self.now p k)
+    subst IsMoment (sym (c.deref.ensures.value ∙ c.requires.ahead.1.noted c.requires.other)) (is_moment_now c.args.self.now p k)
 
-pub tell_both-requires-clause-next : goal.tell_both-requires-clause-next
-tell_both-requires-clause-next c =
+pub tell_now-requires-clause-room : goal.tell_now-requires-clause-room
+tell_now-requires-clause-room c = c.requires.ahead.1.follows.room.heads
+
+pub tell_now-requires-clause-told : goal.tell_now-requires-clause-told
+tell_now-requires-clause-told c = subst (TellsNow c.args.self.now.heads) (sym (c.deref.ensures.value ∙ c.requires.ahead.1.noted c.requires.other)) c.requires.ahead.1.follows.heads
+
+pub turn-requires-clause-moment : goal.turn-requires-clause-moment
+turn-requires-clause-moment c =
     let p = c.requires.ahead.0 in
     let k = c.requires.ahead.1.follows in
-    subst IsMoment (sym (c.claims-4.ensures ∙ ap (λ (s : LockState). s.claims) c.requires.ahead.1.state)) (is_moment_next c.args.self.now p k c.args.event.now c.requires.ahead.1.comes)
+    subst IsMoment (sym (c.claims-5.ensures ∙ ap (λ (s : LockState). s.claims) c.requires.ahead.1.state)) (is_moment_next c.args.self.now p k c.args.event.now c.requires.ahead.1.comes)
 
-pub tell_both-requires-clause-room : goal.tell_both-requires-clause-room
-tell_both-requires-clause-room c = c.requires.ahead.1.follows.room.heads
-
-pub tell_both-requires-clause-told : goal.tell_both-requires-clause-told
-tell_both-requires-clause-told c = subst (TellsNow c.args.self.now.heads) (sym (c.deref-5.ensures.value ∙ c.requires.ahead.1.noted c.requires.other)) c.requires.ahead.1.follows.heads
-
-pub turn-requires : goal.turn-requires
-turn-requires c = c.tell_both.ensures.room
+pub turn-requires-clause-room : goal.turn-requires-clause-room
+turn-requires-clause-room c = c.tell_now.ensures.room
 
 pub keep-requires-clause-head : goal.keep-requires-clause-head
 keep-requires-clause-head c =
     let p = c.requires.ahead.0 in
     let k = c.requires.ahead.1.follows in
     let e = c.args.event.now in
-    let at_n = c.claims-5.ensures ∙ ap (λ (s : LockState). s.claims) c.requires.ahead.1.state in
-    subst (λ (n : Moment). AllByRecursion (λ x. (x.claim.seat < length c.deref-7.result.now) × (x.claim.seat < length c.deref-8.result.now)) n) (sym at_n)
-    (seats_both c.args.self.now p k e c.requires.ahead.1.comes (length c.deref-7.result.now) (length c.deref-8.result.now)
-    (ap (λ (l : List Head). length l) c.deref-7.ensures.value ∙ c.tell_both.ensures.room.now)
-    (ap (λ (l : List Head). length l) c.deref-8.ensures.value ∙ c.tell_both.ensures.room.next))
+    let at_n = c.claims-7.ensures ∙ ap (λ (s : LockState). s.claims) c.requires.ahead.1.state in
+    subst (λ (n : Moment). AllByRecursion (λ x. (x.claim.seat < length c.deref-11.result.now) × (x.claim.seat < length c.deref-12.result.now)) n) (sym at_n)
+    (seats_both c.args.self.now p k e c.requires.ahead.1.comes (length c.deref-11.result.now) (length c.deref-12.result.now)
+    (ap (λ (l : List Head). length l) c.deref-11.ensures.value ∙ c.turn.ensures.room.last)
+    (ap (λ (l : List Head). length l) c.deref-12.ensures.value ∙ c.turn.ensures.room.now))
 
 pub keep-requires-clause-heads : goal.keep-requires-clause-heads
 keep-requires-clause-heads c =
     let p = c.requires.ahead.0 in
-    let k = c.requires.ahead.1.follows in
+    let g = c.requires.ahead.1 in
+    let k = g.follows in
     let e = c.args.event.now in
-    let at_m = c.requires.ahead.1.noted c.requires.other in
-    let state = c.requires.ahead.1.state in
-    let hs = c.tell_both.new.self.now.items in
-    let hs' = c.tell_both.new.self.next.items in
-    subst (λ (z : List Head × List Head × Moment × Moment). AllByRecursion (HeadsTell z.0 z.1 z.2 z.3) z.3)
-    (λ i. (sym c.deref-7.ensures.value i, sym c.deref-8.ensures.value i, sym (c.deref-9.ensures.value ∙ at_m) i, sym (c.claims-5.ensures ∙ ap (λ (s : LockState). s.claims) state) i))
-    (heads_tell c.args.self.now p k e c.requires.ahead.1.comes hs hs'
-    (subst (TellHeads hs) (c.deref-5.ensures.value ∙ at_m) c.tell_both.ensures.now)
-    (subst (TellHeads hs') (c.claims-4.ensures ∙ ap (λ (s : LockState). s.claims) state) c.tell_both.ensures.next.heads))
+    let m = (state_of p).claims in
+    let state = ap (λ (s : LockState). s.claims) g.state in
+    let at_n = c.claims-7.ensures ∙ state in
+    let statuses = c.deref-7.ensures.value ∙ ap (λ (l : ChangeLists). l.statuses) (c.behind-machine-2.view_is ∙ c.changes-2.ensures ∙ g.changes) in
+    let statuses_2 = c.deref-10.ensures.value ∙ ap (λ (l : ChangeLists). l.statuses) (c.behind-machine-3.view_is ∙ c.changes-3.ensures ∙ g.changes) in
+    let touch : AllByRecursion (IsTouched c.lost-lost.result c.deref-7.result.now c.touched_by-touched.result c.deref.result.now) c.deref.result.now
+    = subst (λ (cs : List StatusChange). AllByRecursion (IsTouched c.lost-lost.result cs c.touched_by-touched.result c.deref.result.now) c.deref.result.now) (statuses_2 ∙ sym statuses)
+    (touched_all c.deref-9.result.now c.lost-lost.result c.deref-10.result.now c.touched_by-touched.result c.touched_by-touched.ensures.lost c.touched_by-touched.ensures.told c.deref.result.now c.deref.result.now
+    (subst (λ (ss : List Set). HoldBehind ss c.deref.result.now c.deref.result.now) (sym c.deref-9.ensures.value) c.tell_now.ensures.told.behind)) in
+    let both =
+    heads_turn c.args.self.now p k e g.comes (plain_of c.args.self.now.waiting e c.requires.other) c.tell_now.new.self.now.items c.lost-lost.result c.seats_told-came.result c.touched_by-touched.result c.deref.result.now c.claims-5.result.now c.deref-7.result.now
+    (c.deref.ensures.value ∙ g.noted c.requires.other) (c.claims-5.ensures ∙ state) (subst (IsLost c.lost-lost.result e) (c.deref-8.ensures.value ∙ sym c.deref.ensures.value) c.lost-lost.ensures) statuses c.seats_told-came.ensures touch c.tell_now.ensures.told.heads in
+    let tell = c.turn.ensures.tell m both.0 both.1 in
+    subst (λ (z : List Head × List Head × Moment × Moment). AllByRecursion (HeadsTell z.0 z.1 c.turn.new.self.changed z.2 z.3) z.3)
+    (λ i. (sym c.deref-12.ensures.value i, sym c.deref-11.ensures.value i, sym (c.deref-13.ensures.value ∙ g.noted c.requires.other) i, (c.claims-5.ensures ∙ sym c.claims-7.ensures) i)) tell
 
 pub keep-requires-clause-seats : goal.keep-requires-clause-seats
 keep-requires-clause-seats c =
     let p = c.requires.ahead.0 in
     let k = c.requires.ahead.1.follows in
     let e = c.args.event.now in
-    let at_n = c.claims-5.ensures ∙ ap (λ (s : LockState). s.claims) c.requires.ahead.1.state in
+    let at_n = c.claims-7.ensures ∙ ap (λ (s : LockState). s.claims) c.requires.ahead.1.state in
     subst (λ (z : List Run × Moment). AllByRecursion (λ x. x.claim.seat < length z.0) z.1) (λ i. (sym c.deref_mut.ensures.value i, sym at_n i)) (seats_next c.args.self.now p k e c.requires.ahead.1.comes)
 
 pub keep-requires-clause-apart : goal.keep-requires-clause-apart
@@ -123,7 +139,7 @@ keep-requires-clause-apart c =
     let p = c.requires.ahead.0 in
     let k = c.requires.ahead.1.follows in
     let e = c.args.event.now in
-    let at_n = c.claims-5.ensures ∙ ap (λ (s : LockState). s.claims) c.requires.ahead.1.state in
+    let at_n = c.claims-7.ensures ∙ ap (λ (s : LockState). s.claims) c.requires.ahead.1.state in
     subst (λ (n : Moment). EachPair (WaitApart n) n) (sym at_n) (apart_next c.args.self.now p k e c.requires.ahead.1.comes)
 
 pub keep-requires-clause-few : goal.keep-requires-clause-few
@@ -131,8 +147,8 @@ keep-requires-clause-few c =
     let p = c.requires.ahead.0 in
     let k = c.requires.ahead.1.follows in
     let e = c.args.event.now in
-    let at_m = c.deref-9.ensures.value ∙ c.requires.ahead.1.noted c.requires.other in
-    let at_n = c.claims-5.ensures ∙ ap (λ (s : LockState). s.claims) c.requires.ahead.1.state in
+    let at_m = c.deref-13.ensures.value ∙ c.requires.ahead.1.noted c.requires.other in
+    let at_n = c.claims-7.ensures ∙ ap (λ (s : LockState). s.claims) c.requires.ahead.1.state in
     subst (λ (z : List Run × Moment × Moment). AllByRecursion (λ x. may_wait z.2 x ≡ true → AreAtMost SEATS (kept_of z.1 z.2 (table_of z.0 x.claim.seat) x)) z.2)
     (λ i. (sym c.deref_mut.ensures.value i, sym at_m i, sym at_n i)) (few_next c.args.self.now p k e c.requires.ahead.1.comes)
 
@@ -143,10 +159,19 @@ returns c = λ p g.
     let a = c.args.self.now in
     let e = c.args.event.now in
     let es = p.events in
-    let at_m = c.deref-9.ensures.value ∙ g.noted c.requires.other in
-    let at_n = c.claims-5.ensures ∙ ap (λ (s : LockState). s.claims) g.state in
-    let told_m = c.deref-3.ensures.value ∙ g.noted c.requires.other in
+    let at_m = c.deref-13.ensures.value ∙ g.noted c.requires.other in
+    let at_n = c.claims-7.ensures ∙ ap (λ (s : LockState). s.claims) g.state in
+    let told_m = c.deref-5.ensures.value ∙ g.noted c.requires.other in
     let told_n = c.claims.ensures ∙ ap (λ (s : LockState). s.claims) g.state in
+    let statuses = c.deref-7.ensures.value ∙ ap (λ (l : ChangeLists). l.statuses) (c.behind-machine-2.view_is ∙ c.changes-2.ensures ∙ g.changes) in
+    let statuses_2 = c.deref-10.ensures.value ∙ ap (λ (l : ChangeLists). l.statuses) (c.behind-machine-3.view_is ∙ c.changes-3.ensures ∙ g.changes) in
+    let touch : AllByRecursion (IsTouched c.lost-lost.result c.deref-7.result.now c.touched_by-touched.result c.deref.result.now) c.deref.result.now
+    = subst (λ (cs : List StatusChange). AllByRecursion (IsTouched c.lost-lost.result cs c.touched_by-touched.result c.deref.result.now) c.deref.result.now) (statuses_2 ∙ sym statuses)
+    (touched_all c.deref-9.result.now c.lost-lost.result c.deref-10.result.now c.touched_by-touched.result c.touched_by-touched.ensures.lost c.touched_by-touched.ensures.told c.deref.result.now c.deref.result.now
+    (subst (λ (ss : List Set). HoldBehind ss c.deref.result.now c.deref.result.now) (sym c.deref-9.ensures.value) c.tell_now.ensures.told.behind)) in
+    let both =
+    heads_turn a p k e comes (plain_of a.waiting e c.requires.other) c.tell_now.new.self.now.items c.lost-lost.result c.seats_told-came.result c.touched_by-touched.result c.deref.result.now c.claims-5.result.now c.deref-7.result.now
+    (c.deref.ensures.value ∙ g.noted c.requires.other) (c.claims-5.ensures ∙ ap (λ (t : LockState). t.claims) g.state) (subst (IsLost c.lost-lost.result e) (c.deref-8.ensures.value ∙ sym c.deref.ensures.value) c.lost-lost.ensures) statuses c.seats_told-came.ensures touch c.tell_now.ensures.told.heads in
     let lengths = c.note_lengths.new.lengths in
     let runs = c.keep.new.runs in
     let same : length runs ≡ length a.runs.items = c.keep.ensures.len ∙ ap (λ (rs : List Run). length rs) c.deref_mut.ensures.value in
@@ -173,22 +198,23 @@ returns c = λ p g.
     (subst (λ (rs : List Run). AllByRecursion (AreLong (length_in (es ++ e ∷ rest))) rs) (sym c.deref_mut.ensures.value) (k.long (e ∷ rest)))))
     c.note_lengths.ensures.value
     (λ seat h. c.note_ask.ensures.value seat (subst (λ l. seat < l) (sym k.room.asks) h))
-    (subst (λ (n : Moment). HoldWaiting c.note_ended.new.waiting n) (c.claims-3.ensures ∙ ap (λ (t : LockState). t.claims) g.state) c.note_ended.ensures)
+    (subst (λ (n : Moment). HoldWaiting c.note_ended.new.waiting n) (c.claims-4.ensures ∙ ap (λ (t : LockState). t.claims) g.state) c.note_ended.ensures)
     (subst (λ (w : Set). HoldRising w (next (state_of p) e).claims) (sym c.note_rise.ensures) (rising_on (state_of p) e (reached a p k) comes a.rising k.rising (plain_of a.waiting e c.requires.other)))
-    (subst (TellsNow c.turn.new.self) (c.claims-4.ensures ∙ ap (λ (t : LockState). t.claims) g.state) (c.turn.ensures.told c.claims-4.result.now c.tell_both.ensures.next))
+    (subst (TellsNow c.turn.new.self) (c.claims-5.ensures ∙ ap (λ (t : LockState). t.claims) g.state) (c.turn.ensures.told (state_of p).claims both.0
+    (behind_turn a p k e comes (plain_of a.waiting e c.requires.other) c.tell_now.new.self.behind.items c.deref.result.now c.claims-5.result.now (c.deref.ensures.value ∙ g.noted c.requires.other) (c.claims-5.ensures ∙ ap (λ (t : LockState). t.claims) g.state) c.tell_now.ensures.told.behind) both.1))
     (c.tell.ensures.told es
     (subst (λ (m : Moment). AllByRecursion (λ x. slice_index a.asks x.claim.seat ≡ asks_since x.claim.seat es) m) (sym told_m) (asks_now a p k))
     (subst (λ (m : Moment). AreOf (length_by a.lengths) (length_in es) m) (sym told_m) (lengths_now a p k))
-    (subst (λ (rs : List Run). AllByRecursion (AreLong (length_in es)) rs) (sym c.deref.ensures.value) (long_now a p k))
-    ∙ (λ i. told es (told_m i) (told_n i) (table_of (c.deref.ensures.value i))))
+    (subst (λ (rs : List Run). AllByRecursion (AreLong (length_in es)) rs) (sym c.deref-2.ensures.value) (long_now a p k))
+    ∙ (λ i. told es (told_m i) (told_n i) (table_of (c.deref-2.ensures.value i))))
 
 pub keep-requires-clause-stood : goal.keep-requires-clause-stood
 keep-requires-clause-stood c =
     let p = c.requires.ahead.0 in
     let k = c.requires.ahead.1.follows in
     let e = c.args.event.now in
-    let at_m = c.deref-9.ensures.value ∙ c.requires.ahead.1.noted c.requires.other in
-    let at_n = c.claims-5.ensures ∙ ap (λ (s : LockState). s.claims) c.requires.ahead.1.state in
+    let at_m = c.deref-13.ensures.value ∙ c.requires.ahead.1.noted c.requires.other in
+    let at_n = c.claims-7.ensures ∙ ap (λ (s : LockState). s.claims) c.requires.ahead.1.state in
     subst (λ (z : Moment × Moment). AllByRecursion (StoodBy e z.0 z.1) z.1) (λ i. (sym at_m i, sym at_n i)) (stood_next c.args.self.now p k e c.requires.ahead.1.comes (plain_of c.args.self.now.waiting c.args.event.now c.requires.other))
 
 pub tell-requires-clause-quiet : goal.tell-requires-clause-quiet
@@ -196,10 +222,10 @@ tell-requires-clause-quiet c =
     let p = c.requires.ahead.0 in
     let k = c.requires.ahead.1.follows in
     let e = c.args.event.now in
-    let at_m = c.deref-3.ensures.value ∙ c.requires.ahead.1.noted c.requires.other in
+    let at_m = c.deref-5.ensures.value ∙ c.requires.ahead.1.noted c.requires.other in
     let at_n = c.claims.ensures ∙ ap (λ (s : LockState). s.claims) c.requires.ahead.1.state in
-    let grants : c.deref-2.result.now ≡ (changes_between (state_of p) (next (state_of p) e)).grants
-    = c.deref-2.ensures.value ∙ ap (λ (l : ChangeLists). l.grants) (c.behind-machine.view_is ∙ c.changes.ensures ∙ c.requires.ahead.1.changes) in
+    let grants : c.deref-4.result.now ≡ (changes_between (state_of p) (next (state_of p) e)).grants
+    = c.deref-4.ensures.value ∙ ap (λ (l : ChangeLists). l.grants) (c.behind-machine.view_is ∙ c.changes.ensures ∙ c.requires.ahead.1.changes) in
     subst (λ (z : ℕ × List GrantChange × Moment × Moment). AllByRecursion (GoesOn z.0 z.1 z.2 z.3) z.2) (λ i. (sym c.seat.ensures i, sym grants i, sym at_m i, sym at_n i))
     (quiet_now c.args.self.now p k e c.requires.ahead.1.comes (plain_of c.args.self.now.waiting c.args.event.now c.requires.other))
 
@@ -207,7 +233,7 @@ pub keep-requires-clause-last_rises : goal.keep-requires-clause-last_rises
 keep-requires-clause-last_rises c =
     let p = c.requires.ahead.0 in
     let k = c.requires.ahead.1.follows in
-    let at_m = c.deref-9.ensures.value ∙ c.requires.ahead.1.noted c.requires.other in
+    let at_m = c.deref-13.ensures.value ∙ c.requires.ahead.1.noted c.requires.other in
     subst (EachPair Rises) (sym at_m) (rising_now c.args.self.now p k)
 
 pub keep-requires-clause-next_rises : goal.keep-requires-clause-next_rises
@@ -215,7 +241,7 @@ keep-requires-clause-next_rises c =
     let p = c.requires.ahead.0 in
     let k = c.requires.ahead.1.follows in
     let e = c.args.event.now in
-    let at_n = c.claims-5.ensures ∙ ap (λ (s : LockState). s.claims) c.requires.ahead.1.state in
+    let at_n = c.claims-7.ensures ∙ ap (λ (s : LockState). s.claims) c.requires.ahead.1.state in
     subst (EachPair Rises) (sym at_n) (rising_next c.args.self.now p k e c.requires.ahead.1.comes)
 
 pub note_ended-requires : goal.note_ended-requires
@@ -223,32 +249,52 @@ note_ended-requires c =
     let p = c.requires.ahead.0 in
     let k = c.requires.ahead.1.follows in
     let e = c.args.event.now in
-    let at_n : c.claims-2.result.now ≡ (next (state_of p) e).claims = c.claims-2.ensures ∙ ap (λ (t : LockState). t.claims) c.requires.ahead.1.state in
+    let at_n : c.claims-3.result.now ≡ (next (state_of p) e).claims = c.claims-3.ensures ∙ ap (λ (t : LockState). t.claims) c.requires.ahead.1.state in
     subst (λ (z : Set × Moment). HoldWaiting z.0 z.1)
-    (λ i. (sym (c.note_seat.ensures ∙ (λ j. with_seat c.args.self.now.waiting (at_n j) (c.seat-2.ensures j))) i, sym (c.claims-3.ensures ∙ ap (λ (t : LockState). t.claims) c.requires.ahead.1.state) i))
+    (λ i. (sym (c.note_seat.ensures ∙ (λ j. with_seat c.args.self.now.waiting (at_n j) (c.seat-2.ensures j))) i, sym (c.claims-4.ensures ∙ ap (λ (t : LockState). t.claims) c.requires.ahead.1.state) i))
     (waiting_next (state_of p) e (reached c.args.self.now p k) c.requires.ahead.1.comes c.args.self.now.waiting k.waiting)
 
-pub note_seat-requires : goal.note_seat-requires
-note_seat-requires c = subst (λ l. l < SEATS) (sym c.seat-2.ensures) (event_seat c.args.self.now c.requires.ahead.0 c.requires.ahead.1.follows c.args.event.now c.requires.ahead.1.comes)
+pub note_seat-requires-clause-low : goal.note_seat-requires-clause-low
+note_seat-requires-clause-low c = subst (λ l. l < SEATS) (sym c.seat-2.ensures) (event_seat c.args.self.now c.requires.ahead.0 c.requires.ahead.1.follows c.args.event.now c.requires.ahead.1.comes)
+
+pub note_seat-requires-clause-first : goal.note_seat-requires-clause-first
+note_seat-requires-clause-first c =
+    let g = c.requires.ahead.1 in
+    let p = c.requires.ahead.0 in
+    let e = c.args.event.now in
+    let is : c.first_of-first.result ≡ first_of e c.args.self.now.there (length c.claims-3.result.now) = c.first_of-first.ensures ∙ ap (λ (l : Moment). first_of e c.args.self.now.there (length l)) (c.claims-2.ensures ∙ sym c.claims-3.ensures) in
+    subst (λ k. k ≤ length c.claims-3.result.now) (sym is)
+    (subst (λ (n : Moment). first_of e c.args.self.now.there (length n) ≤ length n) (sym (c.claims-3.ensures ∙ ap (λ (t : LockState). t.claims) g.state))
+    (none_before (state_of p) e (reached c.args.self.now p g.follows) g.comes c.args.self.now.there g.there).0)
+
+pub note_seat-requires-clause-none : goal.note_seat-requires-clause-none
+note_seat-requires-clause-none c =
+    let g = c.requires.ahead.1 in
+    let p = c.requires.ahead.0 in
+    let e = c.args.event.now in
+    let is : c.first_of-first.result ≡ first_of e c.args.self.now.there (length c.claims-3.result.now) = c.first_of-first.ensures ∙ ap (λ (l : Moment). first_of e c.args.self.now.there (length l)) (c.claims-2.ensures ∙ sym c.claims-3.ensures) in
+    subst (λ (z : ℕ × ℕ). list_any (λ x. x.claim.seat == z.0) (take z.1 c.claims-3.result.now) ≡ false) (λ i. (sym c.seat-2.ensures i, sym is i))
+    (subst (λ (n : Moment). list_any (λ x. x.claim.seat == seat_of e) (take (first_of e c.args.self.now.there (length n)) n) ≡ false) (sym (c.claims-3.ensures ∙ ap (λ (t : LockState). t.claims) g.state))
+    (none_before (state_of p) e (reached c.args.self.now p g.follows) g.comes c.args.self.now.there g.there).1)
 
 pub note_rise-requires : goal.note_rise-requires
 note_rise-requires c = event_seat c.args.self.now c.requires.ahead.0 c.requires.ahead.1.follows c.args.event.now c.requires.ahead.1.comes
 
 pub tell-requires-clause-low : goal.tell-requires-clause-low
 tell-requires-clause-low c =
-    subst (λ (m : Moment). AllByRecursion (λ x. x.claim.seat < SEATS) m) (sym (c.deref-3.ensures.value ∙ c.requires.ahead.1.noted c.requires.other)) (is_moment_now c.args.self.now c.requires.ahead.0 c.requires.ahead.1.follows).seats
+    subst (λ (m : Moment). AllByRecursion (λ x. x.claim.seat < SEATS) m) (sym (c.deref-5.ensures.value ∙ c.requires.ahead.1.noted c.requires.other)) (is_moment_now c.args.self.now c.requires.ahead.0 c.requires.ahead.1.follows).seats
 
 pub tell-requires-clause-waiting : goal.tell-requires-clause-waiting
 tell-requires-clause-waiting c =
-    subst (λ (m : Moment). HoldWaiting c.args.self.now.waiting m) (sym (c.deref-3.ensures.value ∙ c.requires.ahead.1.noted c.requires.other)) c.requires.ahead.1.follows.waiting
+    subst (λ (m : Moment). HoldWaiting c.args.self.now.waiting m) (sym (c.deref-5.ensures.value ∙ c.requires.ahead.1.noted c.requires.other)) c.requires.ahead.1.follows.waiting
 
 pub keep-requires-clause-low : goal.keep-requires-clause-low
 keep-requires-clause-low c =
-    subst (λ (m : Moment). AllByRecursion (λ x. x.claim.seat < SEATS) m) (sym (c.claims-5.ensures ∙ ap (λ (s : LockState). s.claims) c.requires.ahead.1.state))
+    subst (λ (m : Moment). AllByRecursion (λ x. x.claim.seat < SEATS) m) (sym (c.claims-7.ensures ∙ ap (λ (s : LockState). s.claims) c.requires.ahead.1.state))
     (is_moment_next c.args.self.now c.requires.ahead.0 c.requires.ahead.1.follows c.args.event.now c.requires.ahead.1.comes).seats
 
 pub keep-requires-clause-waiting : goal.keep-requires-clause-waiting
-keep-requires-clause-waiting c = subst (λ (n : Moment). HoldWaiting c.note_ended.new.waiting n) (c.claims-3.ensures ∙ sym c.claims-5.ensures) c.note_ended.ensures
+keep-requires-clause-waiting c = subst (λ (n : Moment). HoldWaiting c.note_ended.new.waiting n) (c.claims-4.ensures ∙ sym c.claims-7.ensures) c.note_ended.ensures
 
 pub keep-requires-clause-rising : goal.keep-requires-clause-rising
 keep-requires-clause-rising c =
@@ -256,18 +302,41 @@ keep-requires-clause-rising c =
     let g = c.requires.ahead.1 in
     let e = c.args.event.now in
     let a = c.args.self.now in
-    subst (λ (z : Set × Moment). HoldRising z.0 z.1) (λ i. (sym c.note_rise.ensures i, sym (c.claims-5.ensures ∙ ap (λ (s : LockState). s.claims) g.state) i))
+    subst (λ (z : Set × Moment). HoldRising z.0 z.1) (λ i. (sym c.note_rise.ensures i, sym (c.claims-7.ensures ∙ ap (λ (s : LockState). s.claims) g.state) i))
     (rising_on (state_of p) e (reached a p g.follows) g.comes a.rising g.follows.rising (plain_of a.waiting e c.requires.other))
 
-pub keep-requires-clause-comes : goal.keep-requires-clause-comes
-keep-requires-clause-comes c = λ off.
+pub written_by-requires : goal.written_by-requires
+written_by-requires c =
+    subst (λ (m : Moment). AllByRecursion (λ x. x.claim.seat < SEATS) m) (sym (c.claims-6.ensures ∙ ap (λ (s : LockState). s.claims) c.requires.ahead.1.state))
+    (is_moment_next c.args.self.now c.requires.ahead.0 c.requires.ahead.1.follows c.args.event.now c.requires.ahead.1.comes).seats
+
+pub keep-requires-clause-reads : goal.keep-requires-clause-reads
+keep-requires-clause-reads c =
     let p = c.requires.ahead.0 in
     let g = c.requires.ahead.1 in
     let e = c.args.event.now in
     let a = c.args.self.now in
-    let at_m = c.deref-9.ensures.value ∙ g.noted c.requires.other in
-    let at_n = c.claims-5.ensures ∙ ap (λ (s : LockState). s.claims) g.state in
-    let statuses : c.deref-6.result.now ≡ (changes_between (state_of p) (next (state_of p) e)).statuses
-    = c.deref-6.ensures.value ∙ ap (λ (l : ChangeLists). l.statuses) (c.behind-machine-2.view_is ∙ c.changes-2.ensures ∙ g.changes) in
-    subst (λ (z : Moment × Moment). NoWriteComes z.0 z.1) (λ i. (sym at_m i, sym at_n i))
-    (no_write_comes (state_of p) e (reached a p g.follows) g.comes (plain_of a.waiting e c.requires.other) (ap tells_write (sym statuses) ∙ sym c.tells_write.ensures ∙ off))
+    let statuses = c.deref-7.ensures.value ∙ ap (λ (l : ChangeLists). l.statuses) (c.behind-machine-2.view_is ∙ c.changes-2.ensures ∙ g.changes) in
+    reads_next a p g.follows e g.comes (plain_of a.waiting e c.requires.other) c.seats_told-came.result c.written_by.result c.deref-13.result.now c.claims-7.result.now c.deref-7.result.now
+    (c.deref-13.ensures.value ∙ g.noted c.requires.other) (c.claims-7.ensures ∙ ap (λ (s : LockState). s.claims) g.state) statuses c.seats_told-came.ensures
+    (subst (λ (n : Moment). HoldWritten c.written_by.result c.seats_told-came.result n) (c.claims-6.ensures ∙ sym c.claims-7.ensures) c.written_by.ensures)
+
+pub lost-lost-requires-clause-low : goal.lost-lost-requires-clause-low
+lost-lost-requires-clause-low c = event_seat c.args.self.now c.requires.ahead.0 c.requires.ahead.1.follows c.args.event.now c.requires.ahead.1.comes
+
+pub lost-lost-requires-clause-room : goal.lost-lost-requires-clause-room
+lost-lost-requires-clause-room c = c.tell_now.ensures.room
+
+pub lost-lost-requires-clause-told : goal.lost-lost-requires-clause-told
+lost-lost-requires-clause-told c = subst (λ (m : Moment). TellHeads c.tell_now.new.self.now.items m) (c.deref.ensures.value ∙ sym c.deref-8.ensures.value) c.tell_now.ensures.told.heads
+
+pub tell-requires-clause-head : goal.tell-requires-clause-head
+tell-requires-clause-head c =
+    let p = c.requires.ahead.0 in
+    let k = c.requires.ahead.1.follows in
+    let at_m = c.deref-5.ensures.value ∙ c.requires.ahead.1.noted c.requires.other in
+    let long = ap (λ (l : List Head). length l) c.deref-3.ensures.value ∙ c.tell_now.ensures.room.now in
+    subst (λ (z : ℕ × Moment). AllByRecursion (λ x. x.claim.seat < z.0) z.1) (λ i. (sym long i, sym at_m i)) (is_moment_now c.args.self.now p k).seats
+
+pub tell-requires-clause-heads : goal.tell-requires-clause-heads
+tell-requires-clause-heads c = subst (λ (z : List Head × Moment). TellHeads z.0 z.1) (λ i. (sym c.deref-3.ensures.value i, (c.deref.ensures.value ∙ sym c.deref-5.ensures.value) i)) c.tell_now.ensures.told.heads

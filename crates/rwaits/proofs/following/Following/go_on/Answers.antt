@@ -1,5 +1,5 @@
-use Rattle.std.proofs.Common.{◌≡◌, ℕ, ◌<◌, List, ◌∷◌, ◌++◌, ◌≤◌, length, take, sym, ap, subst, ◌∙◌, arith}
-use Rattle.std.specs.List.{AllByRecursion}
+use Rattle.std.proofs.Common.{◌≡◌, ℕ, ◌<◌, ◌==◌, false, List, ◌∷◌, ◌++◌, ◌≤◌, length, take, sym, ap, subst, ◌∙◌, arith}
+use Rattle.std.specs.List.{list_any, AllByRecursion}
 use Rattle.std.specs.Vec.{with_items}
 use Rattle.rset.specs.declared.TheConstants.{SEATS}
 use Rattle.rclaim.specs.Events.{seat_of}
@@ -12,13 +12,13 @@ use Rattle.rwaits.specs.declared.run.Run.{Run}
 use Rattle.rwaits.specs.Follow.{table_of, HasRoom, AreLong, with_entry}
 use Rattle.rwaits.specs.Past.{state_of}
 use Rattle.rwaits.specs.Heads.{IsMoment, TellsNow}
-use Rattle.rwaits.specs.Waiting.{HoldRising, HoldWaiting, with_risen, with_seat}
+use Rattle.rwaits.specs.Waiting.{HoldRising, HoldWaiting, with_risen, with_seat, first_of}
 use Rattle.rwaits.proofs.told.Quiet.{there_before}
 use Rattle.rset.specs.Sets.{Set}
 use Rattle.rwaits.specs.Tracked.{no_sections}
 use Rattle.rwaits.proofs.told.Knowing.{reached, event_seat, is_moment_next, refilled, known}
 use Rattle.rwaits.proofs.told.Noted.{asks_at_most}
-use Rattle.rwaits.proofs.told.Waiting.{calm_all, calm_none, rising_next, waiting_next}
+use Rattle.rwaits.proofs.told.Waiting.{calm_all, calm_none, none_before, rising_next, waiting_next}
 use Rattle.rwaits.proofs.following.Following.go_on.Goals as goal
 
 pub clear_run-requires-clause-seat : goal.clear_run-requires-clause-seat
@@ -80,22 +80,42 @@ returns c = λ p g.
     c.note_lengths.ensures.value
     (λ seat h. c.note_ask.ensures.value seat (subst (λ l. seat < l) (sym k.room.asks) h))
     (subst (λ (w : Set). HoldWaiting w (next (state_of p) e).claims)
-    (sym (c.note_seat.ensures ∙ (λ i. with_seat a.waiting ((c.claims.ensures ∙ ap (λ (t : LockState). t.claims) g.state) i) (c.seat-2.ensures i))))
+    (sym (c.note_seat.ensures ∙ (λ i. with_seat a.waiting ((c.claims-2.ensures ∙ ap (λ (t : LockState). t.claims) g.state) i) (c.seat-2.ensures i))))
     (waiting_next (state_of p) e (reached a p k) comes a.waiting k.waiting))
     (subst (λ (w : Set). HoldRising w (next (state_of p) e).claims)
-    (sym (c.note_risen.ensures ∙ (λ i. with_risen a.rising ((c.claims-2.ensures ∙ ap (λ (t : LockState). t.claims) g.state) i) (c.seat-3.ensures i))))
+    (sym (c.note_risen.ensures ∙ (λ i. with_risen a.rising ((c.claims-3.ensures ∙ ap (λ (t : LockState). t.claims) g.state) i) (c.seat-3.ensures i))))
     (rising_next (state_of p) e (reached a p k) comes a.rising k.rising))
-    (subst (TellsNow c.pass.new.self) (c.claims-3.ensures ∙ ap (λ (t : LockState). t.claims) g.state) c.pass.ensures.told)
+    (subst (TellsNow c.pass.new.self) (c.claims-4.ensures ∙ ap (λ (t : LockState). t.claims) g.state) c.pass.ensures.told)
     (c.clear.ensures.items ∙ sym (calm_none (state_of p) e (reached a p k) comes a.waiting k.waiting c.requires.calm es table))
 
-pub note_seat-requires : goal.note_seat-requires
-note_seat-requires c = subst (λ l. l < SEATS) (sym c.seat-2.ensures) (event_seat c.args.self.now c.requires.ahead.0 c.requires.ahead.1.follows c.args.event.now c.requires.ahead.1.comes)
+pub note_seat-requires-clause-low : goal.note_seat-requires-clause-low
+note_seat-requires-clause-low c = subst (λ l. l < SEATS) (sym c.seat-2.ensures) (event_seat c.args.self.now c.requires.ahead.0 c.requires.ahead.1.follows c.args.event.now c.requires.ahead.1.comes)
+
+pub note_seat-requires-clause-first : goal.note_seat-requires-clause-first
+note_seat-requires-clause-first c =
+    let g = c.requires.ahead.1 in
+    let p = c.requires.ahead.0 in
+    let e = c.args.event.now in
+    let is : c.first_of-first.result ≡ first_of e c.args.self.now.there (length c.claims-2.result.now) = c.first_of-first.ensures ∙ ap (λ (l : Moment). first_of e c.args.self.now.there (length l)) (c.claims.ensures ∙ sym c.claims-2.ensures) in
+    subst (λ k. k ≤ length c.claims-2.result.now) (sym is)
+    (subst (λ (n : Moment). first_of e c.args.self.now.there (length n) ≤ length n) (sym (c.claims-2.ensures ∙ ap (λ (t : LockState). t.claims) g.state))
+    (none_before (state_of p) e (reached c.args.self.now p g.follows) g.comes c.args.self.now.there g.there).0)
+
+pub note_seat-requires-clause-none : goal.note_seat-requires-clause-none
+note_seat-requires-clause-none c =
+    let g = c.requires.ahead.1 in
+    let p = c.requires.ahead.0 in
+    let e = c.args.event.now in
+    let is : c.first_of-first.result ≡ first_of e c.args.self.now.there (length c.claims-2.result.now) = c.first_of-first.ensures ∙ ap (λ (l : Moment). first_of e c.args.self.now.there (length l)) (c.claims.ensures ∙ sym c.claims-2.ensures) in
+    subst (λ (z : ℕ × ℕ). list_any (λ x. x.claim.seat == z.0) (take z.1 c.claims-2.result.now) ≡ false) (λ i. (sym c.seat-2.ensures i, sym is i))
+    (subst (λ (n : Moment). list_any (λ x. x.claim.seat == seat_of e) (take (first_of e c.args.self.now.there (length n)) n) ≡ false) (sym (c.claims-2.ensures ∙ ap (λ (t : LockState). t.claims) g.state))
+    (none_before (state_of p) e (reached c.args.self.now p g.follows) g.comes c.args.self.now.there g.there).1)
 
 pub pass-requires-clause-moment : goal.pass-requires-clause-moment
 pass-requires-clause-moment c =
     let p = c.requires.ahead.0 in
     let k = c.requires.ahead.1.follows in
-    subst IsMoment (sym (c.claims-3.ensures ∙ ap (λ (s : LockState). s.claims) c.requires.ahead.1.state)) (is_moment_next c.args.self.now p k c.args.event.now c.requires.ahead.1.comes)
+    subst IsMoment (sym (c.claims-4.ensures ∙ ap (λ (s : LockState). s.claims) c.requires.ahead.1.state)) (is_moment_next c.args.self.now p k c.args.event.now c.requires.ahead.1.comes)
 
 pub pass-requires-clause-room : goal.pass-requires-clause-room
 pass-requires-clause-room c = c.requires.ahead.1.follows.room.heads
@@ -107,10 +127,30 @@ pass-requires-clause-told c = λ brought.
     let k = g.follows in
     let e = c.args.event.now in
     let was = there_before (state_of p) e (reached c.args.self.now p k) g.comes (sym c.is_issue.ensures ∙ brought) in
-    let at_n = c.claims-3.ensures ∙ ap (λ (s : LockState). s.claims) g.state in (
+    let at_n = c.claims-4.ensures ∙ ap (λ (s : LockState). s.claims) g.state in (
       subst (λ (z : ℕ × Moment). z.0 ≤ length z.1) (λ i. (sym g.there i, sym at_n i)) was.1,
       subst (TellsNow c.args.self.now.heads) (sym ((λ i. take (g.there i) (at_n i)) ∙ was.0)) k.heads,
     )
 
-pub note_risen-requires : goal.note_risen-requires
-note_risen-requires c = subst (λ l. l < SEATS) (sym c.seat-3.ensures) (event_seat c.args.self.now c.requires.ahead.0 c.requires.ahead.1.follows c.args.event.now c.requires.ahead.1.comes)
+pub note_risen-requires-clause-low : goal.note_risen-requires-clause-low
+note_risen-requires-clause-low c = subst (λ l. l < SEATS) (sym c.seat-3.ensures) (event_seat c.args.self.now c.requires.ahead.0 c.requires.ahead.1.follows c.args.event.now c.requires.ahead.1.comes)
+
+pub note_risen-requires-clause-first : goal.note_risen-requires-clause-first
+note_risen-requires-clause-first c =
+    let g = c.requires.ahead.1 in
+    let p = c.requires.ahead.0 in
+    let e = c.args.event.now in
+    let is : c.first_of-first.result ≡ first_of e c.args.self.now.there (length c.claims-3.result.now) = c.first_of-first.ensures ∙ ap (λ (l : Moment). first_of e c.args.self.now.there (length l)) (c.claims.ensures ∙ sym c.claims-3.ensures) in
+    subst (λ k. k ≤ length c.claims-3.result.now) (sym is)
+    (subst (λ (n : Moment). first_of e c.args.self.now.there (length n) ≤ length n) (sym (c.claims-3.ensures ∙ ap (λ (t : LockState). t.claims) g.state))
+    (none_before (state_of p) e (reached c.args.self.now p g.follows) g.comes c.args.self.now.there g.there).0)
+
+pub note_risen-requires-clause-none : goal.note_risen-requires-clause-none
+note_risen-requires-clause-none c =
+    let g = c.requires.ahead.1 in
+    let p = c.requires.ahead.0 in
+    let e = c.args.event.now in
+    let is : c.first_of-first.result ≡ first_of e c.args.self.now.there (length c.claims-3.result.now) = c.first_of-first.ensures ∙ ap (λ (l : Moment). first_of e c.args.self.now.there (length l)) (c.claims.ensures ∙ sym c.claims-3.ensures) in
+    subst (λ (z : ℕ × ℕ). list_any (λ x. x.claim.seat == z.0) (take z.1 c.claims-3.result.now) ≡ false) (λ i. (sym c.seat-3.ensures i, sym is i))
+    (subst (λ (n : Moment). list_any (λ x. x.claim.seat == seat_of e) (take (first_of e c.args.self.now.there (length n)) n) ≡ false) (sym (c.claims-3.ensures ∙ ap (λ (t : LockState). t.claims) g.state))
+    (none_before (state_of p) e (reached c.args.self.now p g.follows) g.comes c.args.self.now.there g.there).1)

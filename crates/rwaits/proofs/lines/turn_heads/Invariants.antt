@@ -1,0 +1,15 @@
+use Rattle.std.proofs.Common.{◌≡◌, length, take, drop}
+use Rattle.std.specs.List.{AllByRecursion}
+use Rattle.rcover.specs.Moments.{Moment}
+use Rattle.rwaits.specs.Lines.{TellAt, GoesBy, HoldBehindBut}
+use Rattle.rwaits.proofs.told.Turns.{AreHeld, AreTurned}
+use Rattle.rwaits.proofs.lines.turn_heads.Given as goal
+
+abbrev pub invariant-loop-i : goal.invariant-loop-i
+invariant-loop-i l = record {
+  now_len : length l.now ≡ length l.fn.now;
+  last_len : length l.last ≡ length l.fn.last;
+  behind_len : length l.behind ≡ length l.fn.behind;
+  told : (m : Moment) → TellAt l.fn.now m l.moment → AllByRecursion (GoesBy l.lost l.came l.touched m l.moment) l.moment → AreTurned l.now l.last l.changed m l.moment (take l.i l.moment) (drop l.i l.moment);
+  held : (m : Moment) → TellAt l.fn.now m l.moment → AllByRecursion (GoesBy l.lost l.came l.touched m l.moment) l.moment → HoldBehindBut l.lost l.fn.behind m l.moment → AreHeld l.lost l.behind m l.moment (take l.i l.moment) (drop l.i l.moment);
+}
