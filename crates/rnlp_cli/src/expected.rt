@@ -4,8 +4,8 @@ use rclaim::{Changes, GrantChange, Status, StatusChange};
 use rcover::WaitEnd;
 use rforms::Code;
 use rmodel::Machine;
+use rreading::Reading;
 use rset::{NameTable, ResourceSet};
-use rtrace::Reading;
 use rvalue::Ledger;
 use std::alloc::{AllocError, Global};
 

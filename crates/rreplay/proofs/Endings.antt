@@ -31,8 +31,8 @@ use Rattle.rreport.specs.Report.{ReportFields}
 use Rattle.rreport.specs.Told.{told, leaves_from}
 use Rattle.rreport.proofs.Parts.{parts_are}
 use Rattle.rwaits.specs.Past.{begun}
-use Rattle.rtrace.specs.Knows.{Knows}
-use Rattle.rtrace.specs.declared.reading.Reading.{Reading}
+use Rattle.rreading.specs.Knows.{Knows}
+use Rattle.rreading.specs.declared.reading.Reading.{Reading}
 use Rattle.rreplay.specs.Stepping.{IsAtHead, AreStepsOf}
 use Rattle.rreplay.specs.declared.steps.Steps.{Steps}
 use Rattle.rreplay.specs.Names.{names_read}

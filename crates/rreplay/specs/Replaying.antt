@@ -7,8 +7,8 @@ use Rattle.rforms.specs.Waits.{events_of, all_ended, no_bounds}
 use Rattle.rreport.specs.Behind.{past_in}
 use Rattle.rreport.specs.Gathered.{KnowsGathered}
 use Rattle.rreport.specs.Open.{open_told}
-use Rattle.rtrace.specs.Knows.{Knows}
-use Rattle.rtrace.specs.declared.reading.Reading.{Reading}
+use Rattle.rreading.specs.Knows.{Knows}
+use Rattle.rreading.specs.declared.reading.Reading.{Reading}
 use Rattle.rreplay.specs.declared.recording.Recording.{Recording}
 use Rattle.rreplay.specs.declared.replaying.Replaying.{Replaying}
 use Rattle.rreplay.specs.declared.replaying.Telling.{Telling}

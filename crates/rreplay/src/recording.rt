@@ -4,12 +4,13 @@ ghost use Rattle.csv.specs.Records.{fields_of};
 ghost use Rattle.rforms.specs.Faults.{is_ended};
 ghost use Rattle.rforms.specs.Heads.{opening_of};
 ghost use Rattle.rforms.specs.Reports.{Report};
-ghost use Rattle.rforms.specs.SoFar.{SoFar, head_in};
+ghost use Rattle.rforms.specs.SoFar.{SoFar, nothing_yet, head_in};
 ghost use Rattle.rforms.specs.Takers.{IsFirstFault};
 ghost use Rattle.rforms.specs.Texts.{IsTextOf, report_text};
 ghost use Rattle.rforms.specs.declared.fault.Code.{Code};
 ghost use Rattle.rforms.specs.declared.fault.Fault.{Fault};
-ghost use Rattle.rtrace.specs.Knows.{Knows};
+ghost use Rattle.rreading.specs.Knows.{Knows};
+ghost use Rattle.rreplay.specs.Replaying.{KnowsSteps};
 ghost use Rattle.rreplay.specs.Stepping.{AreStepsOf};
 
 use crate::replaying::{Replayed, Replaying};
@@ -19,7 +20,7 @@ use rclaim::Event;
 use rforms::{Code, Records, RowErr, TextErr, take_text};
 use rmodel::Machine;
 use rplain::Plain;
-use rtrace::{Reading, Taken};
+use rreading::{Reading, Taken};
 use std::alloc::{AllocError, Global};
 use std::mem;
 
@@ -145,8 +146,20 @@ pub fn recorded_replay_of(alloc: Global, bytes: &[u8]) -> Result<Recorded, TextE
     ensures made { IfOk result (λ made. (report : Report) × IsTextOf false bytes.now report × (made.replayed.head ++ (made.replayed.history ++ made.replayed.ending) ≡ report_text report) × AreStepsOf report made.steps) }
     ensures bad { (fault : Fault Code) → result ≡ Err (TextErr.Bad fault) → IsFirstFault false bytes.now fault }
 {
-    let mut taker = Recording::new(alloc);
-    match take_text(alloc, bytes, &mut taker) {
+    recorded_replay_by(alloc, bytes, &mut Recording::new(alloc))
+}
+
+// The same, by a taker that has taken nothing.
+fn recorded_replay_by(
+    alloc: Global,
+    bytes: &[u8],
+    taker: &mut Recording,
+) -> Result<Recorded, TextErr>
+    requires { KnowsSteps taker.old nothing_yet }
+    ensures made { IfOk result (λ made. (report : Report) × IsTextOf false bytes.now report × (made.replayed.head ++ (made.replayed.history ++ made.replayed.ending) ≡ report_text report) × AreStepsOf report made.steps) }
+    ensures bad { (fault : Fault Code) → result ≡ Err (TextErr.Bad fault) → IsFirstFault false bytes.now fault }
+{
+    match take_text(alloc, bytes, taker) {
         Ok(()) => match taker.made() {
             Ok(made) => Ok(made),
             Err(_) => Err(TextErr::Memory),

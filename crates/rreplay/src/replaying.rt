@@ -9,7 +9,7 @@ ghost use Rattle.rforms.specs.Waits.{bound_in};
 ghost use Rattle.rreport.specs.Behind.{IsToldWhole};
 ghost use Rattle.rforms.specs.Lines.{Happens, Ends};
 ghost use Rattle.rforms.specs.Reports.{Report, Entry, declared_lines, history_lines};
-ghost use Rattle.rforms.specs.SoFar.{SoFar, told_in};
+ghost use Rattle.rforms.specs.SoFar.{SoFar, nothing_yet, told_in};
 ghost use Rattle.rforms.specs.Takers.{IsFirstFault};
 ghost use Rattle.rforms.specs.Texts.{IsTextOf, report_text};
 ghost use Rattle.rforms.specs.declared.fault.Code.{Code};
@@ -20,18 +20,18 @@ ghost use Rattle.rreport.specs.Told.{told, step_told, leaves_from};
 ghost use Rattle.rcover.specs.Ended.{ended_by};
 ghost use Rattle.rcover.specs.declared.wait_end.WaitEnd.{WaitEnd};
 ghost use Rattle.rwaits.specs.Past.{Past, start_of, with_event, begun};
-ghost use Rattle.rtrace.specs.Knows.{changes_in};
-ghost use Rattle.rtrace.specs.Takes.{Adds};
+ghost use Rattle.rreading.specs.Knows.{changes_in};
+ghost use Rattle.rreading.specs.Takes.{Adds};
 ghost use Rattle.rreplay.specs.Followed.{AreFollowed, IsTold};
 ghost use Rattle.rreplay.specs.Names.{names_read};
-ghost use Rattle.rreplay.specs.Replaying.{IsToldToEnd};
+ghost use Rattle.rreplay.specs.Replaying.{KnowsReplay, IsToldToEnd};
 
 use csv::ByteRecord;
 use rclaim::Event;
 use rforms::{Code, Records, RowErr, TextErr, take_text};
 use rmodel::Machine;
+use rreading::{Reading, Taken};
 use rreport::{Gathered, NameRows, OpenText, Page, close_history, ending_of, head_of, push_step};
-use rtrace::{Reading, Taken};
 use std::alloc::{AllocError, Global};
 use std::mem;
 
@@ -314,8 +314,16 @@ pub fn replay_of(alloc: Global, bytes: &[u8]) -> Result<Replayed, TextErr>
     ensures made { IfOk result (λ made. (report : Report) × IsTextOf false bytes.now report × (made.head ++ (made.history ++ made.ending) ≡ report_text report)) }
     ensures bad { (fault : Fault Code) → result ≡ Err (TextErr.Bad fault) → IsFirstFault false bytes.now fault }
 {
-    let mut taker = Replaying::new(alloc);
-    match take_text(alloc, bytes, &mut taker) {
+    replay_by(alloc, bytes, &mut Replaying::new(alloc))
+}
+
+// The same, by a taker that has taken nothing.
+fn replay_by(alloc: Global, bytes: &[u8], taker: &mut Replaying) -> Result<Replayed, TextErr>
+    requires { KnowsReplay taker.old nothing_yet }
+    ensures made { IfOk result (λ made. (report : Report) × IsTextOf false bytes.now report × (made.head ++ (made.history ++ made.ending) ≡ report_text report)) }
+    ensures bad { (fault : Fault Code) → result ≡ Err (TextErr.Bad fault) → IsFirstFault false bytes.now fault }
+{
+    match take_text(alloc, bytes, taker) {
         Ok(()) => match taker.made() {
             Ok(made) => Ok(made),
             Err(_) => Err(TextErr::Memory),

@@ -1,84 +1,29 @@
 -- The bounds that records tell, one record after another.
-use Rattle.std.proofs.Common.{◌≡◌, ℕ, suc, ◌+◌, ◌<◌, Bool, true, false, List, [], ◌∷◌, ◌++◌, length, Option, Some, None, refl, sym, ap, subst, ◌∙◌, arith, true≢false, length-append}
-use Rattle.std.specs.Prelude.{option_map, option_and_then, option_to_list}
+use Rattle.std.proofs.Common.{◌≡◌, ℕ, suc, ◌+◌, ◌<◌, true, List, [], ◌∷◌, ◌++◌, length, Option, Some, None, refl, sym, ap, subst, ◌∙◌, arith, length-append}
+use Rattle.std.specs.Prelude.{option_map, option_to_list}
 use Rattle.std.proofs.lemmas.List.{length-map}
-use Rattle.rclaim.specs.declared.request.Kind.TheVariants.{Read, Write, Mixed, Upgrade, Nested}
 use Rattle.rbound.specs.Bounds.{Numbers}
 use Rattle.rforms.specs.Records.{Row}
-use Rattle.rforms.specs.Fields.{Names, Values, read}
-use Rattle.rforms.specs.Words.{fields_of, word_in}
-use Rattle.rforms.specs.Lines.{Line, Waits, line_by, meaning, meant_as}
+use Rattle.rforms.specs.Lines.{Line, Waits}
 use Rattle.rforms.specs.Waits.{bound_in, all_ended}
 use Rattle.rforms.specs.Reports.{Entry, lines_of}
 use Rattle.rforms.specs.SoFar.{SoFar, nothing_yet, names_in, head_in, entries_in, told_in, with_row, with_act, bare}
 use Rattle.rforms.specs.Faults.{read_all}
 use Rattle.rforms.specs.Takers.{list_code, is_list_done, HasTaken}
-use Rattle.rforms.specs.WrongBounds.{bound_told, bound_said, bounds_said, or_more}
+use Rattle.rforms.specs.WrongBounds.{bound_said, bounds_said, or_more}
 use Rattle.rforms.specs.declared.fault.Code.TheVariants.{NoEnd}
-use Rattle.rforms.specs.declared.word.Word.{Word}
-use Rattle.rforms.specs.declared.word.Word.TheVariants as word
 use Rattle.rforms.proofs.forth.Rows.{HaveTold, have_told}
 use Rattle.rforms.proofs.lists.BlankLines.{blank, lines_blank}
 use Rattle.rforms.proofs.lists.Likes.{told_from, bounds_in, bounds_are_due}
 use Rattle.rforms.proofs.texts.Lists.{read_more, bounds_more, list_faults}
-use Rattle.rrecords.specs.Told.{is_event, is_act, is_wait}
-use Rattle.rtrace.specs.declared.reading.Reading.{Reading}
-use Rattle.rtrace.specs.declared.taken.Taken.{Taken}
-use Rattle.rtrace.specs.declared.taken.Taken.TheVariants as taken
-use Rattle.rtrace.specs.Knows.{Knows}
-use Rattle.rtrace.specs.Takes.{Adds, TakesRow, TellsBound, bound_of}
+use Rattle.rreading.specs.declared.reading.Reading.{Reading}
+use Rattle.rreading.specs.declared.taken.Taken.{Taken}
+use Rattle.rreading.specs.declared.taken.Taken.TheVariants as taken
+use Rattle.rreading.specs.Knows.{Knows}
+use Rattle.rreading.specs.Takes.{Adds, TakesRow, TellsBound, bound_of}
 use Rattle.rtrace.specs.declared.count.Counting.{Counting}
 use Rattle.rtrace.specs.ToldBounds.{KnowsBounds}
 use Rattle.rtrace.specs.Collects.{KnowsCount, one_if_told, one_if_event, waits_told}
-
--- ---- records of other words
-
-line_none : (w : Word) (v : Values (fields_of w)) → is_wait w ≡ false → bound_told (line_by w v) ≡ None
-line_none word.Version v h = refl
-line_none word.Resource v h = refl
-line_none word.Group v h = refl
-line_none word.Task v h = refl
-line_none word.Cap v h = refl
-line_none (word.Issue Read) v h = refl
-line_none (word.Issue Write) v h = refl
-line_none (word.Issue Mixed) v h = refl
-line_none (word.Issue Upgrade) v h = refl
-line_none (word.Issue Nested) v h = refl
-line_none word.Finish v h = refl
-line_none word.Rise v h = refl
-line_none word.Ask v h = refl
-line_none word.Show v h = refl
-line_none (word.Add done) v h = refl
-line_none (word.Take done) v h = refl
-line_none (word.Put done) v h = refl
-line_none (word.Entitled half) v h = refl
-line_none (word.Satisfied half) v h = refl
-line_none word.Grant v h = refl
-line_none (word.Wait which) v h = absurd (true≢false h)
-line_none word.Ledger v h = refl
-line_none word.End v h = refl
-
-none_by : (w : Word) (v : Option (Values (fields_of w))) → is_wait w ≡ false → option_and_then bound_told (option_map (line_by w) v) ≡ None
-none_by w None h = refl
-none_by w (Some v) h = line_none w v h
-
--- a record that is none of a wait tells no bound
-pub none_said : (whole : Bool) (names : Names) (row : Row) (w : Word) → word_in whole row ≡ Some w → is_wait w ≡ false → bound_said whole names row ≡ None
-unfolding meaning
-none_said whole names row w is other =
-    ap (λ (o : Option Word). option_and_then bound_told (meant_as names row o)) is ∙ none_by w (read names (fields_of w) row) other
-
--- so it tells none whatever was said before it
-pub tells_none : (old : Reading) (row : Row) (w : Word) (what : Taken) → word_in old.whole row ≡ Some w → is_wait w ≡ false → bound_of what ≡ None → TellsBound old row what
-tells_none old row w what is other none = λ whole s h. none_said whole (names_in s) row w (ap (λ b. word_in b row) (sym h.kind) ∙ is) other ∙ sym none
-
-pub event_no_wait : (w : Word) → is_event w ≡ true → is_wait w ≡ false
-event_no_wait (word.Wait which) h = absurd (true≢false (sym h))
-event_no_wait _ h = refl
-
-pub act_no_wait : (w : Word) → is_act w ≡ true → is_wait w ≡ false
-act_no_wait (word.Wait which) h = absurd (true≢false (sym h))
-act_no_wait _ h = refl
 
 -- ---- counting
 

@@ -6,11 +6,11 @@ use Rattle.rforms.specs.Reports.{Entry}
 use Rattle.rforms.specs.SoFar.{SoFar, with_act, with_row}
 use Rattle.rforms.specs.Faults.{code_of}
 use Rattle.rtrace.specs.declared.collect.Collecting.{Collecting}
-use Rattle.rtrace.specs.declared.reading.Reading.{Reading}
-use Rattle.rtrace.specs.declared.taken.Taken.{Taken}
-use Rattle.rtrace.specs.declared.taken.Taken.TheVariants as taken
-use Rattle.rtrace.specs.Knows.{Knows}
-use Rattle.rtrace.specs.Takes.{Adds, TakesRow}
+use Rattle.rreading.specs.declared.reading.Reading.{Reading}
+use Rattle.rreading.specs.declared.taken.Taken.{Taken}
+use Rattle.rreading.specs.declared.taken.Taken.TheVariants as taken
+use Rattle.rreading.specs.Knows.{Knows}
+use Rattle.rreading.specs.Takes.{Adds, TakesRow}
 use Rattle.rtrace.specs.Collects.{KnowsAll, Keeps}
 
 module _ (whole : Bool) (old new : Collecting) (reading : Reading) (s t : SoFar) (h : KnowsAll whole old s) (knows : Knows whole reading t) where

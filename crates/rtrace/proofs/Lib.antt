@@ -1,14 +1,5 @@
-pub mod Due
-pub mod Codes
-pub mod Steps
-pub mod DueWaits
-pub mod LedgerSteps
-pub mod ActSteps
-pub mod EventSteps
-pub mod HeadSteps
 pub mod Results
 pub mod Writable
-pub mod RowSteps
 pub mod Whole
 pub mod BoundSteps
 pub mod WaitSteps

@@ -5,15 +5,15 @@ use Rattle.rforms.specs.Records.{Row}
 use Rattle.rforms.specs.SoFar.{SoFar, nothing_yet, entries_in, bare, with_act}
 use Rattle.rforms.specs.Faults.{read_all}
 use Rattle.rforms.specs.WrongBounds.{bounds_said}
-use Rattle.rtrace.specs.Knows.{Knows}
+use Rattle.rreading.specs.Knows.{Knows}
 use Rattle.rtrace.specs.ToldBounds.{KnowsBounds}
 use Rattle.rreport.specs.Report.{ReportFields}
 use Rattle.rtrace.specs.declared.collect.Collecting.{Collecting}
 use Rattle.rtrace.specs.declared.lists.ListTaker.{ListTaker}
 use Rattle.rtrace.specs.declared.lists.ReportTaker.{ReportTaker}
 use Rattle.rtrace.specs.declared.count.Counting.{Counting}
-use Rattle.rtrace.specs.declared.taken.Taken.{Taken}
-use Rattle.rtrace.specs.declared.taken.Taken.TheVariants as taken
+use Rattle.rreading.specs.declared.taken.Taken.{Taken}
+use Rattle.rreading.specs.declared.taken.Taken.TheVariants as taken
 
 -- all that was said so far is kept
 pub record KnowsAll (whole : Bool) (taker : Collecting) (s : SoFar) : Type 0 where

@@ -1,5 +1,3 @@
-pub mod Knows
-pub mod Takes
 pub mod ToldBounds
 pub mod Collects
 pub mod Counts

@@ -9,14 +9,13 @@ ghost use Rattle.rbound_told.specs.Told.{Told, AreBefore};
 ghost use Rattle.rforms.specs.Records.{Row};
 ghost use Rattle.rforms.specs.Faults.{read_all};
 ghost use Rattle.rforms.specs.WrongBounds.{first_wrong_bound, wrong_bound};
-ghost use Rattle.rtrace.specs.Knows.{Knows};
+ghost use Rattle.rreading.specs.Knows.{Knows};
 ghost use Rattle.rtrace.specs.ToldBounds.{AreTold, IsMade, KnowsBounds, HasRead};
-ghost use Rattle.rtrace.specs.declared.reading.Reading.{Reading};
+ghost use Rattle.rreading.specs.declared.reading.Reading.{Reading};
 
-use crate::reading::Reading;
-use crate::taken::{BoundTold, Taken};
 use rbound_told::ToldBounds;
 use rclaim::Event;
+use rreading::{BoundTold, Reading, Taken};
 use std::alloc::{AllocError, Global};
 
 /// What a taker of a report keeps of the bounds that it tells. It grows with the shapes of requests, and not with waits or

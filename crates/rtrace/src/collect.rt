@@ -6,14 +6,15 @@ ghost use Rattle.rvalue.specs.declared.act.Act.{Act};
 ghost use Rattle.rvalue.specs.declared.ledger.Edit.{Edit};
 ghost use Rattle.rreport.specs.Report.{told_by, IsOverResources, HasItsLedgers};
 
-use crate::reading::Reading;
-use crate::taken::Taken;
 use csv::ByteRecord;
 use rclaim::Event;
 use rforms::{Code, RowErr, TextErr};
+use rreading::{Reading, Taken};
 use rreport::Report;
+use rset::NameTable;
 use rvalue::{Act, Edit, Entry, History};
 use std::alloc::{AllocError, Global};
+use std::mem;
 
 /// Takes the records of a text, and keeps all that they say.
 #[derive(Drop)]
@@ -115,60 +116,40 @@ impl Collecting {
         Ok(())
     }
 
-    /// What was said, as a report.
+    /// What was said, as a report, which is given away: nothing is said then of what is kept.
     ///
     /// # Errors
     ///
     /// Want of memory.
-    pub fn report(self) -> Result<Report, TextErr>
-        ensures report { IfOk result (λ r. (whole : Bool) (s : SoFar) → KnowsAll whole self s → (told_by r ≡ told_in s) × IsOverResources r × HasItsLedgers r) }
+    pub fn report(&mut self) -> Result<Report, TextErr>
+        ensures report { IfOk result (λ r. (whole : Bool) (s : SoFar) → KnowsAll whole self.old s → (told_by r ≡ told_in s) × IsOverResources r × HasItsLedgers r) }
         ensures memory { IfErr result (λ e. e ≡ TextErr.Memory) }
     {
-        let mut taker = self;
-        let Ok(()) = taker.keep() else {
+        let Ok(()) = self.keep() else {
             return Err(TextErr::Memory);
         };
-        match taker.finished() {
+        match self.finished() {
             Some(report) => Ok(report),
             None => Err(TextErr::Memory),
         }
     }
 
-    // The report of what is kept; None where the head has no task.
-    fn finished(self) -> Option<Report>
-        ensures { IfSome result (IsFinished self) }
+    // The report of what is kept, which is given away; None where the head has no task.
+    fn finished(&mut self) -> Option<Report>
+        ensures { IfSome result (IsFinished self.old) }
     {
-        let Collecting {
-            alloc: _,
-            reading,
-            history,
-            latest: _,
-        } = self;
-        let Reading {
-            whole: _,
-            last: _,
-            resources,
-            groups,
-            tasks,
-            cap,
-            machine: _,
-            following: _,
-            ledgers,
-            shown: _,
-            edited: _,
-            told: _,
-        } = reading;
-        let Some(groups) = groups else {
-            return None;
-        };
-        let cap = cap.unwrap_or(tasks.len());
-        Some(Report {
-            resources,
-            groups,
-            tasks,
-            cap,
-            history,
-            ledgers,
-        })
+        let reading = &mut self.reading;
+        let cap = reading.cap.unwrap_or(reading.tasks.len());
+        match reading.groups.take() {
+            Some(groups) => Some(Report {
+                resources: mem::replace(&mut reading.resources, NameTable::new(self.alloc)),
+                groups,
+                tasks: mem::replace(&mut reading.tasks, NameTable::new(self.alloc)),
+                cap,
+                history: mem::replace(&mut self.history, History::new(self.alloc)),
+                ledgers: mem::replace(&mut reading.ledgers, Vec::new(self.alloc)),
+            }),
+            None => None,
+        }
     }
 }

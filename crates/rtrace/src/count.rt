@@ -10,14 +10,13 @@ ghost use Rattle.rstream.specs.Coming.{CameWhole};
 ghost use Rattle.rstream.specs.Errors.{IsOfText};
 ghost use Rattle.rtrace.specs.Collects.{KnowsCount, one_if_told, one_if_event};
 ghost use Rattle.rtrace.specs.Counts.{IsCountOf};
-ghost use Rattle.rtrace.specs.Takes.{bound_of};
+ghost use Rattle.rreading.specs.Takes.{bound_of};
 
 use crate::bounds::BoundsKept;
-use crate::reading::Reading;
-use crate::taken::Taken;
 use csv::ByteRecord;
 use io_ends::Source;
 use rforms::{Code, Fault, Records, RowErr};
+use rreading::{Reading, Taken};
 use rstream::{StreamErr, take_source};
 use std::alloc::Global;
 

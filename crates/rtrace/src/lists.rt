@@ -2,9 +2,10 @@
 ghost use Rattle.std.specs.Prelude.{◌≡◌, ◌<◌, ◌^◌, ◌++◌, ◌∷◌, [], ℕ, List, length, true, false, OnOk, IfOk};
 ghost use Rattle.rforms.specs.Records.{Row};
 ghost use Rattle.rforms.specs.Takers.{IsFirstFault, HasTaken, list_code, is_list_done};
-ghost use Rattle.rtrace.specs.Collects.{Keeps, KnowsReport};
+ghost use Rattle.rforms.specs.SoFar.{nothing_yet};
+ghost use Rattle.rtrace.specs.Collects.{Keeps, KnowsList, KnowsReport};
 ghost use Rattle.rtrace.specs.ToldBounds.{KnowsBounds, HasRead};
-ghost use Rattle.rtrace.specs.declared.reading.Reading.{Reading};
+ghost use Rattle.rreading.specs.declared.reading.Reading.{Reading};
 ghost use Rattle.rforms.specs.Texts.{IsTextOf};
 ghost use Rattle.rforms.specs.Written.{MayBeWritten};
 ghost use Rattle.rforms.specs.declared.fault.Code.{Code};
@@ -14,9 +15,9 @@ ghost use Rattle.rreport.specs.Report.{told_by, IsOverResources, HasItsLedgers};
 
 use crate::bounds::BoundsKept;
 use crate::collect::Collecting;
-use crate::taken::Taken;
 use csv::ByteRecord;
 use rforms::{Code, Fault, Records, RowErr, TextErr, take_text};
+use rreading::Taken;
 use rreport::Report;
 use std::alloc::{AllocError, Global};
 
@@ -124,7 +125,17 @@ pub fn read_events(alloc: Global, bytes: &[u8]) -> Result<Report, TextErr>
     let mut taker = ListTaker {
         inner: Collecting::new(alloc, false),
     };
-    match take_text(alloc, bytes, &mut taker) {
+    take_list(alloc, bytes, &mut taker)
+}
+
+// The same, by a taker that has taken nothing.
+fn take_list(alloc: Global, bytes: &[u8], taker: &mut ListTaker) -> Result<Report, TextErr>
+    requires { KnowsList taker.old nothing_yet }
+    ensures list { IfOk result (λ r. IsTextOf false bytes.now (told_by r) × IsOverResources r × HasItsLedgers r) }
+    ensures writable { IfOk result (λ r. MayBeWritten (told_by r)) }
+    ensures bad { (fault : Fault Code) → result ≡ Err (TextErr.Bad fault) → IsFirstFault false bytes.now fault }
+{
+    match take_text(alloc, bytes, taker) {
         Ok(()) => taker.inner.report(),
         Err(e) => Err(e),
     }
@@ -144,17 +155,27 @@ pub fn read_report(alloc: Global, bytes: &[u8]) -> Result<Report, TextErr>
         inner: Collecting::new(alloc, true),
         bounds: BoundsKept::new(),
     };
-    match take_text(alloc, bytes, &mut taker) {
+    take_report(alloc, bytes, &mut taker)
+}
+
+// The same, by a taker that has taken nothing.
+fn take_report(alloc: Global, bytes: &[u8], taker: &mut ReportTaker) -> Result<Report, TextErr>
+    requires { KnowsReport taker.old [] }
+    ensures report { IfOk result (λ r. IsTextOf true bytes.now (told_by r) × IsOverResources r × HasItsLedgers r) }
+    ensures writable { IfOk result (λ r. MayBeWritten (told_by r)) }
+    ensures bad { (fault : Fault Code) → result ≡ Err (TextErr.Bad fault) → IsFirstFault true bytes.now fault }
+{
+    match take_text(alloc, bytes, taker) {
         Ok(()) => finished(taker),
         Err(e) => Err(e),
     }
 }
 
-// The report of what was taken, or the first record that told a wrong bound.
-fn finished(taker: ReportTaker) -> Result<Report, TextErr>
-    requires { (bytes : List ℕ) × HasTaken (list_code true) (is_list_done true) NoEnd KnowsReport bytes taker }
-    ensures report { IfOk result (λ r. (bytes : List ℕ) → HasTaken (list_code true) (is_list_done true) NoEnd KnowsReport bytes taker → IsTextOf true bytes (told_by r) × IsOverResources r × HasItsLedgers r) }
-    ensures bad { (fault : Fault Code) → result ≡ Err (TextErr.Bad fault) → (bytes : List ℕ) → HasTaken (list_code true) (is_list_done true) NoEnd KnowsReport bytes taker → IsFirstFault true bytes fault }
+// The report of what was taken, which is given away, or the first record that told a wrong bound.
+fn finished(taker: &mut ReportTaker) -> Result<Report, TextErr>
+    requires { (bytes : List ℕ) × HasTaken (list_code true) (is_list_done true) NoEnd KnowsReport bytes taker.old }
+    ensures report { IfOk result (λ r. (bytes : List ℕ) → HasTaken (list_code true) (is_list_done true) NoEnd KnowsReport bytes taker.old → IsTextOf true bytes (told_by r) × IsOverResources r × HasItsLedgers r) }
+    ensures bad { (fault : Fault Code) → result ≡ Err (TextErr.Bad fault) → (bytes : List ℕ) → HasTaken (list_code true) (is_list_done true) NoEnd KnowsReport bytes taker.old → IsFirstFault true bytes fault }
 {
     match taker
         .bounds

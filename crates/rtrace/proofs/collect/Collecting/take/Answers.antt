@@ -1,4 +1,4 @@
-use Rattle.rtrace.proofs.Results.{same_err}
+use Rattle.rreading.proofs.Results.{same_err}
 use Rattle.rtrace.proofs.collect.Collecting.take.Goals as goal
 
 pub returns-in-Err-clause-bad : goal.returns-in-Err-clause-bad

@@ -2,7 +2,7 @@ use Rattle.std.proofs.Common.{◌+◌, true, arith}
 use Rattle.csv.specs.Records.{fields_of}
 use Rattle.rforms.specs.Faults.{read_all}
 use Rattle.rforms.proofs.texts.Lists.{entries_few}
-use Rattle.rtrace.proofs.Results.{same_err}
+use Rattle.rreading.proofs.Results.{same_err}
 use Rattle.rtrace.proofs.BoundSteps.{count_on, waits_few}
 use Rattle.rtrace.proofs.count.CountingRecords.take.Goals as goal
 

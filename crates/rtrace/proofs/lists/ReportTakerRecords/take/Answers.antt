@@ -7,7 +7,7 @@ use Rattle.rtrace.specs.Collects.{KnowsAll}
 use Rattle.rforms.specs.SoFar.{SoFar}
 use Rattle.rtrace.proofs.BoundSteps.{by_rows}
 use Rattle.rtrace.proofs.Keeping.{keeps_all}
-use Rattle.rtrace.proofs.Results.{same_err}
+use Rattle.rreading.proofs.Results.{same_err}
 use Rattle.rtrace.proofs.lists.ReportTakerRecords.take.Goals as goal
 
 pub take-requires : goal.take-requires

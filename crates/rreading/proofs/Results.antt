@@ -1,0 +1,13 @@
+-- Results of the reader.
+use Rattle.std.proofs.Common.{◌≡◌, ap}
+use Rattle.std.specs.Prelude.{Result, Err}
+use Rattle.rforms.specs.declared.fault.Code.{Code}
+use Rattle.rforms.specs.declared.errors.RowErr.{RowErr}
+use Rattle.rforms.specs.declared.errors.RowErr.TheVariants.{Bad}
+
+pub same_bad : {T : Type 0} {a b : Code} → ◌≡◌ {A = Result T (RowErr Code)} (Err (Bad a)) (Err (Bad b)) → a ≡ b
+same_bad {T} {a} {b} e = cc
+
+-- an error is the same, whatever is answered beside it
+pub same_err : {T U : Type 0} {e : RowErr Code} {code : Code} → ◌≡◌ {A = Result T (RowErr Code)} (Err e) (Err (Bad code)) → ◌≡◌ {A = Result U (RowErr Code)} (Err e) (Err (Bad code))
+same_err {T} {U} {e} {code} h = let same : e ≡ Bad code = cc in ap (λ (x : RowErr Code). let r : Result U (RowErr Code) = Err x in r) same

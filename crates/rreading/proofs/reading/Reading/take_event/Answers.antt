@@ -1,0 +1,55 @@
+use Rattle.std.proofs.Common.{Some, refl, sym, ap, subst, ◌∙◌}
+use Rattle.csv.specs.Records.{fields_of}
+use Rattle.rclaim.specs.declared.event.Event.{Event}
+use Rattle.rforms.specs.Lines.{Happens}
+use Rattle.rforms.specs.SoFar.{lock_in}
+use Rattle.rforms.specs.declared.fault.Refusal.TheVariants.{Request}
+use Rattle.rrecords.specs.Told.{Says, IsTold, names_by}
+use Rattle.rrecords.specs.declared.event.EventTold.{EventTold}
+use Rattle.rreading.specs.declared.taken.Taken.TheVariants as taken
+use Rattle.rreading.proofs.EventSteps.{happen_refused, event_misplaced}
+use Rattle.rreading.proofs.Results.{same_bad, same_err}
+use Rattle.rreading.proofs.RowSteps.{is_of, event_no_more, event_fits, alone_refused, row_taken, row_code, row_wrong}
+use Rattle.rreading.proofs.OtherWords.{tells_none, event_no_wait}
+use Rattle.rreading.proofs.reading.Reading.take_event.Goals as goal
+
+pub event_of-requires-clause-form : goal.event_of-requires-clause-form
+event_of-requires-clause-form c = is_of c.args.self.now.whole (fields_of c.args.fields.now) c.args.word c.requires.word
+
+pub returns-in-Err-clause-bad : goal.returns-in-Err-clause-bad
+returns-in-Err-clause-bad c = λ code is whole s h. row_wrong whole c.args.self.now s h (fields_of c.args.fields.now) c.args.word c.requires.word (event_no_more s c.args.word c.requires.event) c.in-Err.code c.in-Err.ensures.wrong ∙ ap Some (same_bad is)
+
+pub returns-in-Some-clause-bad : goal.returns-in-Some-clause-bad
+returns-in-Some-clause-bad c = λ code is whole s h.
+    let told = c.in-Ok.ensures.told in
+    row_code whole c.args.self.now s h (fields_of c.args.fields.now) c.args.word c.requires.word (event_no_more s c.args.word c.requires.event) (Happens told.0) told.1
+    ∙ event_misplaced whole s told.0 c.in-Some.code (sym (c.misplaced.ensures whole s h) ∙ c.in-Some.is) ∙ ap Some (same_bad is)
+
+pub happen-requires-clause-fits : goal.happen-requires-clause-fits
+happen-requires-clause-fits c = λ whole s h few.
+    let told = c.in-Ok.ensures.told in
+    event_fits whole c.args.self.now s h few c.args.word (fields_of c.args.fields.now) told.0 c.in-Event.event told.1 (subst (λ (t : EventTold). IsTold t told.0) c.in-Event.is told.2)
+
+pub returns-in-Ok-happen-clause-taken : goal.returns-in-Ok-happen-clause-taken
+returns-in-Ok-happen-clause-taken c = λ whole s h.
+    let told = c.in-Ok.ensures.told in
+    let is = subst (λ (t : EventTold). IsTold t told.0) c.in-Event.is told.2 in
+    row_taken whole c.args.self.now s h (fields_of c.args.fields.now) c.args.word c.requires.word (event_no_more s c.args.word c.requires.event) (Happens c.in-Event.event)
+    (subst (λ (e : Event). Says (names_by c.args.self.now.resources c.args.self.now.tasks) c.args.word (fields_of c.args.fields.now) (Happens e)) is.0 told.1) c.happen.new.self (taken.Event c.in-Event.event) (c.in-Ok-happen.ensures.taken whole s h) (refl, refl)
+
+pub returns-in-Err-happen-clause-bad : goal.returns-in-Err-happen-clause-bad
+returns-in-Err-happen-clause-bad c = λ code is whole s h.
+    let told = c.in-Ok.ensures.told in
+    let is_told = subst (λ (t : EventTold). IsTold t told.0) c.in-Event.is told.2 in
+    row_code whole c.args.self.now s h (fields_of c.args.fields.now) c.args.word c.requires.word (event_no_more s c.args.word c.requires.event) (Happens c.in-Event.event)
+    (subst (λ (e : Event). Says (names_by c.args.self.now.resources c.args.self.now.tasks) c.args.word (fields_of c.args.fields.now) (Happens e)) is_told.0 told.1) ∙ c.in-Err-happen.ensures.bad code (same_err is) whole s h
+
+pub returns-in-Refused-clause-bad : goal.returns-in-Refused-clause-bad
+returns-in-Refused-clause-bad c = λ code is whole s h.
+    let told = c.in-Ok.ensures.told in
+    row_code whole c.args.self.now s h (fields_of c.args.fields.now) c.args.word c.requires.word (event_no_more s c.args.word c.requires.event) (Happens told.0) told.1
+    ∙ happen_refused whole c.args.self.now s h told.0 (sym (c.misplaced.ensures whole s h) ∙ c.in_default.is) (Request c.in-Refused.cause)
+    (alone_refused (lock_in s) told.0 c.in-Refused.cause (subst (λ (t : EventTold). IsTold t told.0) c.in-Refused.is told.2)) ∙ ap Some (same_bad is)
+
+pub returns-in-Ok-happen-clause-bound : goal.returns-in-Ok-happen-clause-bound
+returns-in-Ok-happen-clause-bound c = tells_none c.args.self.now (fields_of c.args.fields.now) c.args.word (taken.Event c.in-Event.event) c.requires.word (event_no_wait c.args.word c.requires.event) refl

@@ -1,0 +1,26 @@
+use Rattle.std.proofs.Common.{false, Err, ap}
+use Rattle.rforms.specs.SoFar.{told_in}
+use Rattle.rforms.specs.Faults.{read_all}
+use Rattle.rforms.proofs.texts.Lists.{list_fault}
+use Rattle.rreplay.specs.Replaying.{KnowsReplay}
+use Rattle.rreplay.proofs.Endings.{taken_ended, taken_spells}
+use Rattle.rreplay.proofs.Replays.{one_err}
+use Rattle.rreplay.proofs.replaying.replay_by.Goals as goal
+
+pub made-requires : goal.made-requires
+made-requires c =
+    let h = c.in-Ok.ensures.taken in
+    (read_all false h.rows, h.knows, taken_ended false KnowsReplay c.args.bytes.now c.take_text.new.taker h)
+
+pub returns-in-Ok-made-clause-made : goal.returns-in-Ok-made-clause-made
+returns-in-Ok-made-clause-made c =
+    let h = c.in-Ok.ensures.taken in
+    let spelled = taken_spells KnowsReplay c.args.bytes.now c.take_text.new.taker h in
+    let ended = taken_ended false KnowsReplay c.args.bytes.now c.take_text.new.taker h in (
+      told_in (read_all false h.rows),
+      (h.rows, h.are, spelled),
+      c.in-Ok-made.ensures (read_all false h.rows) h.knows ended,
+    )
+
+pub returns-in-Err-clause-bad : goal.returns-in-Err-clause-bad
+returns-in-Err-clause-bad c = λ fault e. list_fault false c.args.bytes.now fault (c.in-Err.ensures.bad fault (ap Err (one_err e)))

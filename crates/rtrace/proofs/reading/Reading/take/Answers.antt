@@ -1,8 +1,0 @@
-use Rattle.std.proofs.Common.{Some, sym, ap, ◌∙◌}
-use Rattle.csv.specs.Records.{fields_of}
-use Rattle.rtrace.proofs.Results.{same_bad}
-use Rattle.rtrace.proofs.RowSteps.{row_unknown}
-use Rattle.rtrace.proofs.reading.Reading.take.Goals as goal
-
-pub returns-in_default-clause-bad : goal.returns-in_default-clause-bad
-returns-in_default-clause-bad c = λ code is whole s h. row_unknown whole c.args.self.now s h (fields_of c.args.fields.now) (sym c.word_in.ensures ∙ c.in_default.is) ∙ ap Some (same_bad is)
