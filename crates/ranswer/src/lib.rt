@@ -8,6 +8,7 @@ mod command;
 mod faults;
 mod reading;
 mod status;
+mod told;
 mod writing;
 
 pub use command::{
@@ -16,4 +17,5 @@ pub use command::{
 pub use faults::script_line;
 pub use reading::read_input;
 pub use status::ToolStatus;
+pub use told::Told;
 pub use writing::{write_line, write_output};

@@ -7,13 +7,11 @@ ghost use Rattle.ranswer.specs.Outputs.{is_streamed};
 ghost use Rattle.ranswer.specs.Writing.{IsAnswer};
 ghost use Rattle.ranswer.specs.Watched.{Watched};
 
-use crate::auditing::audit;
-use crate::bounding::bound;
 use crate::drilling::drill_tool;
-use crate::replaying::replay;
-use crate::told::Told;
 use io_ends::{Sink, Source};
-use ranswer::{Command, ToolStatus, plain_of, read_input};
+use ranswer::{Command, Told, ToolStatus, plain_of, read_input};
+use rlist_tools::{audit, replay};
+use rscript_tools::bound;
 use rwatch::Audience;
 use std::alloc::Global;
 

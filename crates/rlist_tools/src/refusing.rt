@@ -1,0 +1,30 @@
+// The line of a fault.
+ghost use Rattle.std.specs.Prelude.{◌≡◌};
+ghost use Rattle.io_ends.specs.Faults.{Rose};
+ghost use Rattle.ranswer.specs.Writing.{IsTold};
+ghost use Rattle.rreport.specs.ErrorLine.{error_line};
+
+use io_ends::Sink;
+use ranswer::{Told, ToolStatus, write_line};
+use rforms::Fault;
+use rreport::error_line;
+use std::alloc::Global;
+
+/// Writes the line of the fault of a list or a report, and notes it for a person, with the line that is due in its place,
+/// where one is.
+pub fn refuse<K: Sink>(
+    alloc: Global,
+    fault: Fault,
+    expected: Option<String>,
+    sink: &mut K,
+    told: &mut Option<Told>,
+) -> ToolStatus
+    ensures { IsTold (error_line fault) (K.written sink.old) (K.written sink.new) (K.faults sink.new ≡ K.faults sink.old) (Rose (K.faults sink.old) (K.faults sink.new)) (sink.new ≡ sink.old) ToolStatus.Trace result }
+{
+    *told = Some(Told::List { fault, expected });
+    let Ok(line) = error_line(alloc, fault) else {
+        return ToolStatus::NoMemory;
+    };
+    write_line(sink, &line);
+    ToolStatus::Trace
+}

@@ -1,0 +1,28 @@
+// The line of a fault.
+ghost use Rattle.std.specs.Prelude.{◌≡◌};
+ghost use Rattle.io_ends.specs.Faults.{Rose};
+ghost use Rattle.ranswer.specs.Outputs.{script_line};
+ghost use Rattle.ranswer.specs.Writing.{IsTold};
+
+use io_ends::Sink;
+use ranswer::{Told, ToolStatus, script_line, write_line};
+use rscript::Code;
+use std::alloc::Global;
+
+/// Writes the line of the fault of a script, and notes it for a person.
+pub fn refuse_script<K: Sink>(
+    alloc: Global,
+    line: u64,
+    code: Code,
+    sink: &mut K,
+    told: &mut Option<Told>,
+) -> ToolStatus
+    ensures { IsTold (script_line line code) (K.written sink.old) (K.written sink.new) (K.faults sink.new ≡ K.faults sink.old) (Rose (K.faults sink.old) (K.faults sink.new)) (sink.new ≡ sink.old) ToolStatus.Script result }
+{
+    *told = Some(Told::Script { line, code });
+    let Ok(text) = script_line(alloc, line, code) else {
+        return ToolStatus::NoMemory;
+    };
+    write_line(sink, &text);
+    ToolStatus::Script
+}
