@@ -76,7 +76,7 @@ impl WatchKind {
     }
 }
 
-// Counts a step on. To most kinds most steps weigh nothing, so the two sorts of kinds go their ways apart.
+/// Counts a step on. To most kinds most steps weigh nothing, so the two sorts of kinds go their ways apart.
 pub fn count_on(count: &mut u64, kind: WatchKind, event: &Event, changes: &Changes)
     ensures { count.new ≡ count_after kind count.old event.now changes.now }
 {
