@@ -13,7 +13,8 @@ use Rattle.std.proofs.Math.ListN.{set}
 use Rattle.std.proofs.lemmas.List.Sums.{sum_by-cons}
 use Rattle.std.specs.List.{list_any, sum_by, AllByRecursion}
 use Rattle.rmodel.specs.WellFormed.{Among, EachPair, Rises}
-use Rattle.rmodel.proofs.ListFacts.{behind, false_from}
+use Rattle.rmodel.proofs.ListFacts.{all_at, all_from, behind, false_from}
+use Rattle.rmodel.proofs.reaching.Came.{in_append}
 use Rattle.std.proofs.lemmas.Bool.{and_parts}
 use Rattle.rcover.proofs.runs.Moments.{are_one}
 use Rattle.rclaim.specs.declared.claim.Claim.{Claim}
@@ -59,6 +60,11 @@ pub all_get : {X : Type 0} (P : X → Type 0) (xs : List X) (i : ℕ) (d : X) �
 all_get P [] i d all h = absurd (omega arith)
 all_get P (x ∷ xs) zero d all h = all.0
 all_get P (x ∷ xs) (suc i) d all h = all_get P xs i d all.1 (omega arith)
+
+-- the pairs of a front part
+pub pairs_front : {X : Type 0} (R : X → X → Type 0) (xs ys : List X) → EachPair R (xs ++ ys) → EachPair R xs
+pairs_front R [] ys pairs = tt
+pairs_front R (x ∷ xs) ys pairs = (all_from (R x) xs (λ z there. all_at (R x) (xs ++ ys) z pairs.0 (in_append xs ys z there)), pairs_front R xs ys pairs.1)
 
 -- a pair of a list that stands apart from one of its elements
 pub pairs_before : {X : Type 0} (R : X → X → Type 0) (xs : List X) (x : X) (ys : List X) → EachPair R (xs ++ x ∷ ys) → AllByRecursion (λ y. R y x) xs

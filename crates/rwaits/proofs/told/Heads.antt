@@ -25,7 +25,7 @@ use Rattle.rset.specs.Sets.{Set}
 use Rattle.std.specs.FinSet.{contains, empty}
 use Rattle.std.specs.Option.{unwrap_or}
 use Rattle.std.proofs.lemmas.Option.{slice_get_read}
-use Rattle.rwaits.proofs.lists.Kept.{pairs_before, pairs_after}
+use Rattle.rwaits.proofs.lists.Kept.{pairs_before, pairs_after, pairs_front}
 use Rattle.rwaits.proofs.told.Leasts.{least_own}
 use Rattle.rwaits.proofs.told.Reached.{seat_found}
 
@@ -179,10 +179,6 @@ same_front xs ys zs x rises rises' write =
 pub told_widen : (hs : List Head) (xs ys : Moment) → EachPair Rises (xs ++ ys) → TellAt hs xs xs → TellAt hs (xs ++ ys) xs
 told_widen hs xs ys rising told = go [] xs refl told
   where
-    pairs_front : (R : Claimed → Claimed → Type 0) (xs ys : Moment) → EachPair R (xs ++ ys) → EachPair R xs
-    pairs_front R [] ys pairs = tt
-    pairs_front R (x ∷ xs) ys pairs = (all_from (R x) xs (λ z there. all_at (R x) (xs ++ ys) z pairs.0 (in_append xs ys z there)), pairs_front R xs ys pairs.1)
-
     same : (us vs : Moment) (x : Claimed) → us ++ x ∷ vs ≡ xs → x.claim.write_half ≡ true → head_of xs x.claim ≡ head_of (xs ++ ys) x.claim
     same us vs x is write =
         let longer : us ++ x ∷ (vs ++ ys) ≡ xs ++ ys = sym (append_assoc us (x ∷ vs) ys) ∙ ap (λ zs. zs ++ ys) is in
@@ -212,16 +208,12 @@ behind_same ss m n x same is = ap (λ (d : Claim). contains (set_at ss d.seat) x
 pub behind_widen : (ss : List Set) (xs ys : Moment) → EachPair Rises (xs ++ ys) → HoldBehind ss xs xs → HoldBehind ss (xs ++ ys) xs
 behind_widen ss xs ys rising hold = go [] xs refl hold
   where
-    front : (xs ys : Moment) → EachPair Rises (xs ++ ys) → EachPair Rises xs
-    front [] ys pairs = tt
-    front (x ∷ xs) ys pairs = (all_from (Rises x) xs (λ z there. all_at (Rises x) (xs ++ ys) z pairs.0 (in_append xs ys z there)), front xs ys pairs.1)
-
     same : (us vs : Moment) (x : Claimed) → us ++ x ∷ vs ≡ xs → x.claim.write_half ≡ true → least_of x.claim (xs ++ ys) ≡ least_of x.claim xs
     same us vs x is write =
         let longer : us ++ x ∷ (vs ++ ys) ≡ xs ++ ys = sym (append_assoc us (x ∷ vs) ys) ∙ ap (λ zs. zs ++ ys) is in
         ap (λ (zs : Moment). least_of x.claim zs) (sym longer)
         ∙ least_front us (vs ++ ys) x (subst (EachPair Rises) (sym longer) rising) write
-        ∙ sym (least_front us vs x (subst (EachPair Rises) (sym is) (front xs ys rising)) write)
+        ∙ sym (least_front us vs x (subst (EachPair Rises) (sym is) (pairs_front Rises xs ys rising)) write)
         ∙ ap (λ (zs : Moment). least_of x.claim zs) is
 
     go : (us vs : Moment) → us ++ vs ≡ xs → HoldBehind ss xs vs → HoldBehind ss (xs ++ ys) vs

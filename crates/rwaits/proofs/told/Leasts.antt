@@ -136,10 +136,10 @@ module _ (m : Moment) (rising : EachPair Rises m) where
   ]
 
   -- writes of one stamp are one
-  one_of_stamp : (x y : Claimed) → Among x m → Among y m → x.claim.write_half ≡ true → y.claim.write_half ≡ true → x.claim.stamp ≡ y.claim.stamp → x.claim ≡ y.claim
+  pub one_of_stamp : (x y : Claimed) → Among x m → Among y m → x.claim.write_half ≡ true → y.claim.write_half ≡ true → x.claim.stamp ≡ y.claim.stamp → x ≡ y
   one_of_stamp x y in_x in_y x_write y_write stamp =
       elim (pair_among Rises m x y rising in_x in_y) [
-        | inl same ↦ ap (λ (z : Claimed). z.claim) same
+        | inl same ↦ same
         | inr (inl r) ↦ (let below = r.after_write x_write in absurd (omega arith))
         | inr (inr r) ↦ (let below = r.after_write y_write in absurd (omega arith))
       ]
@@ -149,10 +149,10 @@ module _ (m : Moment) (rising : EachPair Rises m) where
   same_least x y in_x in_y x_write y_write stamps =
       let a = least_in x in_x x_write in
       let b = least_in y in_y y_write in
-      sym a.2 ∙ one_of_stamp a.0 b.0 a.1 b.1 a.3 b.3 (ap (λ (d : Claim). d.stamp) a.2 ∙ stamps ∙ ap (λ (d : Claim). d.stamp) (sym b.2)) ∙ b.2
+      sym a.2 ∙ ap (λ (z : Claimed). z.claim) (one_of_stamp a.0 b.0 a.1 b.1 a.3 b.3 (ap (λ (d : Claim). d.stamp) a.2 ∙ stamps ∙ ap (λ (d : Claim). d.stamp) (sym b.2))) ∙ b.2
 
   -- a least of the stamp of the write is the write itself
   pub itself_least : (x : Claimed) → Among x m → x.claim.write_half ≡ true → (least_of x.claim m).stamp ≡ x.claim.stamp → least_of x.claim m ≡ x.claim
   itself_least x there write stamps =
       let a = least_in x there write in
-      sym a.2 ∙ one_of_stamp a.0 x a.1 there a.3 write (ap (λ (d : Claim). d.stamp) a.2 ∙ stamps)
+      sym a.2 ∙ ap (λ (z : Claimed). z.claim) (one_of_stamp a.0 x a.1 there a.3 write (ap (λ (d : Claim). d.stamp) a.2 ∙ stamps))

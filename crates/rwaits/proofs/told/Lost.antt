@@ -20,7 +20,7 @@ use Rattle.rmodel.specs.Rules.{is_earlier_write}
 use Rattle.rmodel.specs.State.{LockState}
 use Rattle.rmodel.specs.Steps.{changed, next, Comes}
 use Rattle.rmodel.specs.WellFormed.{Among, EachPair, Rises, IsClaim}
-use Rattle.rmodel.proofs.ListFacts.{contrary, false_from, all_at, all_from, any_among, in_filter, pair_among, passing}
+use Rattle.rmodel.proofs.ListFacts.{contrary, false_from, all_at, all_from, any_among, in_filter, passing}
 use Rattle.rmodel.proofs.reaching.Reached.{reached_next}
 use Rattle.rmodel.proofs.reaching.Came.{IsStill, goes, left}
 use Rattle.rmodel.proofs.reaching.Growing.{IsGrown}
@@ -37,7 +37,7 @@ use Rattle.rwaits.specs.Quiet.{tells_write_of}
 use Rattle.rwaits.proofs.lists.Kept.{keeper_there}
 use Rattle.rwaits.proofs.told.Grants.{is_told, told_is}
 use Rattle.rwaits.proofs.told.Heads.{holds_own}
-use Rattle.rwaits.proofs.told.Leasts.{least_under, least_from}
+use Rattle.rwaits.proofs.told.Leasts.{least_under, least_from, one_of_stamp}
 use Rattle.rwaits.proofs.told.Quiet.{least_all}
 use Rattle.rwaits.proofs.told.Stood.{before}
 
@@ -60,15 +60,6 @@ third_of_three true true false h = h
 third_of_three true false false h = h
 third_of_three false true false h = h
 third_of_three false false false h = h
-
--- two writes of one stamp are one
-one_of_stamp : (m : Moment) → EachPair Rises m → (x y : Claimed) → Among x m → Among y m → x.claim.write_half ≡ true → y.claim.write_half ≡ true → x.claim.stamp ≡ y.claim.stamp → x ≡ y
-one_of_stamp m rising x y in_x in_y x_write y_write stamp =
-    elim (pair_among Rises m x y rising in_x in_y) [
-      | inl same ↦ same
-      | inr (inl r) ↦ (let below = r.after_write x_write in absurd (omega arith))
-      | inr (inr r) ↦ (let below = r.after_write y_write in absurd (omega arith))
-    ]
 
 -- a read conflicts with what writes some of what it reads
 read_meets : (c v : Claim) → c.writes ≡ empty → conflicts v c ≡ true → meets c.reads v.writes ≡ true

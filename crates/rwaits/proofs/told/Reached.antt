@@ -17,7 +17,7 @@ use Rattle.rcover.proofs.states.Lines.{earlier_of, earlier_from, least_below}
 use Rattle.rwaits.specs.declared.lines.Found.{Found}
 use Rattle.rwaits.specs.Found.{AreBefore, IsBeside, IsLeastOf, IsItself, HasPlace, IsFound}
 use Rattle.rwaits.specs.Lines.{lowered}
-use Rattle.rwaits.proofs.lists.Kept.{pairs_before, pairs_after}
+use Rattle.rwaits.proofs.lists.Kept.{pairs_before, pairs_after, pairs_front}
 use Rattle.rwaits.proofs.told.Leasts.{least_under, least_from, same_least, itself_least}
 
 -- at first nothing but the write itself
@@ -140,15 +140,11 @@ module _ (xs ys : Moment) (x : Claimed) (rising : EachPair Rises (xs ++ x ∷ ys
   in_m : Among x m
   in_m = among_behind xs (x ∷ ys) x (inl refl)
 
-  pairs_front : (us : Moment) → EachPair Rises (us ++ x ∷ ys) → EachPair Rises us
-  pairs_front [] pairs = tt
-  pairs_front (u ∷ us) pairs = (all_from (Rises u) us (λ z there. all_at (Rises u) (us ++ x ∷ ys) z pairs.0 (in_append us (x ∷ ys) z there)), pairs_front us pairs.1)
-
   -- all claims in front stand before it
   pub are_before : AreBefore m c xs
   are_before = record {
     rising = rising;
-    pairs = pairs_front xs rising;
+    pairs = pairs_front Rises xs (x ∷ ys) rising;
     within = all_from (λ z. Among z m) xs (λ z there. in_append xs (x ∷ ys) z there);
     earlier = all_from (λ z. z.claim.write_half ≡ true → z.claim.stamp < c.stamp) xs (λ z there w. (all_at (λ u. Rises u x) xs z (pairs_before Rises xs x ys rising) there).after_write w);
   }
