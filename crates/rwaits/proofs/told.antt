@@ -13,4 +13,12 @@ pub mod Turns
 pub mod Leasts
 pub mod Reached
 pub mod Lost
+pub mod Taken
 pub mod Undue
+pub mod Rising
+pub mod Asking
+pub mod Gone
+pub mod Looked
+pub mod Closed
+pub mod LetGo
+pub mod Stands

@@ -8,6 +8,10 @@ use Rattle.rmodel.specs.declared.claimed.Claimed.{Claimed}
 use Rattle.rwaits.specs.declared.section.Section.{Section}
 use Rattle.rwaits.specs.declared.section.Lengths.{Lengths}
 use Rattle.rwaits.specs.declared.run.Run.{Run}
+use Rattle.rwaits.specs.declared.run.Taken.{Taken}
+use Rattle.rwaits.specs.Last.{first_at}
+use Rattle.rcover.specs.Lists.{reads_against}
+use Rattle.std.specs.Option.{option_map}
 use Rattle.rcover.specs.Moments.{Moment}
 use Rattle.rcover.specs.Sections.{Sections}
 use Rattle.rcover.specs.Told.{waits_first, waits_to_rise}
@@ -16,6 +20,10 @@ use Rattle.rwaits.specs.Tracked.{no_sections, kept_by}
 -- the claims of sections
 abbrev pub claims_of : List Section → List Claim
 claims_of ss = map (λ s. s.claim) ss
+
+-- the claim of a section that there may be
+abbrev pub claim_if : Option Section → Option Claim
+claim_if o = option_map (λ s. s.claim) o
 
 -- what a run keeps of a wait
 abbrev pub kept_in : Run → Sections
@@ -36,6 +44,14 @@ length_if (Some l) c = if is_upgrade c.kind && c.write_half then l.later else l.
 
 abbrev pub length_by : List Lengths → Claim → ℕ
 length_by ls c = length_if (slice_get ls c.seat) c
+
+-- the section of a claim, with its length
+abbrev pub section_of : List Lengths → Claim → Section
+section_of ls c = record { claim = c; len = length_by ls c }
+
+-- what was found at a moment for claims that read and write this: the section of the read that is taken for them, if there is one
+abbrev pub IsTaken : List Lengths → Moment → Taken → Type 0
+IsTaken ls m t = (c : Claim) → c.reads ≡ t.reads → c.writes ≡ t.writes → t.section ≡ option_map (section_of ls) (first_at (reads_against c) m)
 
 -- sections have their lengths
 abbrev pub HaveLengths : (Claim → ℕ) → List Section → Type 0

@@ -12,7 +12,7 @@ use Rattle.rwaits.specs.Follow.{table_of, length_by, HasRoom, AreLong, AreOf}
 use Rattle.rwaits.specs.Heads.{HasPlaces, TellsNow}
 use Rattle.rwaits.specs.Past.{Past, start_of, state_of, moments_of, AreLastEnded}
 use Rattle.rwaits.specs.Tracked.{AreTracked}
-use Rattle.rwaits.specs.Waiting.{HoldWaiting, HoldRising, ends_none}
+use Rattle.rwaits.specs.Waiting.{HoldWaiting, TellRising, HoldAsking, ends_none}
 
 -- a follower has its room
 pub record HaveRoom (a : Following) : Type 0 where
@@ -38,8 +38,10 @@ pub record Follows (a : Following) (p : Past) : Type 0 where
   pub asks : (seat : ℕ) → seat < SEATS → slice_index a.asks seat ≡ asks_since seat p.events
   -- no other seat waits than those that are noted
   pub waiting : HoldWaiting a.waiting (state_of p).claims
-  -- and no upgrade of another seat waits to rise
-  pub rising : HoldRising a.rising (state_of p).claims
+  -- which claims wait to rise is told by the seats that rose
+  pub rising : TellRising a.rising (state_of p).claims
+  -- and no ask of another seat is pending than of those that are noted
+  pub asking : HoldAsking a.asking (state_of p).claims
   -- the least claims of the lines of all writes, if they are told
   pub heads : TellsNow a.heads (state_of p).claims
   pub room : HaveRoom a

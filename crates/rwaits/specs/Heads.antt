@@ -10,7 +10,6 @@ use Rattle.rwaits.specs.Lines.{IsTold}
 -- heads have a place for each seat
 pub record HasPlaces (h : Heads) : Type 0 where
   pub now : length h.now.items ≡ SEATS
-  pub last : length h.last.items ≡ SEATS
   pub behind : length h.behind.items ≡ SEATS
 
 -- if they are told, they are those of the claims at a moment

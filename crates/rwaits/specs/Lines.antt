@@ -1,6 +1,7 @@
 -- The heads of writes: the least claims of their lines.
-use Rattle.std.specs.Prelude.{◌≡◌, true, false, ◌&&◌, ◌||◌, ◌==◌, ◌≢◌, ◌<◌, nat_lt, ℕ, Bool, Option, Some, List, slice_get, unwrap_or, if◌then◌else◌}
-use Rattle.std.specs.List.{list_any, AllByRecursion}
+use Rattle.rmodel.specs.WellFormed.{EachPair, Rises, Distinct}
+use Rattle.std.specs.Prelude.{◌≡◌, ◌⊎◌, ◌++◌, ◌∷◌, true, false, ◌&&◌, ◌||◌, ◌==◌, ◌≢◌, ◌<◌, nat_lt, ℕ, Bool, Option, Some, List, slice_get, unwrap_or, option_map, find, if◌then◌else◌}
+use Rattle.std.specs.List.{AllByRecursion}
 use Rattle.std.specs.FinSet.{contains, empty, is_subset}
 use Rattle.rset.specs.Sets.{Set, meets}
 use Rattle.rset.specs.declared.TheConstants.{SEATS}
@@ -15,6 +16,7 @@ use Rattle.rcover.specs.Line.{least_of}
 use Rattle.rcover.specs.Moments.{Moment, holds_at}
 use Rattle.rwaits.specs.declared.lines.Found.{Found}
 use Rattle.rwaits.specs.declared.lines.Head.{Head}
+use Rattle.rwaits.specs.declared.turns.Moves.{Moves}
 use Rattle.rclaim.specs.declared.changes.StatusChange.{StatusChange}
 use Rattle.rwaits.specs.Past.{rises_at}
 use Rattle.rwaits.specs.Quiet.{tells_write_of}
@@ -84,13 +86,19 @@ HoldBehindBut lost ss m zs = AllByRecursion (λ z. z.claim.write_half ≡ true �
 
 -- ---- from a moment m to the next, n, where no claim comes
 
--- a seat has a write claim
-abbrev pub has_write : ℕ → Moment → Bool
-has_write seat m = list_any (λ x. (x.claim.seat == seat) && x.claim.write_half) m
+-- the claim is the write that an event takes away
+abbrev pub is_taken : Event → Claimed → Bool
+is_taken e x = takes_seat e x.claim.seat && x.claim.write_half
 
--- the seat of the least claim in the line of the write that an event takes away is this one, if it takes one
-abbrev pub IsLost : ℕ → Event → Moment → Type 0
-IsLost lost e m = AllByRecursion (λ x. x.claim.write_half ≡ true → takes_seat e x.claim.seat ≡ true → (least_of x.claim m).seat ≡ lost) m
+-- the places of the write that an event takes away, if it takes one
+abbrev pub places_taken : Event → Moment → Option Set
+places_taken e m = option_map (λ x. x.claim.places) (find (is_taken e) m)
+
+-- this is the head of the write that an event takes away, if it takes one, and of each write whose least claim is of the same seat; its places are among these
+pub record IsLost (lost : Head) (gone : Set) (e : Event) (m : Moment) (x : Claimed) : Type 0 where
+  pub places : x.claim.write_half ≡ true → takes_seat e x.claim.seat ≡ true → is_subset x.claim.places gone ≡ true
+  pub taken : x.claim.write_half ≡ true → takes_seat e x.claim.seat ≡ true → head_of m x.claim ≡ lost
+  pub one : x.claim.write_half ≡ true → (least_of x.claim m).seat ≡ lost.claim.seat → head_of m x.claim ≡ lost
 
 -- a head, satisfied where its seat is one of these
 abbrev pub with_told : Set → Head → Head
@@ -101,30 +109,58 @@ pub record IsTouched (lost : ℕ) (statuses : List StatusChange) (touched : Set)
   pub not_lost : x.claim.write_half ≡ true → contains touched x.claim.seat ≡ false → (least_of x.claim m).seat ≢ lost
   pub not_told : x.claim.write_half ≡ true → contains touched x.claim.seat ≡ false → tells_write_of statuses (least_of x.claim m).seat ≡ false
 
--- the head of a write stays where its least claim is of another seat than the one that is lost, but that the least claim may have come to be satisfied;
--- where its seat is not among those that are touched, it stays as it is
-pub record GoesBy (lost : ℕ) (came touched : Set) (m n : Moment) (x : Claimed) : Type 0 where
+-- the least claim of a write is of the same stamp at both moments, or all its places are among these
+abbrev pub IsNoted : Set → Moment → Moment → Claimed → Type 0
+IsNoted dirty m n y = y.claim.write_half ≡ true → ((least_of y.claim n).stamp ≡ (least_of y.claim m).stamp) ⊎ (is_subset y.claim.places dirty ≡ true)
+
+-- how the head of a write goes on
+pub record GoesBy (lost : Head) (gone came touched : Set) (m n : Moment) (x : Claimed) : Type 0 where
+  -- it is as it was, where its seat is not among those that are touched
   pub still : x.claim.write_half ≡ true → contains touched x.claim.seat ≡ false → head_of n x.claim ≡ head_of m x.claim
-  pub elsewhere : x.claim.write_half ≡ true → contains touched x.claim.seat ≡ false → (least_of x.claim m).seat ≢ lost
+  pub elsewhere : x.claim.write_half ≡ true → contains touched x.claim.seat ≡ false → (least_of x.claim m).seat ≢ lost.claim.seat
   pub seat : x.claim.write_half ≡ true → (least_of x.claim m).seat < SEATS
-  pub head : x.claim.write_half ≡ true → (least_of x.claim m).seat ≢ lost → head_of n x.claim ≡ with_told came (head_of m x.claim)
+  -- its least claim stays, where that is of another seat than the one that is lost
+  pub other : x.claim.write_half ≡ true → (least_of x.claim m).seat ≢ lost.claim.seat → (least_of x.claim n).stamp ≡ (least_of x.claim m).stamp
+  -- or where it has none of these places: those of the write that goes, and of each earlier write whose least claim does not stay
+  pub apart :
+      x.claim.write_half ≡ true → (dirty : Set) → is_subset gone dirty ≡ true → meets x.claim.places dirty ≡ false → AllByRecursion (λ y. y.claim.stamp < x.claim.stamp → IsNoted dirty m n y) n
+      → (least_of x.claim n).stamp ≡ (least_of x.claim m).stamp
+  -- a least claim that stays may have come to be satisfied
+  pub head : x.claim.write_half ≡ true → (least_of x.claim n).stamp ≡ (least_of x.claim m).stamp → head_of n x.claim ≡ with_told came (head_of m x.claim)
+  pub one : x.claim.write_half ≡ true → (least_of x.claim m).seat ≡ lost.claim.seat → head_of m x.claim ≡ lost
 
--- heads for each seat tell that of a write at both moments
-abbrev pub HeadsAre : List Head → List Head → Moment → Moment → Claimed → Type 0
-HeadsAre hs hs' m n x = (slice_get hs x.claim.seat ≡ Some (head_of m x.claim)) × (slice_get hs' x.claim.seat ≡ Some (head_of n x.claim))
-
--- they do so where the head of a write changed, and no other did
-pub record HeadsTell (hs' hs : List Head) (changed : Set) (m n : Moment) (x : Claimed) : Type 0 where
-  pub others : x.claim.write_half ≡ true → contains changed x.claim.seat ≡ true → HeadsAre hs hs' m n x
-  pub same : x.claim.write_half ≡ true → contains changed x.claim.seat ≡ false → head_of n x.claim ≡ head_of m x.claim
+-- what became of the head of a write from a moment m to the next, n: its seat may be among those that moved, or among those that rose
+pub record HeadsTell (hs' : List Head) (lost : Head) (went rose : Set) (m n : Moment) (x : Claimed) : Type 0 where
+  -- it had the least claim that is lost, and has another head now
+  pub moved : x.claim.write_half ≡ true → contains went x.claim.seat ≡ true → (head_of m x.claim ≡ lost) × (slice_get hs' x.claim.seat ≡ Some (head_of n x.claim))
+  -- its least claim came to be satisfied
+  pub risen :
+      x.claim.write_half ≡ true → contains went x.claim.seat ≡ false → contains rose x.claim.seat ≡ true
+      → (slice_get hs' x.claim.seat ≡ Some (head_of n x.claim)) × (head_of m x.claim ≡ record { claim = (head_of n x.claim).claim; holds = false }) × ((head_of n x.claim).holds ≡ true)
+  -- or it is as it was
+  pub same : x.claim.write_half ≡ true → contains went x.claim.seat ≡ false → contains rose x.claim.seat ≡ false → head_of n x.claim ≡ head_of m x.claim
 
 -- one claim more was gone on with: its head is that of the next moment, and for other seats all is as it was
-pub record IsTurned (now last : List Head) (changed : Set) (now' last' : List Head) (changed' : Set) (m n : Moment) (x : Claimed) : Type 0 where
+pub record IsTurned (now : List Head) (moves : Moves) (lost : Head) (now' : List Head) (moves' : Moves) (m n : Moment) (x : Claimed) : Type 0 where
   pub head : x.claim.write_half ≡ true → slice_get now' x.claim.seat ≡ Some (head_of n x.claim)
-  pub tells : HeadsTell now' last' changed' m n x
+  pub tells : HeadsTell now' lost moves'.moved moves'.risen m n x
+  pub noted : IsNoted moves'.dirty m n x
   pub now_stays : (seat : ℕ) → (x.claim.write_half ≡ true → seat ≢ x.claim.seat) → slice_get now' seat ≡ slice_get now seat
-  pub last_stays : (seat : ℕ) → (x.claim.write_half ≡ true → seat ≢ x.claim.seat) → slice_get last' seat ≡ slice_get last seat
-  pub changed_stays : (seat : ℕ) → (x.claim.write_half ≡ true → seat ≢ x.claim.seat) → contains changed' seat ≡ contains changed seat
+  pub moved_stays : (seat : ℕ) → (x.claim.write_half ≡ true → seat ≢ x.claim.seat) → contains moves'.moved seat ≡ contains moves.moved seat
+  pub risen_stays : (seat : ℕ) → (x.claim.write_half ≡ true → seat ≢ x.claim.seat) → contains moves'.risen seat ≡ contains moves.risen seat
+  pub dirty_more : is_subset moves.dirty moves'.dirty ≡ true
+
+-- a claim stands behind others whose heads are told as they are at this moment; its own is told as it was at another, m
+pub record IsNext (now : List Head) (m before : Moment) (x : Claimed) (rest : Moment) : Type 0 where
+  pub rising : EachPair Rises (before ++ x ∷ rest)
+  pub distinct : EachPair Distinct (before ++ x ∷ rest)
+  pub told : TellAt now (before ++ x ∷ rest) before
+  pub own : x.claim.write_half ≡ true → slice_get now x.claim.seat ≡ Some (head_of m x.claim)
+
+-- no seat of a write is told to have another head yet
+pub record IsNew (moves : Moves) (x : Claimed) : Type 0 where
+  pub unmoved : x.claim.write_half ≡ true → contains moves.moved x.claim.seat ≡ false
+  pub unrisen : x.claim.write_half ≡ true → contains moves.risen x.claim.seat ≡ false
 
 -- resources that hold all that the writes of these seats write
 abbrev pub HoldWritten : Set → Set → Moment → Type 0
@@ -136,6 +172,10 @@ ReadStays written m n x =
     x.claim.write_half ≡ false → meets x.claim.reads written ≡ false
     → (v : Claim) → keeper_at x.claim m ≡ Some v → holds_at v m ≡ false → holds_at v n ≡ false
 
--- what is kept of the wait of a claim may change by an event: the wait begins, the head of the write changed, or the read reads some of what came to be held
+-- the seats of the writes that are looked at: that of the upgrade that rises, and those that wait and whose heads changed
+abbrev pub is_looked_at : Event → Set → Set → Set → ℕ → Bool
+is_looked_at e waiting moved risen seat = rises_at e seat || (contains waiting seat && (contains moved seat || contains risen seat))
+
+-- what is kept of the wait of a claim may change by an event: the write is looked at, or the wait of the read begins, or it reads some of what came to be held
 abbrev pub is_due : Event → Set → Set → Claimed → Bool
-is_due e changed written x = rises_at e x.claim.seat || (if x.claim.write_half then contains changed x.claim.seat else meets x.claim.reads written)
+is_due e looked written x = if x.claim.write_half then contains looked x.claim.seat else rises_at e x.claim.seat || meets x.claim.reads written

@@ -1,8 +1,6 @@
 -- Claims of whose wait an event that is no issue ends none.
-use Rattle.std.specs.Prelude.{◌≡◌, ◌==◌, ℕ, Bool, true, not, ◌&&◌, List, []}
+use Rattle.std.specs.Prelude.{◌≡◌, ◌==◌, ℕ, Bool, true, false, not, ◌&&◌, List, []}
 use Rattle.std.specs.List.{list_any}
-use Rattle.std.specs.FinSet.{contains}
-use Rattle.rset.specs.Sets.{Set}
 use Rattle.rclaim.specs.declared.changes.GrantChange.{GrantChange}
 use Rattle.rclaim.specs.declared.changes.StatusChange.{StatusChange}
 use Rattle.rmodel.specs.Claims.{satisfied_by}
@@ -20,13 +18,13 @@ has_grant gs seat = list_any (λ g. g.seat == seat) gs
 abbrev pub is_quiet : ℕ → List GrantChange → Claimed → Bool
 is_quiet seat gs x = not (x.claim.seat == seat) && (not (waits_for_ask [] x) && not (has_grant gs x.claim.seat))
 
--- a claim is of none of these seats, and no ask of it is pending
-abbrev pub is_aside : Set → Claimed → Bool
-is_aside seats x = not (contains seats x.claim.seat) && not (waits_for_ask [] x)
-
 -- then its wait goes on
 abbrev pub GoesOn : ℕ → List GrantChange → Moment → Moment → Claimed → Type 0
 GoesOn seat gs m n x = is_quiet seat gs x ≡ true → (w : Which) → waits_in w m x ≡ true → stands (waits_in w) x.claim n ≡ true
+
+-- of two claims of one seat, the later is in no wait
+abbrev pub OneWaits : Moment → Claimed → Claimed → Type 0
+OneWaits m x y = x.claim.seat ≡ y.claim.seat → (w : Which) → waits_in w m y ≡ false
 
 -- the write of a seat is told to be satisfied
 abbrev pub tells_write_of : List StatusChange → ℕ → Bool

@@ -5,6 +5,7 @@ use Rattle.rcover.specs.Lists.{reads_against, with_option}
 use Rattle.rcover.specs.Moments.{Moment, is_claim, holds_at}
 use Rattle.rcover.specs.Sections.{Sections}
 use Rattle.rwaits.specs.Last.{first_at}
+use Rattle.rwaits.specs.declared.lines.Head.{Head}
 
 -- the sections of a write wait whose least claim is e at the last moment m, with those of its closed stretches
 abbrev pub write_shown : Claim → Sections → Moment → Sections
@@ -18,4 +19,11 @@ abbrev pub write_closed : Claim → Sections → Moment → Claim → Moment →
 write_closed e closed m f n = record {
   reads = if is_claim e f && not (holds_at f n) then closed.reads else (write_shown e closed m).reads;
   writes = if is_claim e f then closed.writes else (write_shown e closed m).writes;
+}
+
+-- the same by the heads of the line, which tell its least claim and whether that is satisfied: h at m, and g at n
+abbrev pub closed_by : Head → Sections → Moment → Head → Sections
+closed_by h closed m g = record {
+  reads = if is_claim h.claim g.claim && not g.holds then closed.reads else if h.holds then closed.reads else with_option closed.reads (first_at (reads_against h.claim) m);
+  writes = if is_claim h.claim g.claim then closed.writes else if h.holds then closed.writes ++ h.claim ∷ [] else closed.writes;
 }

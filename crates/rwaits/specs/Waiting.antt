@@ -1,13 +1,15 @@
 -- Which seats wait.
-use Rattle.std.specs.Prelude.{◌≡◌, ◌==◌, ℕ, Bool, true, nat_lt, ◌&&◌, ◌||◌, if◌then◌else◌}
+use Rattle.std.specs.Prelude.{◌≡◌, ◌==◌, ℕ, Bool, true, false, nat_lt, not, ◌&&◌, ◌||◌, List, [], if◌then◌else◌}
 use Rattle.std.specs.List.{list_any, AllByRecursion}
 use Rattle.std.specs.FinSet.{contains, empty, insert, is_subset, len, remove}
 use Rattle.rset.specs.Sets.{Set}
 use Rattle.rclaim.specs.declared.event.Event.{Event}
 use Rattle.rclaim.specs.declared.event.Event.TheVariants.{Issue, Finish, Rise, Ask}
 use Rattle.rmodel.specs.declared.claimed.Claimed.{Claimed}
+use Rattle.rmodel.specs.Claims.{is_satisfied}
+use Rattle.rcover.specs.declared.wait_end.WaitEnd.{WaitEnd}
 use Rattle.rcover.specs.Moments.{Moment}
-use Rattle.rcover.specs.Told.{waits_to_rise}
+use Rattle.rcover.specs.Told.{waits_first, waits_to_rise, waits_for_ask}
 use Rattle.rwaits.specs.Follow.{may_wait}
 use Rattle.rwaits.specs.Past.{is_issue}
 
@@ -27,24 +29,39 @@ HoldWaiting seats n = AllByRecursion (λ x. some_wait n x ≡ true → contains 
 abbrev pub with_seat : Set → Moment → ℕ → Set
 with_seat seats n seat = if seat_waits n seat then insert seats seat else remove seats seat
 
--- the seats of all upgrades that wait to rise are among these
-abbrev pub HoldRising : Set → Moment → Type 0
-HoldRising seats n = AllByRecursion (λ x. waits_to_rise n x ≡ true → contains seats x.claim.seat ≡ true) n
+-- a claim of one of these seats is not satisfied
+abbrev pub is_rising : Set → Claimed → Bool
+is_rising seats x = contains seats x.claim.seat && not (is_satisfied x)
 
--- an upgrade of a seat does so
-abbrev pub seat_rises : Moment → ℕ → Bool
-seat_rises n seat = list_any (λ x. (x.claim.seat == seat) && waits_to_rise n x) n
+-- these seats tell which claims wait to rise: just their claims that are not satisfied
+abbrev pub TellRising : Set → Moment → Type 0
+TellRising seats n = AllByRecursion (λ x. waits_to_rise n x ≡ is_rising seats x) n
 
--- seats, with one of which it is told whether its upgrade waits to rise
-abbrev pub with_risen : Set → Moment → ℕ → Set
-with_risen seats n seat = if seat_rises n seat then insert seats seat else remove seats seat
-
--- seats, with that of an upgrade that rises
+-- seats, with that of an upgrade that rises, and without that of a request that comes or is over
 abbrev pub risen_by : Set → Event → Set
-risen_by seats (Issue seat r) = seats
-risen_by seats (Finish seat) = seats
+risen_by seats (Issue seat r) = remove seats seat
+risen_by seats (Finish seat) = remove seats seat
 risen_by seats (Rise seat) = insert seats seat
 risen_by seats (Ask seat part) = seats
+
+-- a claim is in a wait or asks for something, where it is told whether the upgrade of its seat rose
+abbrev pub waits_by : Bool → Claimed → Bool
+waits_by rose x = (waits_first [] x || (rose && not (is_satisfied x))) || nat_lt 0 (len x.asked)
+
+-- the seats of all requests of which an ask is pending are among these
+abbrev pub HoldAsking : Set → Moment → Type 0
+HoldAsking seats n = AllByRecursion (λ x. waits_for_ask n x ≡ true → contains seats x.claim.seat ≡ true) n
+
+-- seats, with that of a request that asks, and without that of one that comes or is over
+abbrev pub asked_by : Set → Event → Set
+asked_by seats (Issue seat r) = remove seats seat
+asked_by seats (Finish seat) = remove seats seat
+asked_by seats (Rise seat) = seats
+asked_by seats (Ask seat part) = insert seats seat
+
+-- one of these waits was of a seat
+abbrev pub has_end : List WaitEnd → ℕ → Bool
+has_end ends seat = list_any (λ w. w.seat == seat) ends
 
 -- the place behind which the claims of the seat of an event stand, where so many claims were there and so many are there now:
 -- those of an issue stand behind all that were there, and a finish leaves none
@@ -53,6 +70,13 @@ first_of (Issue seat r) there all = there
 first_of (Finish seat) there all = all
 first_of (Rise seat) there all = 0
 first_of (Ask seat part) there all = 0
+
+-- an event is a finish
+abbrev pub is_finish : Event → Bool
+is_finish (Issue seat r) = false
+is_finish (Finish seat) = true
+is_finish (Rise seat) = false
+is_finish (Ask seat part) = false
 
 -- an event ends no wait: it is an issue, or no seat waits
 abbrev pub ends_none : Set → Event → Bool

@@ -1,167 +1,211 @@
 // What is kept of the waits of all seats.
-ghost use Rattle.std.specs.Prelude.{◌≡◌, ◌≤◌, ◌<◌, true, false, not, ℕ, length};
+ghost use Rattle.std.specs.Prelude.{◌≡◌, ◌<◌, true, false, ℕ, length, if◌then◌else◌};
 ghost use Rattle.std.specs.List.{AllByRecursion};
+ghost use Rattle.rclaim.specs.Events.{seat_of};
 ghost use Rattle.rclaim.specs.declared.claim.Claim.{Claim};
 ghost use Rattle.rset.specs.declared.TheConstants.{SEATS};
 ghost use Rattle.rmodel.specs.WellFormed.{EachPair, Rises};
-ghost use Rattle.rcover.specs.Ended.{waits_in};
-ghost use Rattle.rwaits.specs.Follow.{table_of, length_by, HasRoom, AreLong, AreOf, WaitApart, may_wait, kept_of, with_entry, kept_with};
+ghost use Rattle.rwaits.specs.Follow.{table_of, length_by, section_of, HasRoom, IsTaken, AreLong, AreOf, WaitApart, may_wait, kept_of, with_entry, kept_with};
 ghost use Rattle.rcover.specs.Lists.{AreAtMost};
 ghost use Rattle.std.specs.FinSet.{contains};
-ghost use Rattle.rcover.specs.Told.{waits_to_rise, stands};
-ghost use Rattle.rwaits.specs.Waiting.{some_wait, HoldWaiting, HoldRising};
-ghost use Rattle.rwaits.specs.Lines.{HeadsAre, HeadsTell, ReadStays, is_due};
+ghost use Rattle.rcover.specs.Moments.{Moment};
+ghost use Rattle.rcover.specs.Told.{waits_to_rise};
+ghost use Rattle.rwaits.specs.Waiting.{HoldWaiting, is_rising, TellRising};
+ghost use Rattle.rwaits.specs.Lines.{HeadsTell, ReadStays, is_looked_at, is_due};
 ghost use Rattle.rwaits.specs.Past.{rises_at, StoodBy};
-ghost use Rattle.rwaits.specs.Tracked.{kept_by, no_sections};
+ghost use Rattle.rcover.specs.Sections.{Sections};
+ghost use Rattle.rwaits.specs.Tracked.{no_sections, gone_on};
 
 use crate::lines::Head;
-use crate::noted::{has_stood, is_rise};
-use crate::run::{Run, clear, keep_by};
-use crate::section::Lengths;
-use rbound::Which;
+use crate::noted::has_stood;
+use crate::run::{Run, Taken, clear, keep_by, none_taken};
+use crate::section::{Lengths, Section, section_of};
+use crate::waiting::still_rises;
 use rclaim::Event;
-use rcover::{waits_first, waits_to_rise};
+use rcover::waits_first;
 use rmodel::Claimed;
 use rset::ResourceSet;
 
-/// Keeps of one wait what is due at the next moment.
+/// The seats of the writes that are looked at: that of the upgrade that rises, and those that wait and whose heads changed.
+fn looked_at(
+    event: &Event,
+    waiting: ResourceSet,
+    moved: ResourceSet,
+    risen: ResourceSet,
+) -> ResourceSet
+    requires { seat_of event.now < SEATS }
+    ensures { (seat : ℕ) → contains result seat ≡ is_looked_at event.now waiting moved risen seat }
+{
+    let changed = waiting.meet(moved.union(risen));
+    let seat = event.seat();
+    // The wait of its seat begins with a rise alone.
+    if has_stood(event, seat) {
+        return changed;
+    }
+    changed.with(seat)
+}
+
+/// Whether what is kept of the wait of a claim may change: the write is looked at, or the wait of the read begins, or what came to
+/// be satisfied writes some of what it reads.
+fn is_due(event: &Event, looked: ResourceSet, written: ResourceSet, x: &Claimed) -> bool
+    requires { x.now.claim.seat < SEATS }
+    ensures { result ≡ is_due event.now looked written x.now }
+{
+    if x.claim.write_half {
+        looked.has(x.claim.seat)
+    } else {
+        !has_stood(event, x.claim.seat) || x.claim.reads.meets(written)
+    }
+}
+
+/// Whether a claim waits, before it holds anything or to rise, where the seats that rose tell which claims wait to rise.
+fn may_wait(rising: ResourceSet, x: &Claimed) -> bool
+    requires { x.now.claim.seat < SEATS }
+    ensures { (n : Moment) → waits_to_rise n x.now ≡ is_rising rising x.now → result ≡ may_wait n x.now }
+{
+    waits_first(x) || still_rises(rising.has(x.claim.seat), x)
+}
+
+/// Keeps of the wait of a claim what is due at the next moment.
 fn keep_wait(
     runs: &mut [Run],
-    which: Which,
+    taken: &mut Taken,
     event: &Event,
     lengths: &[Lengths],
+    lost: &Head,
+    section: &Section,
+    moved: ResourceSet,
+    risen: ResourceSet,
     heads: &[Head],
-    next_heads: &[Head],
     x: &Claimed,
     last: &[Claimed],
     next: &[Claimed],
 )
+    requires low { x.now.claim.seat < SEATS }
     requires seat { x.now.claim.seat < length runs.old }
-    requires head { (x.now.claim.seat < length heads.now) × (x.now.claim.seat < length next_heads.now) }
+    requires head { x.now.claim.seat < length heads.now }
+    requires heads { HeadsTell heads.now lost.now moved risen last.now next.now x.now }
+    requires section { section.now ≡ section_of lengths.now lost.now.claim }
+    requires taken { IsTaken lengths.now last.now taken.old }
     requires last_rises { EachPair Rises last.now }
     requires next_rises { EachPair Rises next.now }
-    requires waits { waits_in which next.now x.now ≡ true }
-    requires stood { stands (waits_in which) x.now.claim last.now ≡ not (rises_at event.now x.now.claim.seat) }
-    requires heads { rises_at event.now x.now.claim.seat ≡ false → x.now.claim.write_half ≡ true → HeadsAre heads.now next_heads.now last.now next.now x.now }
     requires room { AllByRecursion HasRoom runs.old }
-    requires few { AreAtMost SEATS (kept_by (waits_in which) x.now.claim (table_of runs.old x.now.claim.seat) last.now next.now) }
-    ensures kept { (seat : ℕ) → table_of runs.new seat ≡ with_entry (table_of runs.old) x.now.claim.seat (kept_by (waits_in which) x.now.claim (table_of runs.old x.now.claim.seat) last.now next.now) seat }
+    requires few { AreAtMost SEATS (if rises_at event.now x.now.claim.seat then no_sections else gone_on x.now.claim (table_of runs.old x.now.claim.seat) last.now next.now) }
+    ensures taken { IsTaken lengths.now last.now taken.new }
+    ensures kept { (seat : ℕ) → table_of runs.new seat ≡ with_entry (table_of runs.old) x.now.claim.seat (if rises_at event.now x.now.claim.seat then no_sections else gone_on x.now.claim (table_of runs.old x.now.claim.seat) last.now next.now) seat }
     ensures room { AllByRecursion HasRoom runs.new }
     ensures len { length runs.new ≡ length runs.old }
     ensures lengths { (len : Claim → ℕ) → AreOf (length_by lengths.now) len last.now → length_by lengths.now x.now.claim ≡ len x.now.claim → AllByRecursion (AreLong len) runs.old → AllByRecursion (AreLong len) runs.new }
 {
     keep_by(
         &mut runs[x.claim.seat as usize],
-        has_stood(event, x.claim.seat),
+        event,
+        taken,
         lengths,
-        &x.claim,
-        &heads[x.claim.seat as usize],
-        &next_heads[x.claim.seat as usize],
+        lost,
+        section,
+        moved,
+        risen,
+        heads,
+        x,
         last,
         next,
     );
 }
 
-/// Whether what is kept of the wait of a claim may change: the wait begins, the head of the write changed, or what came to be
-/// satisfied writes some of what the read reads.
-fn is_due(event: &Event, changed: ResourceSet, written: ResourceSet, x: &Claimed) -> bool
-    requires { x.now.claim.seat < SEATS }
-    ensures { result ≡ is_due event.now changed written x.now }
-{
-    if !has_stood(event, x.claim.seat) {
-        return true;
-    }
-    if x.claim.write_half {
-        changed.has(x.claim.seat)
-    } else {
-        x.claim.reads.meets(written)
-    }
-}
-
-/// Keeps of the wait of a claim at the next moment what is due there, if it waits.
+/// Keeps of the wait of a claim at the next moment what is due there, if something is and it waits.
 fn keep_at(
     runs: &mut [Run],
-    waiting: ResourceSet,
+    taken: &mut Taken,
+    looked: ResourceSet,
     rising: ResourceSet,
     event: &Event,
     written: ResourceSet,
     lengths: &[Lengths],
-    changed: ResourceSet,
+    lost: &Head,
+    section: &Section,
+    moved: ResourceSet,
+    risen: ResourceSet,
     heads: &[Head],
-    next_heads: &[Head],
     x: &Claimed,
     last: &[Claimed],
     next: &[Claimed],
 )
     requires low { x.now.claim.seat < SEATS }
-    requires waiting { some_wait next.now x.now ≡ true → contains waiting x.now.claim.seat ≡ true }
-    requires rising { waits_to_rise next.now x.now ≡ true → contains rising x.now.claim.seat ≡ true }
+    requires undue { is_due event.now looked written x.now ≡ false → may_wait next.now x.now ≡ true → (a : Sections) → kept_of last.now next.now a x.now ≡ a }
+    requires rising { waits_to_rise next.now x.now ≡ is_rising rising x.now }
     requires seat { x.now.claim.seat < length runs.old }
-    requires head { (x.now.claim.seat < length heads.now) × (x.now.claim.seat < length next_heads.now) }
-    requires heads { HeadsTell next_heads.now heads.now changed last.now next.now x.now }
-    requires reads { ReadStays written last.now next.now x.now }
+    requires head { x.now.claim.seat < length heads.now }
+    requires heads { HeadsTell heads.now lost.now moved risen last.now next.now x.now }
+    requires section { section.now ≡ section_of lengths.now lost.now.claim }
+    requires taken { IsTaken lengths.now last.now taken.old }
     requires last_rises { EachPair Rises last.now }
     requires next_rises { EachPair Rises next.now }
     requires stood { StoodBy event.now last.now next.now x.now }
     requires room { AllByRecursion HasRoom runs.old }
     requires few { may_wait next.now x.now ≡ true → AreAtMost SEATS (kept_of last.now next.now (table_of runs.old x.now.claim.seat) x.now) }
+    ensures taken { IsTaken lengths.now last.now taken.new }
     ensures kept { (seat : ℕ) → table_of runs.new seat ≡ kept_with last.now next.now (table_of runs.old) x.now seat }
     ensures room { AllByRecursion HasRoom runs.new }
     ensures len { length runs.new ≡ length runs.old }
     ensures lengths { (len : Claim → ℕ) → AreOf (length_by lengths.now) len last.now → length_by lengths.now x.now.claim ≡ len x.now.claim → AllByRecursion (AreLong len) runs.old → AllByRecursion (AreLong len) runs.new }
 {
-    if !waiting.has(x.claim.seat) {
+    if !is_due(event, looked, written, x) {
         return;
     }
-    if !is_due(event, changed, written, x) {
+    if !may_wait(rising, x) {
         return;
     }
-    if waits_first(x) {
-        keep_wait(
-            runs,
-            Which::First,
-            event,
-            lengths,
-            heads,
-            next_heads,
-            x,
-            last,
-            next,
-        );
-        return;
-    }
-    if !rising.has(x.claim.seat) {
-        return;
-    }
-    if waits_to_rise(next, x) {
-        keep_wait(
-            runs,
-            Which::Rise,
-            event,
-            lengths,
-            heads,
-            next_heads,
-            x,
-            last,
-            next,
-        );
-    }
+    keep_wait(
+        runs, taken, event, lengths, lost, section, moved, risen, heads, x, last, next,
+    );
 }
 
-/// Whether nothing is due of any wait: none begins, no head changed, and nothing came to be satisfied that writes anything.
-fn is_none_due(event: &Event, changed: ResourceSet, written: ResourceSet) -> bool
-    ensures { result ≡ true → (x : Claimed) → is_due event.now changed written x ≡ false }
+/// Keeps of the waits of all claims at the next moment what is due there. Of the writes only those of these seats are looked at.
+fn keep_looked(
+    runs: &mut [Run],
+    looked: ResourceSet,
+    rising: ResourceSet,
+    event: &Event,
+    written: ResourceSet,
+    lengths: &[Lengths],
+    lost: &Head,
+    moved: ResourceSet,
+    risen: ResourceSet,
+    heads: &[Head],
+    last: &[Claimed],
+    next: &[Claimed],
+)
+    requires low { AllByRecursion (λ x. x.claim.seat < SEATS) next.now }
+    requires undue { AllByRecursion (λ x. is_due event.now looked written x ≡ false → may_wait next.now x ≡ true → (a : Sections) → kept_of last.now next.now a x ≡ a) next.now }
+    requires rising { TellRising rising next.now }
+    requires seats { AllByRecursion (λ x. x.claim.seat < length runs.old) next.now }
+    requires head { AllByRecursion (λ x. x.claim.seat < length heads.now) next.now }
+    requires heads { AllByRecursion (HeadsTell heads.now lost.now moved risen last.now next.now) next.now }
+    requires last_rises { EachPair Rises last.now }
+    requires next_rises { EachPair Rises next.now }
+    requires stood { AllByRecursion (StoodBy event.now last.now next.now) next.now }
+    requires room { AllByRecursion HasRoom runs.old }
+    requires apart { EachPair (WaitApart next.now) next.now }
+    requires few { AllByRecursion (λ x. may_wait next.now x ≡ true → AreAtMost SEATS (kept_of last.now next.now (table_of runs.old x.claim.seat) x)) next.now }
+    ensures kept { AllByRecursion (λ x. may_wait next.now x ≡ true → table_of runs.new x.claim.seat ≡ kept_of last.now next.now (table_of runs.old x.claim.seat) x) next.now }
+    ensures room { AllByRecursion HasRoom runs.new }
+    ensures len { length runs.new ≡ length runs.old }
+    ensures lengths { (len : Claim → ℕ) → AreOf (length_by lengths.now) len last.now → AreOf (length_by lengths.now) len next.now → AllByRecursion (AreLong len) runs.old → AllByRecursion (AreLong len) runs.new }
 {
-    if !changed.is_empty() {
-        return false;
+    let section = section_of(lengths, &lost.claim);
+    let mut taken = none_taken();
+    for x in next {
+        keep_at(
+            runs, &mut taken, looked, rising, event, written, lengths, lost, &section, moved,
+            risen, heads, x, last, next,
+        );
     }
-    if !written.is_empty() {
-        return false;
-    }
-    !is_rise(event)
 }
 
-/// Keeps of all waits what is due at the next moment. No seats wait but these, and no upgrades wait to rise but those of these.
+/// Keeps of all waits what is due at the next moment. No seats wait but these, and no upgrades wait to rise but those that are told by those that rose.
+/// `moved` are the seats of the writes whose head was the one that is `lost` and is another now, and `risen` those of the writes whose
+/// least claim came to be satisfied.
 pub(crate) fn keep(
     runs: &mut [Run],
     waiting: ResourceSet,
@@ -169,18 +213,20 @@ pub(crate) fn keep(
     event: &Event,
     written: ResourceSet,
     lengths: &[Lengths],
-    changed: ResourceSet,
+    lost: &Head,
+    moved: ResourceSet,
+    risen: ResourceSet,
     heads: &[Head],
-    next_heads: &[Head],
     last: &[Claimed],
     next: &[Claimed],
 )
+    requires event { seat_of event.now < SEATS }
     requires low { AllByRecursion (λ x. x.claim.seat < SEATS) next.now }
     requires waiting { HoldWaiting waiting next.now }
-    requires rising { HoldRising rising next.now }
+    requires rising { TellRising rising next.now }
     requires seats { AllByRecursion (λ x. x.claim.seat < length runs.old) next.now }
-    requires head { AllByRecursion (λ x. (x.claim.seat < length heads.now) × (x.claim.seat < length next_heads.now)) next.now }
-    requires heads { AllByRecursion (HeadsTell next_heads.now heads.now changed last.now next.now) next.now }
+    requires head { AllByRecursion (λ x. x.claim.seat < length heads.now) next.now }
+    requires heads { AllByRecursion (HeadsTell heads.now lost.now moved risen last.now next.now) next.now }
     requires reads { AllByRecursion (ReadStays written last.now next.now) next.now }
     requires last_rises { EachPair Rises last.now }
     requires next_rises { EachPair Rises next.now }
@@ -193,15 +239,13 @@ pub(crate) fn keep(
     ensures len { length runs.new ≡ length runs.old }
     ensures lengths { (len : Claim → ℕ) → AreOf (length_by lengths.now) len last.now → AreOf (length_by lengths.now) len next.now → AllByRecursion (AreLong len) runs.old → AllByRecursion (AreLong len) runs.new }
 {
-    if is_none_due(event, changed, written) {
+    let looked = looked_at(event, waiting, moved, risen);
+    if looked.is_empty() && written.is_empty() {
         return;
     }
-    for x in next {
-        keep_at(
-            runs, waiting, rising, event, written, lengths, changed, heads, next_heads, x, last,
-            next,
-        );
-    }
+    keep_looked(
+        runs, looked, rising, event, written, lengths, lost, moved, risen, heads, last, next,
+    );
 }
 
 /// Keeps nothing of the wait of a seat.

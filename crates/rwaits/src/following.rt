@@ -10,16 +10,17 @@ ghost use Rattle.rmodel.specs.Steps.{Fits, Accepts, Comes, Steps, next, refusal}
 ghost use Rattle.rwaits.specs.Follow.{HasRoom, IsEmpty};
 ghost use Rattle.rwaits.specs.Past.{Past, begun, state_of, with_event, AreLastEnded};
 ghost use Rattle.rwaits.specs.Follows.{Follows, IsAhead};
-ghost use Rattle.rwaits.specs.Waiting.{ends_none};
+ghost use Rattle.rwaits.specs.Waiting.{ends_none, is_finish};
+ghost use Rattle.rplain.specs.Machine.{Standing};
 
 use crate::follow::{clear_run, keep};
 use crate::heads::Heads;
 use crate::lines::touched_by;
-use crate::noted::{is_issue, note_ask, note_lengths, seats_told, written_by};
+use crate::noted::{is_finish, is_issue, note_ask, note_lengths, seats_told, written_by};
 use crate::run::Run;
 use crate::section::Lengths;
 use crate::tell::tell;
-use crate::waiting::{ends_none, first_of, note_ended, note_rise, note_risen, note_seat};
+use crate::waiting::{ends_none, first_of, note_ended, note_event, note_seat};
 use rclaim::Event;
 use rcover::WaitEnd;
 use rmodel::{Claimed, Machine, Refused};
@@ -39,8 +40,10 @@ const CLAIMS: usize = 2 * PLACES;
 pub struct Following {
     // The seats that wait, with others maybe.
     waiting: ResourceSet,
-    // The seats of the upgrades that wait to rise, with others maybe.
+    // The seats of the upgrades that rose.
     rising: ResourceSet,
+    // The seats of the requests of which an ask is pending, with others maybe.
+    asking: ResourceSet,
     // The claims before the last event that might end a wait.
     last: Vec<Claimed>,
     // How many claims there were before the last event.
@@ -103,6 +106,7 @@ impl Following {
         Ok(Following {
             waiting: ResourceSet::empty(),
             rising: ResourceSet::empty(),
+            asking: ResourceSet::empty(),
             last: Vec::with_capacity(alloc, CLAIMS)?,
             there: 0,
             runs: new_runs(alloc)?,
@@ -160,13 +164,38 @@ impl Following {
         ensures { (p : Past) → IsAhead self.old machine.now p event.now → Follows self.new (with_event p event.now) }
     {
         if ends_none(self.waiting, event) {
-            self.go_on(machine, event);
+            self.pass(machine, event);
         } else {
             self.advance(machine, event);
         }
     }
 
-    // Follows an event that ends no wait. Of the wait of its seat nothing is kept yet, and all other waits go on as they are.
+    // Follows an event that ends no wait.
+    fn pass(&mut self, machine: &Plain, event: &Event)
+        requires ahead { (p : Past) × IsAhead self.old machine.now p event.now × (length p.events < 2 ^ 63) }
+        requires calm { ends_none self.old.waiting event.now ≡ true }
+        ensures { (p : Past) → IsAhead self.old machine.now p event.now → Follows self.new (with_event p event.now) }
+    {
+        if is_finish(event) {
+            self.let_go(event);
+        } else {
+            self.go_on(machine, event);
+        }
+    }
+
+    // Follows a finish where nobody waits: nothing is left of its seat, and all that is kept of others stays.
+    fn let_go(&mut self, event: &Event)
+        requires ahead { (machine : Standing) × (p : Past) × IsAhead self.old machine p event.now }
+        requires calm { ends_none self.old.waiting event.now ≡ true }
+        requires finish { is_finish event.now ≡ true }
+        ensures { (machine : Standing) (p : Past) → IsAhead self.old machine p event.now → Follows self.new (with_event p event.now) }
+    {
+        self.ended.clear();
+        self.heads.close();
+    }
+
+    // Follows an event that ends no wait and is no finish. Of the wait of its seat nothing is kept yet, and all other waits go on
+    // as they are.
     fn go_on(&mut self, machine: &Plain, event: &Event)
         requires ahead { (p : Past) × IsAhead self.old machine.now p event.now × (length p.events < 2 ^ 63) }
         requires calm { ends_none self.old.waiting event.now ≡ true }
@@ -176,14 +205,22 @@ impl Following {
         self.ended.clear();
         note_lengths(&mut self.lengths, event);
         note_ask(&mut self.asks, event);
+        note_event(&mut self.rising, &mut self.asking, event);
         let first = first_of(event, self.there, machine.claims());
-        note_seat(&mut self.waiting, event.seat(), first, machine.claims());
-        note_risen(&mut self.rising, event.seat(), first, machine.claims());
+        note_seat(
+            &mut self.waiting,
+            self.rising,
+            event.seat(),
+            first,
+            machine.claims(),
+        );
         self.heads
             .pass(is_issue(event), self.there, machine.claims());
     }
 
-    // Follows an event that may end a wait: each wait of before it is looked at, and each of after it.
+    // Follows an event that may end a wait: each wait of before it is looked at, and each of after it. It stays a call, so that
+    // an event that ends none needs no room for it.
+    #[inline(never)]
     fn advance(&mut self, machine: &Plain, event: &Event)
         requires ahead { (p : Past) × IsAhead self.old machine.now p event.now × (length p.events < 2 ^ 63) }
         requires other { ends_none self.old.waiting event.now ≡ false }
@@ -198,6 +235,8 @@ impl Following {
             &self.lengths,
             &self.asks,
             self.waiting,
+            self.rising,
+            self.asking,
             event.seat(),
             &machine.changes().grants,
             &self.last,
@@ -205,14 +244,24 @@ impl Following {
         );
         note_lengths(&mut self.lengths, event);
         note_ask(&mut self.asks, event);
+        note_event(&mut self.rising, &mut self.asking, event);
+        note_ended(&mut self.waiting, &self.ended);
         let first = first_of(event, self.there, machine.claims());
-        note_seat(&mut self.waiting, event.seat(), first, machine.claims());
-        note_ended(&mut self.waiting, &self.ended, machine.claims());
-        note_rise(&mut self.rising, event);
+        note_seat(
+            &mut self.waiting,
+            self.rising,
+            event.seat(),
+            first,
+            machine.claims(),
+        );
         let came = seats_told(&machine.changes().statuses);
-        let lost = self.heads.lost(event, &self.last);
-        let touched = touched_by(&self.heads.behind, lost, &machine.changes().statuses);
-        self.heads.turn(lost, came, touched, machine.claims());
+        let gone = self.heads.lose(event, &self.last);
+        let touched = touched_by(
+            &self.heads.behind,
+            self.heads.lost.claim.seat,
+            &machine.changes().statuses,
+        );
+        self.heads.turn(gone, came, touched, machine.claims());
         keep(
             &mut self.runs,
             self.waiting,
@@ -220,8 +269,9 @@ impl Following {
             event,
             written_by(came, machine.claims()),
             &self.lengths,
-            self.heads.changed,
-            &self.heads.last,
+            &self.heads.lost,
+            self.heads.moved,
+            self.heads.risen,
             &self.heads.now,
             &self.last,
             machine.claims(),

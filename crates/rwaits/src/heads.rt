@@ -7,8 +7,9 @@ ghost use Rattle.rclaim.specs.Events.{seat_of};
 ghost use Rattle.rwaits.specs.Lines.{TellAt, TellHeads, GoesBy, HeadsTell, IsLost, IsTold, HoldBehind};
 ghost use Rattle.rwaits.specs.Heads.{HasPlaces, TellsNow, IsMoment};
 
-use crate::lines::{Head, forget, no_head, tell_heads, turn_heads};
-use crate::noted::has_write;
+use crate::lines::{Head, forget, no_head, tell_heads};
+use crate::noted::places_taken;
+use crate::turns::turn_heads;
 use rclaim::Event;
 use rmodel::Claimed;
 use rset::{ResourceSet, SEATS};
@@ -22,12 +23,14 @@ const PLACES: usize = SEATS as usize;
 pub(crate) struct Heads {
     /// Those of the claims that are there.
     pub(crate) now: Vec<Head>,
-    /// Those of the claims before, where they were others.
-    pub(crate) last: Vec<Head>,
     /// Of each seat, those of the writes whose least claim is its own, with others maybe.
     pub(crate) behind: Vec<ResourceSet>,
-    /// The seats of the writes of which they were others.
-    pub(crate) changed: ResourceSet,
+    /// That of the write that the last event took away, as it was before; of no seat, where it took none.
+    pub(crate) lost: Head,
+    /// The seats of the writes that have another head since by a look-up: each of them had the one that is lost.
+    pub(crate) moved: ResourceSet,
+    /// The seats of the writes whose least claim stayed and came to be satisfied.
+    pub(crate) risen: ResourceSet,
     // Whether they are told: they are not, where nobody asked for them.
     told: bool,
 }
@@ -62,9 +65,10 @@ impl Heads {
     {
         Ok(Heads {
             now: new_heads(alloc)?,
-            last: new_heads(alloc)?,
             behind: new_sets(alloc)?,
-            changed: ResourceSet::empty(),
+            lost: no_head(),
+            moved: ResourceSet::empty(),
+            risen: ResourceSet::empty(),
             told: false,
         })
     }
@@ -86,6 +90,15 @@ impl Heads {
         }
     }
 
+    /// Is told no more, as nobody asks for it.
+    pub(crate) fn close(&mut self)
+        requires room { HasPlaces self.old }
+        ensures room { HasPlaces self.new }
+        ensures told { (m : Moment) → TellsNow self.new m }
+    {
+        self.told = false;
+    }
+
     /// Tells of the claims that are there, if it is not told.
     pub(crate) fn tell_now(&mut self, moment: &[Claimed])
         requires moment { IsMoment moment.now }
@@ -100,31 +113,34 @@ impl Heads {
         }
     }
 
-    /// The seat of the least claim in the line of the write that an event takes away; any other seat or none where it takes none.
-    pub(crate) fn lost(&self, event: &Event, moment: &[Claimed]) -> u8
+    /// Notes the head of the write that an event takes away, if it takes one, and answers the places of that write.
+    pub(crate) fn lose(&mut self, event: &Event, moment: &[Claimed]) -> ResourceSet
         requires low { seat_of event.now < SEATS }
-        requires room { HasPlaces self.now }
-        requires told { TellHeads self.now.now.items moment.now }
-        ensures { IsLost result event.now moment.now }
+        requires moment { IsMoment moment.now }
+        requires room { HasPlaces self.old }
+        requires told { TellHeads self.old.now.items moment.now }
+        ensures lost { AllByRecursion (IsLost self.new.lost result event.now moment.now) moment.now }
+        ensures now { self.new.now ≡ self.old.now }
+        ensures behind { self.new.behind ≡ self.old.behind }
     {
-        match event {
-            Event::Finish { seat } => {
-                if has_write(*seat, moment) {
-                    self.now[*seat as usize].claim.seat
-                } else {
-                    SEATS
-                }
+        match places_taken(event, moment) {
+            Some(places) => {
+                self.lost = self.now[event.seat() as usize];
+                places
             }
-            _ => SEATS,
+            None => {
+                self.lost.claim.seat = SEATS;
+                ResourceSet::empty()
+            }
         }
     }
 
-    /// Goes on to the moment behind an event that brings no claim. `lost` is the seat of the least claim in the line of the write
-    /// that it takes away, `came` are the seats of the writes that became satisfied, and `touched` those of the writes that have
-    /// one of these for their least claim.
+    /// Goes on to the moment behind an event that brings no claim. The head of the write that it takes away is noted; `gone` are
+    /// the places of that write, `came` the seats of the writes that became satisfied, and `touched` those of the writes that
+    /// have one of these for their least claim.
     pub(crate) fn turn(
         &mut self,
-        lost: u8,
+        gone: ResourceSet,
         came: ResourceSet,
         touched: ResourceSet,
         moment: &[Claimed],
@@ -132,18 +148,20 @@ impl Heads {
         requires moment { IsMoment moment.now }
         requires room { HasPlaces self.old }
         ensures room { HasPlaces self.new }
-        ensures told { (m : Moment) → TellAt self.old.now.items m moment.now → HoldBehind self.old.behind.items m moment.now → AllByRecursion (GoesBy lost came touched m moment.now) moment.now → TellsNow self.new moment.now }
-        ensures tell { (m : Moment) → TellAt self.old.now.items m moment.now → AllByRecursion (GoesBy lost came touched m moment.now) moment.now → AllByRecursion (HeadsTell self.new.now.items self.new.last.items self.new.changed m moment.now) moment.now }
+        ensures told { (m : Moment) → TellAt self.old.now.items m moment.now → HoldBehind self.old.behind.items m moment.now → AllByRecursion (GoesBy self.old.lost gone came touched m moment.now) moment.now → TellsNow self.new moment.now }
+        ensures tell { (m : Moment) → TellAt self.old.now.items m moment.now → AllByRecursion (GoesBy self.old.lost gone came touched m moment.now) moment.now → AllByRecursion (HeadsTell self.new.now.items self.new.lost self.new.moved self.new.risen m moment.now) moment.now }
     {
-        forget(&mut self.behind, lost);
-        self.changed = turn_heads(
+        forget(&mut self.behind, self.lost.claim.seat);
+        let moves = turn_heads(
             &mut self.now,
-            &mut self.last,
             &mut self.behind,
-            lost,
+            &self.lost,
+            gone,
             came,
             touched,
             moment,
         );
+        self.moved = moves.moved;
+        self.risen = moves.risen;
     }
 }

@@ -14,6 +14,7 @@ mod run;
 mod section;
 mod show;
 mod tell;
+mod turns;
 mod waiting;
 
 pub use covers::Covers;

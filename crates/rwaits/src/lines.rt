@@ -1,10 +1,10 @@
 // The least claims of the lines of all writes.
-ghost use Rattle.std.specs.Prelude.{◌≡◌, ◌≢◌, ◌&&◌, ◌≤◌, ◌<◌, ◌==◌, ◌++◌, ◌∷◌, [], ℕ, true, false, Some, if◌then◌else◌, take, length, fold, reverse, slice_get};
+ghost use Rattle.std.specs.Prelude.{if◌then◌else◌, ◌≡◌, ◌≢◌, ◌&&◌, ◌≤◌, ◌<◌, ◌==◌, ◌++◌, ◌∷◌, [], ℕ, true, take, length, slice_get};
 ghost use Rattle.std.specs.List.{AllByRecursion};
 ghost use Rattle.rmodel.specs.WellFormed.{EachPair, Rises, Distinct};
-ghost use Rattle.std.specs.FinSet.{contains};
+ghost use Rattle.std.specs.FinSet.{contains, empty};
 ghost use Rattle.rset.specs.declared.TheConstants.{SEATS};
-ghost use Rattle.rwaits.specs.Lines.{own_head, lowered, head_of, TellAt, TellHeads, heads_with, GoesBy, IsTurned, HeadsTell, set_at, IsBehind, HoldBehindBut, HoldMore, IsTold};
+ghost use Rattle.rwaits.specs.Lines.{own_head, lowered, head_of, TellAt, heads_with, set_at, IsBehind, HoldMore, IsTold};
 ghost use Rattle.rmodel.specs.Claims.{satisfied_by};
 ghost use Rattle.rcover.specs.Line.{least_of};
 ghost use Rattle.rwaits.specs.Quiet.{tells_write_of};
@@ -37,7 +37,7 @@ pub(crate) fn no_head() -> Head {
     Head {
         claim: Claim {
             stamp: 0,
-            seat: 0,
+            seat: SEATS,
             kind: Kind::Read,
             write_half: false,
             reads: ResourceSet::empty(),
@@ -77,27 +77,30 @@ fn lower(found: Found, least: &Claim, left: ResourceSet) -> Found
     }
 }
 
-/// What is found of the line of a write once a claim before the others is looked at. If that is a write with some of the places
-/// that are left, the least claim of its line is reached; with none of them, it is reached by a later write too.
-fn with_earlier(found: Found, heads: &[Head], y: &Claimed) -> Found
+/// Finds of the line of a write what a claim before the others tells, and answers whether each place was met. If that claim is a
+/// write with some of the places that are left, the least claim of its line is reached; with none of them, it is reached by a later
+/// write too.
+fn reach(found: &mut Found, heads: &[Head], y: &Claimed) -> bool
     requires seat { y.now.claim.seat < length heads.now }
-    ensures { (m : Moment) (c : Claim) (zs : Moment) → AreBefore m c (y.now ∷ zs) → TellAt heads.now m (y.now ∷ []) → IsFound m c zs found → IsFound m c (y.now ∷ zs) result }
+    ensures found { (m : Moment) (c : Claim) (zs : Moment) → AreBefore m c (y.now ∷ zs) → TellAt heads.now m (y.now ∷ []) → IsFound m c zs found.old → IsFound m c (y.now ∷ zs) found.new }
+    ensures met { result ≡ true → found.new.left ≡ empty }
 {
-    if !y.claim.write_half {
-        return found;
-    }
     if !y.claim.places.meets(found.left) {
-        return found;
+        return false;
     }
-    lower(
-        found,
+    if !y.claim.write_half {
+        return false;
+    }
+    *found = lower(
+        *found,
         &heads[y.claim.seat as usize].claim,
         found.left.minus(y.claim.places),
-    )
+    );
+    found.left.is_empty()
 }
 
 /// What is found of the line of a write among the claims before it, from the last to the first.
-fn found_before(heads: &[Head], before: &[Claimed], x: &Claimed) -> Found
+pub(crate) fn found_before(heads: &[Head], before: &[Claimed], x: &Claimed) -> Found
     requires seats { AllByRecursion (λ y. y.claim.seat < length heads.now) before.now }
     ensures { (rest : Moment) → EachPair Rises (before.now ++ x.now ∷ rest) → x.now.claim.write_half ≡ true → TellAt heads.now (before.now ++ x.now ∷ rest) before.now → IsFound (before.now ++ x.now ∷ rest) x.now.claim before.now result }
 {
@@ -107,32 +110,35 @@ fn found_before(heads: &[Head], before: &[Claimed], x: &Claimed) -> Found
         left: x.claim.places,
     };
     for i in (0..before.len()).rev() {
-        if found.left.is_empty() {
+        if reach(&mut found, heads, &before[i]) {
             return found;
         }
-        found = with_earlier(found, heads, &before[i]);
     }
     found
 }
 
-/// The head of a write behind these claims, by the heads of those.
-pub(crate) fn head_behind(heads: &[Head], before: &[Claimed], x: &Claimed) -> Head
+/// Tells of a write behind others its head, by the heads of those and what is found among them. That of its least claim is copied
+/// where it stands.
+pub(crate) fn put_head(heads: &mut [Head], found: &Found, x: &Claimed)
     requires write { x.now.claim.write_half ≡ true }
-    requires seats { AllByRecursion (λ y. y.claim.seat < length heads.now) before.now }
-    ensures { (rest : Moment) → EachPair Rises (before.now ++ x.now ∷ rest) → EachPair Distinct (before.now ++ x.now ∷ rest) → TellAt heads.now (before.now ++ x.now ∷ rest) before.now → result ≡ head_of (before.now ++ x.now ∷ rest) x.now.claim }
+    requires seat { x.now.claim.seat < length heads.old }
+    ensures head { (before rest : Moment) → EachPair Rises (before ++ x.now ∷ rest) → EachPair Distinct (before ++ x.now ∷ rest) → TellAt heads.old (before ++ x.now ∷ rest) before → IsFound (before ++ x.now ∷ rest) x.now.claim before found.now
+        → (seat : ℕ) → slice_get heads.new seat ≡ (if seat == x.now.claim.seat then Some (head_of (before ++ x.now ∷ rest) x.now.claim) else slice_get heads.old seat) }
+    ensures len { length heads.new ≡ length heads.old }
 {
-    let found = found_before(heads, before, x);
+    let at = x.claim.seat as usize;
     if found.seat == x.claim.seat {
-        return own_head(x);
+        heads[at] = own_head(x);
+        return;
     }
-    match heads.get(found.seat as usize) {
-        Some(head) => *head,
-        None => own_head(x),
+    let from = usize::from(found.seat);
+    if from < heads.len() {
+        heads[at] = heads[from];
     }
 }
 
 /// Notes that the least claim in the line of the write of a seat is of this other seat.
-fn note_behind(behind: &mut [ResourceSet], least: u8, seat: u8)
+pub(crate) fn note_behind(behind: &mut [ResourceSet], least: u8, seat: u8)
     requires { seat < SEATS }
     ensures own { least < length behind.old → contains (set_at behind.new least) seat ≡ true }
     ensures more { HoldMore behind.old behind.new }
@@ -155,10 +161,9 @@ fn tell_head(heads: &mut [Head], behind: &mut [ResourceSet], before: &[Claimed],
     ensures behind_len { length behind.new ≡ length behind.old }
 {
     if x.claim.write_half {
-        let head = head_behind(heads, before, x);
-        let least = head.claim.seat;
-        heads[x.claim.seat as usize] = head;
-        note_behind(behind, least, x.claim.seat);
+        let found = found_before(heads, before, x);
+        put_head(heads, &found, x);
+        note_behind(behind, found.seat, x.claim.seat);
     }
 }
 
@@ -183,127 +188,6 @@ pub(crate) fn tell_heads(
     for i in from..moment.len() {
         tell_head(heads, behind, &moment[..i], &moment[i]);
     }
-}
-
-/// Whether a seat is among these. A set of seats is kept as one of numbers.
-fn has_seat(seats: ResourceSet, seat: u8) -> bool
-    ensures { seat < SEATS → result ≡ contains seats seat }
-{
-    seat < SEATS && seats.has(seat)
-}
-
-/// The same head, with its least claim satisfied.
-fn satisfied(head: &Head) -> Head
-    ensures { result ≡ record { claim = head.now.claim; holds = true } }
-{
-    Head {
-        claim: head.claim,
-        holds: true,
-    }
-}
-
-/// Gives a seat another head, and keeps the one that it had in `last`.
-fn change_head(now: &mut [Head], last: &mut [Head], seat: u8, head: Head)
-    requires now { seat < length now.old }
-    requires last { seat < length last.old }
-    ensures now { (other : ℕ) → slice_get now.new other ≡ (if other == seat then Some head else slice_get now.old other) }
-    ensures last { (other : ℕ) → slice_get last.new other ≡ (if other == seat then slice_get now.old other else slice_get last.old other) }
-    ensures now_len { length now.new ≡ length now.old }
-    ensures last_len { length last.new ≡ length last.old }
-{
-    last[seat as usize] = now[seat as usize];
-    now[seat as usize] = head;
-}
-
-/// Goes on with the head of a claim behind others, if it is a write of a seat that is `touched`: it is found anew where the seat of
-/// the least claim of its line was the one that is lost, and is satisfied where that is one of those that `came` to be. What it
-/// was is kept in `last`, and its seat is added to those of the heads that changed.
-fn turn_head(
-    now: &mut [Head],
-    last: &mut [Head],
-    behind: &mut [ResourceSet],
-    changed: ResourceSet,
-    lost: u8,
-    came: ResourceSet,
-    touched: ResourceSet,
-    before: &[Claimed],
-    x: &Claimed,
-) -> ResourceSet
-    requires seat { x.now.claim.seat < SEATS }
-    requires seats { AllByRecursion (λ y. y.claim.seat < length now.old) before.now }
-    requires now { x.now.claim.seat < length now.old }
-    requires last { x.now.claim.seat < length last.old }
-    ensures turned { (m rest : Moment) → EachPair Rises (before.now ++ x.now ∷ rest) → EachPair Distinct (before.now ++ x.now ∷ rest) → TellAt now.old (before.now ++ x.now ∷ rest) before.now → TellAt now.old m (x.now ∷ []) → GoesBy lost came touched m (before.now ++ x.now ∷ rest) x.now → (x.now.claim.write_half ≡ true → contains changed x.now.claim.seat ≡ false)
-        → IsTurned now.old last.old changed now.new last.new result m (before.now ++ x.now ∷ rest) x.now }
-    ensures behind { (m rest : Moment) → EachPair Rises (before.now ++ x.now ∷ rest) → EachPair Distinct (before.now ++ x.now ∷ rest) → TellAt now.old (before.now ++ x.now ∷ rest) before.now → TellAt now.old m (x.now ∷ []) → GoesBy lost came touched m (before.now ++ x.now ∷ rest) x.now → (least_of x.now.claim (before.now ++ x.now ∷ rest)).seat < length behind.old
-        → x.now.claim.write_half ≡ true → ((least_of x.now.claim m).seat ≢ lost → IsBehind behind.old m x.now) → IsBehind behind.new (before.now ++ x.now ∷ rest) x.now }
-    ensures more { HoldMore behind.old behind.new }
-    ensures now_len { length now.new ≡ length now.old }
-    ensures last_len { length last.new ≡ length last.old }
-    ensures behind_len { length behind.new ≡ length behind.old }
-{
-    if !x.claim.write_half {
-        return changed;
-    }
-    if !touched.has(x.claim.seat) {
-        return changed;
-    }
-    let least = now[x.claim.seat as usize].claim.seat;
-    if least == lost {
-        let head = head_behind(now, before, x);
-        let next = head.claim.seat;
-        change_head(now, last, x.claim.seat, head);
-        note_behind(behind, next, x.claim.seat);
-        return changed.with(x.claim.seat);
-    }
-    if has_seat(came, least) {
-        let head = satisfied(&now[x.claim.seat as usize]);
-        change_head(now, last, x.claim.seat, head);
-        return changed.with(x.claim.seat);
-    }
-    changed
-}
-
-/// Goes on with the heads of the writes at a moment, and answers the seats of those that changed.
-pub(crate) fn turn_heads(
-    now: &mut [Head],
-    last: &mut [Head],
-    behind: &mut [ResourceSet],
-    lost: u8,
-    came: ResourceSet,
-    touched: ResourceSet,
-    moment: &[Claimed],
-) -> ResourceSet
-    requires low { AllByRecursion (λ x. x.claim.seat < SEATS) moment.now }
-    requires now { SEATS ≤ length now.old }
-    requires last { SEATS ≤ length last.old }
-    requires behind { SEATS ≤ length behind.old }
-    requires rising { EachPair Rises moment.now }
-    requires one_each { EachPair Distinct moment.now }
-    ensures told { (m : Moment) → TellAt now.old m moment.now → AllByRecursion (GoesBy lost came touched m moment.now) moment.now → HoldBehindBut lost behind.old m moment.now → IsTold now.new behind.new moment.now }
-    ensures tell { (m : Moment) → TellAt now.old m moment.now → AllByRecursion (GoesBy lost came touched m moment.now) moment.now → AllByRecursion (HeadsTell now.new last.new result m moment.now) moment.now }
-    ensures now_len { length now.new ≡ length now.old }
-    ensures last_len { length last.new ≡ length last.old }
-    ensures behind_len { length behind.new ≡ length behind.old }
-{
-    let mut changed = ResourceSet::empty();
-    if touched.is_empty() {
-        return changed;
-    }
-    for i in 0..moment.len() {
-        changed = turn_head(
-            now,
-            last,
-            behind,
-            changed,
-            lost,
-            came,
-            touched,
-            &moment[..i],
-            &moment[i],
-        );
-    }
-    changed
 }
 
 /// The set of a seat; none where it has none.

@@ -1,18 +1,18 @@
 // What is noted of the last request of each seat.
-ghost use Rattle.std.specs.Prelude.{◌≡◌, ◌<◌, ◌^◌, ◌==◌, ◌&&◌, ◌||◌, not, true, false, ℕ, length, slice_index};
+ghost use Rattle.std.specs.Prelude.{◌≡◌, ◌<◌, ◌^◌, ◌==◌, ◌&&◌, ◌||◌, not, true, ℕ, length, slice_index};
 ghost use Rattle.rmodel.specs.Claims.{satisfied_by};
 ghost use Rattle.rclaim.specs.Events.{seat_of};
 ghost use Rattle.rclaim.specs.declared.claim.Claim.{Claim};
 ghost use Rattle.rcover.specs.History.{count_ask};
 ghost use Rattle.rwaits.specs.Follow.{length_by};
-ghost use Rattle.std.specs.FinSet.{contains, is_subset};
+ghost use Rattle.std.specs.FinSet.{contains};
 ghost use Rattle.std.specs.List.{AllByRecursion};
-ghost use Rattle.rset.specs.Sets.{Set};
 ghost use Rattle.rset.specs.declared.TheConstants.{SEATS};
-ghost use Rattle.rcover.specs.Moments.{Moment};
+ghost use Rattle.rmodel.specs.WellFormed.{EachPair, Distinct};
 ghost use Rattle.rwaits.specs.Quiet.{tells_write_of, has_grant};
-ghost use Rattle.rwaits.specs.Lines.{has_write, HoldWritten};
+ghost use Rattle.rwaits.specs.Lines.{places_taken, HoldWritten};
 ghost use Rattle.rwaits.specs.Past.{is_issue, noted, rises_at};
+ghost use Rattle.rwaits.specs.Waiting.{is_finish};
 
 use crate::section::Lengths;
 use rclaim::{Event, GrantChange, Status, StatusChange};
@@ -26,11 +26,11 @@ pub(crate) fn is_issue(event: &Event) -> bool
     matches!(event, Event::Issue { .. })
 }
 
-/// Whether an upgrade rises by an event.
-pub(crate) fn is_rise(event: &Event) -> bool
-    ensures { (seat : ℕ) → result ≡ false → rises_at event.now seat ≡ false }
+/// Whether an event is a finish.
+pub(crate) fn is_finish(event: &Event) -> bool
+    ensures { result ≡ is_finish event.now }
 {
-    matches!(event, Event::Rise { .. })
+    matches!(event, Event::Finish { .. })
 }
 
 /// Whether the wait of a seat stood before an event that is no issue: only that of the upgrade that rises begins with it.
@@ -129,38 +129,43 @@ pub(crate) fn busy_seats(seat: u8, grants: &[GrantChange]) -> ResourceSet
     with_seat_if(seats_granted(grants), true, seat)
 }
 
-/// Whether a seat has a write claim.
-pub(crate) fn has_write(seat: u8, moment: &[Claimed]) -> bool
-    ensures { result ≡ has_write seat moment.now }
+/// The places of the write that an event takes away, if it takes one.
+pub(crate) fn places_taken(event: &Event, moment: &[Claimed]) -> Option<ResourceSet>
+    ensures { result ≡ places_taken event.now moment.now }
 {
-    moment
-        .iter()
-        .any(|x| x.claim.seat == seat && x.claim.write_half)
-}
-
-/// These resources and what a claim writes, if it is a write of one of these seats.
-fn with_written(written: ResourceSet, came: ResourceSet, x: &Claimed) -> ResourceSet
-    requires { x.now.claim.seat < SEATS }
-    ensures own { x.now.claim.write_half ≡ true → contains came x.now.claim.seat ≡ true → is_subset x.now.claim.writes result ≡ true }
-    ensures others { (s : Set) → is_subset s written ≡ true → is_subset s result ≡ true }
-{
-    if x.claim.write_half && came.has(x.claim.seat) {
-        return written.union(x.claim.writes);
+    match event {
+        Event::Finish { seat } => moment
+            .iter()
+            .find(|x| *seat == x.claim.seat && x.claim.write_half)
+            .map(|x| x.claim.places),
+        _ => None,
     }
-    written
 }
 
-/// Resources that hold all that the writes of these seats write.
+/// Whether a claim is a write of one of these seats.
+fn is_write_of(seats: ResourceSet, x: &Claimed) -> bool
+    requires { x.now.claim.seat < SEATS }
+    ensures { result ≡ (x.now.claim.write_half && contains seats x.now.claim.seat) }
+{
+    x.claim.write_half && seats.has(x.claim.seat)
+}
+
+/// Resources that hold all that the writes of these seats write. A seat has one write at most.
 pub(crate) fn written_by(came: ResourceSet, moment: &[Claimed]) -> ResourceSet
-    requires { AllByRecursion (λ x. x.claim.seat < SEATS) moment.now }
+    requires low { AllByRecursion (λ x. x.claim.seat < SEATS) moment.now }
+    requires one_each { EachPair Distinct moment.now }
     ensures { HoldWritten result came moment.now }
 {
     let mut written = ResourceSet::empty();
-    if came.is_empty() {
-        return written;
-    }
+    let mut left = came;
     for x in moment {
-        written = with_written(written, came, x);
+        if left.is_empty() {
+            return written;
+        }
+        if is_write_of(left, x) {
+            left = left.without(x.claim.seat);
+            written = written.union(x.claim.writes);
+        }
     }
     written
 }

@@ -1,23 +1,27 @@
 // What is kept of the wait of a seat.
-ghost use Rattle.std.specs.Prelude.{◌≡◌, ◌≤◌, ◌&&◌, not, true, false, IfSome, find, option_map, List, ℕ, length, vec_capacity, if◌then◌else◌};
+ghost use Rattle.std.specs.Prelude.{◌≡◌, ◌≤◌, ◌<◌, ◌&&◌, ◌++◌, ◌∷◌, [], not, true, false, IfSome, find, option_map, List, ℕ, length, vec_capacity, if◌then◌else◌};
 ghost use Rattle.rclaim.specs.declared.claim.Claim.{Claim};
 ghost use Rattle.rset.specs.declared.TheConstants.{SEATS};
-ghost use Rattle.rwaits.specs.Follow.{claims_of, kept_in, length_by, HaveLengths, HasRoom, AreLong, AreOf};
+ghost use Rattle.rwaits.specs.declared.section.Lengths.{Lengths};
+ghost use Rattle.rwaits.specs.Follow.{claims_of, claim_if, kept_in, length_by, section_of, HaveLengths, HasRoom, IsTaken, AreLong, AreOf};
 ghost use Rattle.rwaits.specs.Last.{first_at};
-ghost use Rattle.rwaits.specs.Lines.{head_of};
-ghost use Rattle.rcover.specs.Lists.{is_wanted};
+ghost use Rattle.rwaits.specs.Lines.{head_of, HeadsTell};
+ghost use Rattle.rwaits.specs.Past.{rises_at};
+ghost use Rattle.rcover.specs.Lists.{is_wanted, reads_against, with_option};
 ghost use Rattle.rmodel.specs.Claims.{is_satisfied};
-ghost use Rattle.rcover.specs.Moments.{is_claim, holds_at};
+ghost use Rattle.rcover.specs.Moments.{Moment, is_claim, holds_at};
 ghost use Rattle.rmodel.specs.WellFormed.{EachPair, Rises};
-ghost use Rattle.rwaits.specs.Shown.{write_closed};
+ghost use Rattle.rwaits.specs.Shown.{closed_by};
 ghost use Rattle.rcover.specs.Lists.{AreAtMost};
 ghost use Rattle.rwaits.specs.Tracked.{no_sections, keeper_at, read_closed_if, gone_on};
 
 use crate::lines::Head;
-use crate::section::{Lengths, Section, add_found, push_section};
-use rclaim::Claim;
+use crate::noted::has_stood;
+use crate::section::{Lengths, Section, add_found, push_section, section_if};
+use rclaim::{Claim, Event};
 use rcover::{Wanted, is_claim, is_wanted, keeper_at};
 use rmodel::Claimed;
+use rset::ResourceSet;
 
 /// The sections of the closed stretches of a wait. Those of the present one are seen at its last moment.
 #[derive(Drop)]
@@ -28,14 +32,97 @@ pub(crate) struct Run {
     pub(crate) writes: Vec<Section>,
 }
 
+/// The read that was taken at the last moment for claims that read and write this, with its length. It is looked for once.
+#[derive(Clone, Copy)]
+pub(crate) struct Taken {
+    pub(crate) reads: ResourceSet,
+    pub(crate) writes: ResourceSet,
+    /// None, where no read was.
+    pub(crate) section: Option<Section>,
+}
+
 /// The claim of least stamp that is wanted and satisfied at a moment.
-pub(crate) fn first_at(wanted: &Wanted, moment: &[Claimed]) -> Option<Claim>
+fn first_at(wanted: &Wanted, moment: &[Claimed]) -> Option<Claim>
     ensures { result ≡ first_at (is_wanted wanted.now) moment.now }
 {
     moment
         .iter()
         .find(|x| is_wanted(wanted, &x.claim) && x.is_satisfied())
         .map(|x| x.claim)
+}
+
+/// The section of the claim of least stamp that is wanted and satisfied at a moment, if there is one.
+pub(crate) fn section_at(
+    lengths: &[Lengths],
+    wanted: &Wanted,
+    moment: &[Claimed],
+) -> Option<Section>
+    ensures section { result ≡ option_map (section_of lengths.now) (first_at (is_wanted wanted.now) moment.now) }
+    ensures claim { claim_if result ≡ first_at (is_wanted wanted.now) moment.now }
+    ensures lengths { (len : Claim → ℕ) → AreOf (length_by lengths.now) len moment.now → IfSome result (λ s. s.len ≡ len s.claim) }
+{
+    section_if(lengths, first_at(wanted, moment))
+}
+
+/// What is taken for a claim that reads and writes nothing: none.
+pub(crate) fn none_taken() -> Taken
+    ensures { (ls : List Lengths) (m : Moment) → IsTaken ls m result }
+{
+    Taken {
+        reads: ResourceSet::empty(),
+        writes: ResourceSet::empty(),
+        section: None,
+    }
+}
+
+/// What is taken at a moment for claims that read and write what this one does.
+fn taken_at(lengths: &[Lengths], c: &Claim, moment: &[Claimed]) -> Taken
+    ensures taken { IsTaken lengths.now moment.now result }
+    ensures section { result.section ≡ option_map (section_of lengths.now) (first_at (reads_against c.now) moment.now) }
+{
+    Taken {
+        reads: c.reads,
+        writes: c.writes,
+        section: section_at(lengths, &Wanted::ReadAgainst(*c), moment),
+    }
+}
+
+/// Whether what is taken for a claim was found already: for one that reads and writes the same.
+fn is_for(taken: &Taken, c: &Claim) -> bool
+    ensures { result ≡ true → (c.now.reads ≡ taken.now.reads) × (c.now.writes ≡ taken.now.writes) }
+{
+    c.reads == taken.reads && c.writes == taken.writes
+}
+
+/// Finds what is taken for a claim at a moment, if that was not found already.
+fn find_taken(taken: &mut Taken, lengths: &[Lengths], c: &Claim, moment: &[Claimed])
+    requires { IsTaken lengths.now moment.now taken.old }
+    ensures taken { IsTaken lengths.now moment.now taken.new }
+    ensures section { taken.new.section ≡ option_map (section_of lengths.now) (first_at (reads_against c.now) moment.now) }
+{
+    if is_for(taken, c) {
+        return;
+    }
+    *taken = taken_at(lengths, c, moment);
+}
+
+/// Keeps the read that is taken for a least claim at the last moment.
+fn keep_taken(
+    reads: &mut Vec<Section>,
+    taken: &mut Taken,
+    lengths: &[Lengths],
+    least: &Claim,
+    last: &[Claimed],
+)
+    requires taken { IsTaken lengths.now last.now taken.old }
+    requires room { length (with_option (claims_of reads.old.items) (first_at (reads_against least.now) last.now)) ≤ vec_capacity reads.old }
+    ensures taken { IsTaken lengths.now last.now taken.new }
+    ensures claims { claims_of reads.new.items ≡ with_option (claims_of reads.old.items) (first_at (reads_against least.now) last.now) }
+    ensures capacity { vec_capacity reads.new ≡ vec_capacity reads.old }
+    ensures lengths { (len : Claim → ℕ) → AreOf (length_by lengths.now) len last.now → HaveLengths len reads.old.items → HaveLengths len reads.new.items }
+{
+    find_taken(taken, lengths, least, last);
+    add_found(reads, &taken.section);
 }
 
 /// Whether the stretch of the least claim of a line goes on at the next moment: it is the least still, and unsatisfied.
@@ -45,55 +132,85 @@ fn goes_on(least: &Head, next_least: &Head) -> bool
     is_claim(&least.claim, &next_least.claim) && !next_least.holds
 }
 
-/// Keeps the read that was taken for the least claim of a line at a moment, if its stretch is over at the next one.
-fn close_reads(
-    reads: &mut Vec<Section>,
-    lengths: &[Lengths],
-    least: &Head,
-    last: &[Claimed],
-    next_least: &Head,
-    next: &[Claimed],
-)
-    requires least { least.now.holds ≡ holds_at least.now.claim last.now }
-    requires next_least { next_least.now.holds ≡ holds_at next_least.now.claim next.now }
-    requires room { (writes : List Claim) → length (write_closed least.now.claim (record { reads = claims_of reads.old.items; writes = writes }) last.now next_least.now.claim next.now).reads ≤ vec_capacity reads.old }
-    ensures claims { (writes : List Claim) → claims_of reads.new.items ≡ (write_closed least.now.claim (record { reads = claims_of reads.old.items; writes = writes }) last.now next_least.now.claim next.now).reads }
-    ensures capacity { vec_capacity reads.new ≡ vec_capacity reads.old }
-    ensures lengths { (len : Claim → ℕ) → AreOf (length_by lengths.now) len last.now → HaveLengths len reads.old.items → HaveLengths len reads.new.items }
+/// Keeps the section of a least claim that was satisfied, if another is the least at the next moment.
+fn keep_section(writes: &mut Vec<Section>, section: &Section, next_least: &Claim)
+    requires room { length (if is_claim section.now.claim next_least.now then claims_of writes.old.items else claims_of writes.old.items ++ section.now.claim ∷ []) ≤ vec_capacity writes.old }
+    ensures claims { claims_of writes.new.items ≡ (if is_claim section.now.claim next_least.now then claims_of writes.old.items else claims_of writes.old.items ++ section.now.claim ∷ []) }
+    ensures capacity { vec_capacity writes.new ≡ vec_capacity writes.old }
+    ensures lengths { (len : Claim → ℕ) → section.now.len ≡ len section.now.claim → HaveLengths len writes.old.items → HaveLengths len writes.new.items }
 {
-    if goes_on(least, next_least) {
+    if is_claim(&section.claim, next_least) {
         return;
     }
-    if least.holds {
-        return;
-    }
-    add_found(
-        reads,
-        lengths,
-        first_at(&Wanted::ReadAgainst(least.claim), last),
-    );
+    push_section(writes, section);
 }
 
-/// Keeps the least claim of a line at a moment, if it was satisfied and another is the least at the next one.
-fn close_writes(
-    writes: &mut Vec<Section>,
+/// Keeps what is over of the wait of a write whose head was the one that is lost: that claim itself, if it was satisfied, and else
+/// the read that was taken for it. `section` is its own.
+fn close_lost(
+    run: &mut Run,
+    taken: &mut Taken,
     lengths: &[Lengths],
-    least: &Head,
-    last: &[Claimed],
+    lost: &Head,
+    section: &Section,
     next_least: &Head,
-    next: &[Claimed],
+    last: &[Claimed],
 )
-    requires least { least.now.holds ≡ holds_at least.now.claim last.now }
-    requires room { (reads : List Claim) → length (write_closed least.now.claim (record { reads = reads; writes = claims_of writes.old.items }) last.now next_least.now.claim next.now).writes ≤ vec_capacity writes.old }
-    ensures claims { (reads : List Claim) → claims_of writes.new.items ≡ (write_closed least.now.claim (record { reads = reads; writes = claims_of writes.old.items }) last.now next_least.now.claim next.now).writes }
-    ensures capacity { vec_capacity writes.new ≡ vec_capacity writes.old }
-    ensures lengths { (len : Claim → ℕ) → length_by lengths.now least.now.claim ≡ len least.now.claim → HaveLengths len writes.old.items → HaveLengths len writes.new.items }
+    requires section { section.now ≡ section_of lengths.now lost.now.claim }
+    requires taken { IsTaken lengths.now last.now taken.old }
+    requires room { HasRoom run.old }
+    requires few { AreAtMost SEATS (closed_by lost.now (kept_in run.old) last.now next_least.now) }
+    ensures taken { IsTaken lengths.now last.now taken.new }
+    ensures kept { kept_in run.new ≡ closed_by lost.now (kept_in run.old) last.now next_least.now }
+    ensures room { HasRoom run.new }
+    ensures lengths { (len : Claim → ℕ) → AreOf (length_by lengths.now) len last.now → length_by lengths.now lost.now.claim ≡ len lost.now.claim → AreLong len run.old → AreLong len run.new }
 {
-    if is_claim(&least.claim, &next_least.claim) {
+    if lost.holds {
+        keep_section(&mut run.writes, section, &next_least.claim);
         return;
     }
-    if least.holds {
-        push_section(writes, lengths, &least.claim);
+    if goes_on(lost, next_least) {
+        return;
+    }
+    keep_taken(&mut run.reads, taken, lengths, &lost.claim, last);
+}
+
+/// Keeps what is over of the wait of a write at the next moment: where it had the head that is lost, what that leaves, and where its
+/// least claim came to be satisfied, the read that was taken for it.
+fn go_on_write(
+    run: &mut Run,
+    taken: &mut Taken,
+    lengths: &[Lengths],
+    lost: &Head,
+    section: &Section,
+    moved: ResourceSet,
+    risen: ResourceSet,
+    heads: &[Head],
+    x: &Claimed,
+    last: &[Claimed],
+    next: &[Claimed],
+)
+    requires low { x.now.claim.seat < SEATS }
+    requires head { x.now.claim.seat < length heads.now }
+    requires write { x.now.claim.write_half ≡ true }
+    requires heads { HeadsTell heads.now lost.now moved risen last.now next.now x.now }
+    requires section { section.now ≡ section_of lengths.now lost.now.claim }
+    requires taken { IsTaken lengths.now last.now taken.old }
+    requires room { HasRoom run.old }
+    requires few { AreAtMost SEATS (closed_by (head_of last.now x.now.claim) (kept_in run.old) last.now (head_of next.now x.now.claim)) }
+    ensures taken { IsTaken lengths.now last.now taken.new }
+    ensures kept { kept_in run.new ≡ closed_by (head_of last.now x.now.claim) (kept_in run.old) last.now (head_of next.now x.now.claim) }
+    ensures room { HasRoom run.new }
+    ensures lengths { (len : Claim → ℕ) → AreOf (length_by lengths.now) len last.now → length_by lengths.now x.now.claim ≡ len x.now.claim → AreLong len run.old → AreLong len run.new }
+{
+    let seat = x.claim.seat;
+    let least = &heads[seat as usize];
+    if moved.has(seat) {
+        close_lost(run, taken, lengths, lost, section, least, last);
+        return;
+    }
+    if risen.has(seat) {
+        keep_taken(&mut run.reads, taken, lengths, &least.claim, last);
     }
 }
 
@@ -142,7 +259,7 @@ fn close_read(
         return;
     }
     reads.clear();
-    add_found(reads, lengths, first_at(&Wanted::Against(v), last));
+    add_found(reads, &section_at(lengths, &Wanted::Against(v), last));
 }
 
 /// Keeps the read that was taken for the write that keeps a read claim waiting, if that write is satisfied at the next moment.
@@ -166,28 +283,38 @@ fn close_read_of(
 /// What a run keeps once the next moment comes: the wait of the claim goes on.
 fn go_on(
     run: &mut Run,
+    taken: &mut Taken,
     lengths: &[Lengths],
-    c: &Claim,
-    least: &Head,
-    next_least: &Head,
+    lost: &Head,
+    section: &Section,
+    moved: ResourceSet,
+    risen: ResourceSet,
+    heads: &[Head],
+    x: &Claimed,
     last: &[Claimed],
     next: &[Claimed],
 )
+    requires low { x.now.claim.seat < SEATS }
+    requires head { x.now.claim.seat < length heads.now }
     requires last_rises { EachPair Rises last.now }
     requires next_rises { EachPair Rises next.now }
-    requires heads { c.now.write_half ≡ true → (least.now ≡ head_of last.now c.now) × (next_least.now ≡ head_of next.now c.now) }
+    requires heads { HeadsTell heads.now lost.now moved risen last.now next.now x.now }
+    requires section { section.now ≡ section_of lengths.now lost.now.claim }
+    requires taken { IsTaken lengths.now last.now taken.old }
     requires room { HasRoom run.old }
-    requires few { AreAtMost SEATS (gone_on c.now (kept_in run.old) last.now next.now) }
-    ensures kept { kept_in run.new ≡ gone_on c.now (kept_in run.old) last.now next.now }
+    requires few { AreAtMost SEATS (gone_on x.now.claim (kept_in run.old) last.now next.now) }
+    ensures taken { IsTaken lengths.now last.now taken.new }
+    ensures kept { kept_in run.new ≡ gone_on x.now.claim (kept_in run.old) last.now next.now }
     ensures room { HasRoom run.new }
-    ensures lengths { (len : Claim → ℕ) → AreOf (length_by lengths.now) len last.now → length_by lengths.now c.now ≡ len c.now → AreLong len run.old → AreLong len run.new }
+    ensures lengths { (len : Claim → ℕ) → AreOf (length_by lengths.now) len last.now → length_by lengths.now x.now.claim ≡ len x.now.claim → AreLong len run.old → AreLong len run.new }
 {
-    if !c.write_half {
-        close_read_of(&mut run.reads, lengths, c, last, next);
+    if x.claim.write_half {
+        go_on_write(
+            run, taken, lengths, lost, section, moved, risen, heads, x, last, next,
+        );
         return;
     }
-    close_reads(&mut run.reads, lengths, least, last, next_least, next);
-    close_writes(&mut run.writes, lengths, least, last, next_least, next);
+    close_read_of(&mut run.reads, lengths, &x.claim, last, next);
 }
 
 /// Keeps nothing.
@@ -201,29 +328,40 @@ pub(crate) fn clear(run: &mut Run)
     run.writes.clear();
 }
 
-/// Keeps of the wait of a claim what is due at the next moment: it goes on, if it stood at the last, or it begins.
+/// Keeps of the wait of a claim what is due at the next moment: it begins, if its upgrade rises, and else it goes on.
 pub(crate) fn keep_by(
     run: &mut Run,
-    stood: bool,
+    event: &Event,
+    taken: &mut Taken,
     lengths: &[Lengths],
-    c: &Claim,
-    least: &Head,
-    next_least: &Head,
+    lost: &Head,
+    section: &Section,
+    moved: ResourceSet,
+    risen: ResourceSet,
+    heads: &[Head],
+    x: &Claimed,
     last: &[Claimed],
     next: &[Claimed],
 )
+    requires low { x.now.claim.seat < SEATS }
+    requires head { x.now.claim.seat < length heads.now }
     requires last_rises { EachPair Rises last.now }
     requires next_rises { EachPair Rises next.now }
-    requires heads { stood ≡ true → c.now.write_half ≡ true → (least.now ≡ head_of last.now c.now) × (next_least.now ≡ head_of next.now c.now) }
+    requires heads { HeadsTell heads.now lost.now moved risen last.now next.now x.now }
+    requires section { section.now ≡ section_of lengths.now lost.now.claim }
+    requires taken { IsTaken lengths.now last.now taken.old }
     requires room { HasRoom run.old }
-    requires few { AreAtMost SEATS (if stood then gone_on c.now (kept_in run.old) last.now next.now else no_sections) }
-    ensures kept { kept_in run.new ≡ (if stood then gone_on c.now (kept_in run.old) last.now next.now else no_sections) }
+    requires few { AreAtMost SEATS (if rises_at event.now x.now.claim.seat then no_sections else gone_on x.now.claim (kept_in run.old) last.now next.now) }
+    ensures taken { IsTaken lengths.now last.now taken.new }
+    ensures kept { kept_in run.new ≡ (if rises_at event.now x.now.claim.seat then no_sections else gone_on x.now.claim (kept_in run.old) last.now next.now) }
     ensures room { HasRoom run.new }
-    ensures lengths { (len : Claim → ℕ) → AreOf (length_by lengths.now) len last.now → length_by lengths.now c.now ≡ len c.now → AreLong len run.old → AreLong len run.new }
+    ensures lengths { (len : Claim → ℕ) → AreOf (length_by lengths.now) len last.now → length_by lengths.now x.now.claim ≡ len x.now.claim → AreLong len run.old → AreLong len run.new }
 {
-    if stood {
-        go_on(run, lengths, c, least, next_least, last, next);
+    if !has_stood(event, x.claim.seat) {
+        clear(run);
         return;
     }
-    clear(run);
+    go_on(
+        run, taken, lengths, lost, section, moved, risen, heads, x, last, next,
+    );
 }

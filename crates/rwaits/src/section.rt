@@ -1,7 +1,8 @@
 // A section that is kept, with its length.
 ghost use Rattle.std.specs.Prelude.{◌≡◌, ◌≤◌, ◌<◌, ◌++◌, ◌∷◌, [], ℕ, ◌^◌, IfSome, length, vec_capacity};
 ghost use Rattle.rclaim.specs.declared.claim.Claim.{Claim};
-ghost use Rattle.rwaits.specs.Follow.{claims_of, length_by, HaveLengths};
+ghost use Rattle.rwaits.specs.Follow.{claims_of, claim_if, length_by, section_of, HaveLengths};
+ghost use Rattle.std.specs.Option.{option_map};
 ghost use Rattle.rcover.specs.Lists.{with_different, with_option};
 ghost use Rattle.std.specs.List.{list_any, sum_by};
 ghost use Rattle.rset.specs.declared.TheConstants.{SEATS};
@@ -48,41 +49,58 @@ fn has_section(sections: &[Section], d: &Claim) -> bool
     sections.iter().any(|s| is_claim(&s.claim, d))
 }
 
-/// Adds the section of a claim.
-pub(crate) fn push_section(sections: &mut Vec<Section>, lengths: &[Lengths], d: &Claim)
-    requires { length sections.old.items < vec_capacity sections.old }
-    ensures claims { claims_of sections.new.items ≡ claims_of sections.old.items ++ d.now ∷ [] }
-    ensures capacity { vec_capacity sections.new ≡ vec_capacity sections.old }
-    ensures lengths { (len : Claim → ℕ) → length_by lengths.now d.now ≡ len d.now → HaveLengths len sections.old.items → HaveLengths len sections.new.items }
+/// The section of a claim, with its length.
+pub(crate) fn section_of(lengths: &[Lengths], d: &Claim) -> Section
+    ensures { result ≡ section_of lengths.now d.now }
 {
-    sections.push_reserved(Section {
+    Section {
         claim: *d,
         len: length_by(lengths, d),
-    });
-}
-
-/// Adds the section of a claim, if it is not there.
-fn add_section(sections: &mut Vec<Section>, lengths: &[Lengths], d: &Claim)
-    requires { length (with_different (claims_of sections.old.items) d.now) ≤ vec_capacity sections.old }
-    ensures claims { claims_of sections.new.items ≡ with_different (claims_of sections.old.items) d.now }
-    ensures capacity { vec_capacity sections.new ≡ vec_capacity sections.old }
-    ensures lengths { (len : Claim → ℕ) → length_by lengths.now d.now ≡ len d.now → HaveLengths len sections.old.items → HaveLengths len sections.new.items }
-{
-    if has_section(sections, d) {
-        return;
     }
-    push_section(sections, lengths, d);
 }
 
-/// Adds the section of the claim that there may be, if it is not there.
-pub(crate) fn add_found(sections: &mut Vec<Section>, lengths: &[Lengths], found: Option<Claim>)
-    requires { length (with_option (claims_of sections.old.items) found) ≤ vec_capacity sections.old }
-    ensures claims { claims_of sections.new.items ≡ with_option (claims_of sections.old.items) found }
-    ensures capacity { vec_capacity sections.new ≡ vec_capacity sections.old }
-    ensures lengths { (len : Claim → ℕ) → IfSome found (λ d. length_by lengths.now d ≡ len d) → HaveLengths len sections.old.items → HaveLengths len sections.new.items }
+/// The section of the claim that there may be.
+pub(crate) fn section_if(lengths: &[Lengths], found: Option<Claim>) -> Option<Section>
+    ensures { result ≡ option_map (section_of lengths.now) found }
 {
     match found {
-        Some(d) => add_section(sections, lengths, &d),
+        Some(d) => Some(section_of(lengths, &d)),
+        None => None,
+    }
+}
+
+/// Adds a section.
+pub(crate) fn push_section(sections: &mut Vec<Section>, section: &Section)
+    requires { length sections.old.items < vec_capacity sections.old }
+    ensures claims { claims_of sections.new.items ≡ claims_of sections.old.items ++ section.now.claim ∷ [] }
+    ensures capacity { vec_capacity sections.new ≡ vec_capacity sections.old }
+    ensures lengths { (len : Claim → ℕ) → section.now.len ≡ len section.now.claim → HaveLengths len sections.old.items → HaveLengths len sections.new.items }
+{
+    sections.push_reserved(*section);
+}
+
+/// Adds a section, if it is not there.
+fn add_section(sections: &mut Vec<Section>, section: &Section)
+    requires { length (with_different (claims_of sections.old.items) section.now.claim) ≤ vec_capacity sections.old }
+    ensures claims { claims_of sections.new.items ≡ with_different (claims_of sections.old.items) section.now.claim }
+    ensures capacity { vec_capacity sections.new ≡ vec_capacity sections.old }
+    ensures lengths { (len : Claim → ℕ) → section.now.len ≡ len section.now.claim → HaveLengths len sections.old.items → HaveLengths len sections.new.items }
+{
+    if has_section(sections, &section.claim) {
+        return;
+    }
+    push_section(sections, section);
+}
+
+/// Adds the section that there may be, if it is not there.
+pub(crate) fn add_found(sections: &mut Vec<Section>, found: &Option<Section>)
+    requires { length (with_option (claims_of sections.old.items) (claim_if found.now)) ≤ vec_capacity sections.old }
+    ensures claims { claims_of sections.new.items ≡ with_option (claims_of sections.old.items) (claim_if found.now) }
+    ensures capacity { vec_capacity sections.new ≡ vec_capacity sections.old }
+    ensures lengths { (len : Claim → ℕ) → IfSome found.now (λ s. s.len ≡ len s.claim) → HaveLengths len sections.old.items → HaveLengths len sections.new.items }
+{
+    match found {
+        Some(section) => add_section(sections, section),
         None => {}
     }
 }

@@ -17,8 +17,8 @@ ghost use Rattle.rwaits.specs.Tracked.{read_shown, read_shown_if, shown};
 ghost use Rattle.rcover.specs.Within.{numbers_of};
 
 use crate::lines::Head;
-use crate::run::{Run, first_at};
-use crate::section::{Lengths, add_found, copy_sections, push_section, sum_of};
+use crate::run::{Run, section_at};
+use crate::section::{Lengths, add_found, copy_sections, push_section, section_of, sum_of};
 use rbound::Which;
 use rclaim::Claim;
 use rcover::{WaitEnd, Wanted, holds_at, keeper_at};
@@ -36,13 +36,12 @@ fn show_write(shown: &mut Run, run: &Run, lengths: &[Lengths], least: &Head, mom
     copy_sections(&mut shown.reads, &run.reads);
     copy_sections(&mut shown.writes, &run.writes);
     if least.holds {
-        push_section(&mut shown.writes, lengths, &least.claim);
+        push_section(&mut shown.writes, &section_of(lengths, &least.claim));
         return;
     }
     add_found(
         &mut shown.reads,
-        lengths,
-        first_at(&Wanted::ReadAgainst(least.claim), moment),
+        &section_at(lengths, &Wanted::ReadAgainst(least.claim), moment),
     );
 }
 
@@ -55,7 +54,7 @@ fn show_found(shown: &mut Run, lengths: &[Lengths], wanted: &Wanted, moment: &[C
 {
     shown.writes.clear();
     shown.reads.clear();
-    add_found(&mut shown.reads, lengths, first_at(wanted, moment));
+    add_found(&mut shown.reads, &section_at(lengths, wanted, moment));
 }
 
 /// Makes `shown` the sections of a read wait that this write keeps waiting.
@@ -72,7 +71,7 @@ fn show_read(shown: &mut Run, run: &Run, lengths: &[Lengths], v: &Claim, moment:
     }
     copy_sections(&mut shown.reads, &run.reads);
     shown.writes.clear();
-    push_section(&mut shown.writes, lengths, v);
+    push_section(&mut shown.writes, &section_of(lengths, v));
 }
 
 /// Makes `shown` the sections of a read wait, by the write that keeps it waiting, if there is one.

@@ -1,7 +1,7 @@
 // The waits that a moment ends, told from what is kept of them.
-ghost use Rattle.std.specs.Prelude.{◌≡◌, ◌≤◌, ◌<◌, ◌++◌, ◌+◌, true, ℕ, List, [], IfSome, length, slice_index, vec_capacity};
+ghost use Rattle.std.specs.Prelude.{◌≡◌, ◌≤◌, ◌<◌, ◌==◌, ◌&&◌, ◌||◌, ◌++◌, ◌+◌, not, true, ℕ, List, IfSome, find, length, slice_index, vec_capacity};
 ghost use Rattle.std.specs.List.{AllByRecursion, filter_map};
-ghost use Rattle.std.specs.Option.{option_to_list};
+ghost use Rattle.std.specs.Option.{option_map, option_to_list};
 ghost use Rattle.rclaim.specs.declared.claim.Claim.{Claim};
 ghost use Rattle.rclaim.specs.declared.event.Event.{Event};
 ghost use Rattle.rset.specs.declared.TheConstants.{SEATS};
@@ -11,10 +11,13 @@ ghost use Rattle.rcover.specs.History.{asks_since, length_in};
 ghost use Rattle.rwaits.specs.Follow.{table_of, kept_in, length_by, HasRoom, AreLong, AreOf};
 ghost use Rattle.rcover.specs.Lists.{AreAtMost};
 ghost use Rattle.std.specs.FinSet.{contains};
-ghost use Rattle.rcover.specs.Told.{waits_for_ask, stands};
-ghost use Rattle.rwaits.specs.Waiting.{some_wait, HoldWaiting};
+ghost use Rattle.rcover.specs.Moments.{Moment, is_claim};
+ghost use Rattle.rcover.specs.Told.{waits_to_rise, stands};
+ghost use Rattle.rmodel.specs.Claims.{is_satisfied};
+ghost use Rattle.rwaits.specs.Waiting.{HoldWaiting, TellRising, HoldAsking};
 ghost use Rattle.rwaits.specs.Lines.{head_of, TellHeads};
-ghost use Rattle.rwaits.specs.Quiet.{is_aside, GoesOn};
+ghost use Rattle.rmodel.specs.WellFormed.{EachPair, Rises};
+ghost use Rattle.rwaits.specs.Quiet.{has_grant, GoesOn, OneWaits};
 ghost use Rattle.rwaits.specs.Tracked.{shown, told_of, told_if, told};
 
 use crate::lines::Head;
@@ -22,20 +25,22 @@ use crate::noted::busy_seats;
 use crate::run::Run;
 use crate::section::Lengths;
 use crate::show::{end_of, show};
+use crate::waiting::still_rises;
 use rbound::Which;
-use rclaim::GrantChange;
-use rcover::{WaitEnd, stands, waits_first, waits_for_ask, waits_to_rise};
+use rclaim::{Claim, GrantChange};
+use rcover::{WaitEnd, is_claim, stands, waits_first, waits_for_ask, waits_to_rise};
 use rmodel::Claimed;
 use rset::ResourceSet;
 
-/// The wait in which a claim is, if it is in one. So many asks of its seat came since its last issue.
-fn wait_by(asks: usize, moment: &[Claimed], x: &Claimed) -> Option<Which>
-    ensures which { (es : List Event) → asks ≡ asks_since x.now.claim.seat es → result ≡ wait_of es moment.now x.now }
-    ensures waits { IfSome result (λ w. waits_in w moment.now x.now ≡ true) }
+/// The wait in which a claim is, if it is in one, where it is told whether the upgrade of its seat rose. So many asks of its seat
+/// came since its last issue.
+fn wait_by(asks: usize, rose: bool, x: &Claimed) -> Option<Which>
+    ensures which { (m : Moment) → waits_to_rise m x.now ≡ (rose && not (is_satisfied x.now)) → (es : List Event) → asks ≡ asks_since x.now.claim.seat es → result ≡ wait_of es m x.now }
+    ensures waits { (m : Moment) → waits_to_rise m x.now ≡ (rose && not (is_satisfied x.now)) → IfSome result (λ w. waits_in w m x.now ≡ true) }
 {
     if waits_first(x) {
         Some(Which::First)
-    } else if waits_to_rise(moment, x) {
+    } else if still_rises(rose, x) {
         Some(Which::Rise)
     } else if waits_for_ask(x) {
         Some(Which::Ask(asks.saturating_sub(1)))
@@ -44,29 +49,54 @@ fn wait_by(asks: usize, moment: &[Claimed], x: &Claimed) -> Option<Which>
     }
 }
 
-/// Whether an ask of the request of a claim is pending.
-fn asks(x: &Claimed) -> bool
-    ensures { result ≡ waits_for_ask [] x.now }
+/// Whether a claim is in this wait.
+fn is_in(which: Which, moment: &[Claimed], x: &Claimed) -> bool
+    ensures { result ≡ waits_in which moment.now x.now }
 {
-    if x.asked.is_empty() {
-        return false;
+    match which {
+        Which::First => waits_first(x),
+        Which::Rise => waits_to_rise(moment, x),
+        Which::Ask(_) => waits_for_ask(x),
     }
-    waits_for_ask(x)
 }
 
-/// Whether a claim is of none of these seats, and no ask of it is pending.
-fn is_aside(seats: ResourceSet, x: &Claimed) -> bool
-    requires { x.now.claim.seat < SEATS }
-    ensures { result ≡ is_aside seats x.now }
+/// Whether the first claim at a moment that is this one is in this wait, if there is one.
+fn first_waits(which: Which, c: &Claim, moment: &[Claimed]) -> Option<bool>
+    ensures { result ≡ option_map (λ x. waits_in which moment.now x) (find (λ x. is_claim c.now x.claim) moment.now) }
 {
-    if seats.has(x.claim.seat) {
-        return false;
-    }
-    !asks(x)
+    moment
+        .iter()
+        .find(|x| is_claim(c, &x.claim))
+        .map(|x| is_in(which, moment, x))
 }
 
-/// Adds the wait of a claim at the last moment, if it is in one and the next moment ends it. Where a claim is of no `busy` seat
-/// and asks for nothing, it does not. `scratch` is room.
+/// Whether a claim stands at a moment, in this wait. That of a write is asked at its own place and no further: no other claim
+/// there has its stamp and half.
+fn still_stands(which: Which, c: &Claim, moment: &[Claimed]) -> bool
+    requires { EachPair Rises moment.now }
+    ensures { result ≡ stands (waits_in which) c.now moment.now }
+{
+    if !c.write_half {
+        return stands(which, c, moment);
+    }
+    first_waits(which, c, moment).unwrap_or(false)
+}
+
+/// The seats of which a wait may end by an event of this seat with these grants, where no seats wait but these, and no asks are
+/// pending but of these: its own, those to which something is granted, and those that ask.
+fn seats_looked_at(
+    waiting: ResourceSet,
+    asking: ResourceSet,
+    seat: u8,
+    grants: &[GrantChange],
+) -> ResourceSet
+    ensures { (other : ℕ) → other < SEATS → contains result other ≡ ((((seat == other) || has_grant grants.now other) || contains asking other) && contains waiting other) }
+{
+    busy_seats(seat, grants).union(asking).meet(waiting)
+}
+
+/// Adds the wait of a claim at the last moment, if it is in one and the next moment ends it, where it is told whether the upgrade
+/// of its seat rose. `scratch` is room.
 fn tell_wait(
     ended: &mut Vec<WaitEnd>,
     scratch: &mut Run,
@@ -74,15 +104,13 @@ fn tell_wait(
     least: &Head,
     lengths: &[Lengths],
     asks: usize,
-    waiting: ResourceSet,
-    busy: ResourceSet,
+    rose: bool,
     x: &Claimed,
     last: &[Claimed],
     next: &[Claimed],
 )
-    requires low { x.now.claim.seat < SEATS }
-    requires waiting { some_wait last.now x.now ≡ true → contains waiting x.now.claim.seat ≡ true }
-    requires quiet { is_aside busy x.now ≡ true → (w : Which) → waits_in w last.now x.now ≡ true → stands (waits_in w) x.now.claim next.now ≡ true }
+    requires rose { waits_to_rise last.now x.now ≡ (rose && not (is_satisfied x.now)) }
+    requires next_rises { EachPair Rises next.now }
     requires least { x.now.claim.write_half ≡ true → least.now ≡ head_of last.now x.now.claim }
     requires room { length ended.old.items < vec_capacity ended.old }
     requires scratch { HasRoom scratch.old }
@@ -93,16 +121,10 @@ fn tell_wait(
     ensures told { (es : List Event) → asks ≡ asks_since x.now.claim.seat es → AreOf (length_by lengths.now) (length_in es) last.now → length_by lengths.now x.now.claim ≡ length_in es x.now.claim → AreLong (length_in es) run.now
         → ended.new.items ≡ ended.old.items ++ option_to_list (told_of (length_in es) last.now next.now (kept_in run.now) x.now (wait_of es last.now x.now)) }
 {
-    if is_aside(busy, x) {
-        return;
-    }
-    if !waiting.has(x.claim.seat) {
-        return;
-    }
-    let Some(which) = wait_by(asks, last, x) else {
+    let Some(which) = wait_by(asks, rose, x) else {
         return;
     };
-    if stands(which, &x.claim, next) {
+    if still_stands(which, &x.claim, next) {
         return;
     }
     show(scratch, run, lengths, which, least, x, last);
@@ -110,7 +132,8 @@ fn tell_wait(
 }
 
 /// The waits of claims at the last moment that the next one ends, by an event of this seat with these grants. No seats wait
-/// but these, and `heads` are those of the writes. `scratch` is room.
+/// but these, which claims wait to rise is told by the seats that rose, no asks are pending but of these seats, and `heads` are
+/// those of the writes. `scratch` is room.
 pub(crate) fn tell(
     ended: &mut Vec<WaitEnd>,
     scratch: &mut Run,
@@ -119,6 +142,8 @@ pub(crate) fn tell(
     lengths: &[Lengths],
     asks: &[usize],
     waiting: ResourceSet,
+    rising: ResourceSet,
+    asking: ResourceSet,
     seat: u8,
     grants: &[GrantChange],
     last: &[Claimed],
@@ -126,7 +151,11 @@ pub(crate) fn tell(
 )
     requires low { AllByRecursion (λ x. x.claim.seat < SEATS) last.now }
     requires waiting { HoldWaiting waiting last.now }
+    requires rising { TellRising rising last.now }
+    requires asking { HoldAsking asking last.now }
     requires quiet { AllByRecursion (GoesOn seat grants.now last.now next.now) last.now }
+    requires apart { EachPair (OneWaits last.now) last.now }
+    requires next_rises { EachPair Rises next.now }
     requires room { length last.now ≤ vec_capacity ended.old }
     requires scratch { HasRoom scratch.old }
     requires seats { AllByRecursion (λ x. (x.claim.seat < length runs.now) × (x.claim.seat < length asks.now)) last.now }
@@ -139,11 +168,19 @@ pub(crate) fn tell(
         → ended.new.items ≡ told es last.now next.now (table_of runs.now) }
 {
     ended.clear();
-    let busy = busy_seats(seat, grants);
+    let mut left = seats_looked_at(waiting, asking, seat, grants);
     for x in last {
-        let at = x.claim.seat as usize;
-        tell_wait(
-            ended, scratch, &runs[at], &heads[at], lengths, asks[at], waiting, busy, x, last, next,
-        );
+        if left.is_empty() {
+            return;
+        }
+        if left.has(x.claim.seat) {
+            // Of two claims of one seat the later is in no wait.
+            left = left.without(x.claim.seat);
+            let at = x.claim.seat as usize;
+            let rose = rising.has(x.claim.seat);
+            tell_wait(
+                ended, scratch, &runs[at], &heads[at], lengths, asks[at], rose, x, last, next,
+            );
+        }
     }
 }

@@ -1,10 +1,14 @@
 -- Sections that are kept, and their claims.
-use Rattle.std.proofs.Common.{true, false, None, Option, drop, add-one, drop-cons, ◌≡◌, ℕ, zero, suc, ◌<◌, ◌+◌, ◌++◌, get_or, arith, Bool, ◌||◌, ◌&&◌, cond, Some, List, [], ◌∷◌, length, find, refl, sym, ap, subst, ◌∙◌, inl, inr}
+use Rattle.std.proofs.Common.{true, false, not, None, Option, drop, add-one, drop-cons, ◌≡◌, ℕ, zero, suc, ◌<◌, ◌+◌, ◌++◌, get_or, arith, Bool, ◌||◌, ◌&&◌, cond, Some, List, [], ◌∷◌, length, find, refl, sym, ap, subst, ◌∙◌, inl, inr}
 use Rattle.std.specs.Option.{IfSome, option_map, unwrap_or}
 use Rattle.rmodel.specs.declared.claimed.Claimed.{Claimed}
 use Rattle.rmodel.specs.Claims.{is_satisfied}
 use Rattle.rmodel.proofs.settling.OneSettlement.{both_cases}
-use Rattle.rmodel.specs.Claims.{share_place, is_active, conflicts}
+use Rattle.rmodel.specs.Claims.{share_place, is_active, conflicts, touches}
+use Rattle.rcover.specs.Lists.{reads_against}
+use Rattle.std.specs.FinSet.{empty}
+use Rattle.rset.specs.Sets.{meets}
+use Rattle.rset.proofs.SetsMeet.{meets_empty_left, meets_empty_right}
 use Rattle.rmodel.specs.Rules.{is_earlier_write}
 use Rattle.rwaits.specs.Last.{first_at}
 use Rattle.rcover.specs.Line.{line, first_or, least_of}
@@ -19,7 +23,8 @@ use Rattle.std.proofs.lemmas.Bool.{and_parts}
 use Rattle.rcover.proofs.runs.Moments.{are_one}
 use Rattle.rclaim.specs.declared.claim.Claim.{Claim}
 use Rattle.rwaits.specs.declared.section.Section.{Section}
-use Rattle.rwaits.specs.Follow.{claims_of, HaveLengths, AreOf}
+use Rattle.rwaits.specs.declared.section.Lengths.{Lengths}
+use Rattle.rwaits.specs.Follow.{claims_of, claim_if, length_by, section_of, HaveLengths, AreOf}
 use Rattle.rmodel.specs.Laws.{keeps_out}
 use Rattle.rcover.specs.Sections.{Sections}
 use Rattle.std.specs.Option.{option_to_list}
@@ -181,3 +186,39 @@ read_not_closed m n (Some v) none a =
     at : (b : Bool) (r : List Claim) → cond b r r ≡ r
     at true r = refl
     at false r = refl
+
+-- ---- the read that is taken for a claim
+
+-- the section of a claim that there may be is of that
+pub claim_same : (ls : List Lengths) (o : Option Claim) → claim_if (option_map (section_of ls) o) ≡ o
+claim_same ls None = refl
+claim_same ls (Some d) = refl
+
+-- it is the same for claims that read and write the same
+pub same_against : (c d : Claim) → c.reads ≡ d.reads → c.writes ≡ d.writes → reads_against c ≡ reads_against d
+same_against c d reads writes = λ i. λ r. not r.write_half && ((meets (reads i) r.writes || meets (writes i) r.writes) || touches r (writes i))
+
+-- and has its length
+pub taken_has : (ls : List Lengths) (len : Claim → ℕ) (p : Claim → Bool) (m : Moment) → AreOf (length_by ls) len m → IfSome (option_map (section_of ls) (first_at p m)) (λ s. s.len ≡ len s.claim)
+taken_has ls len p m are = at (first_at p m) (found_has (length_by ls) len p m are)
+  where
+    at : (o : Option Claim) → IfSome o (λ d. length_by ls d ≡ len d) → IfSome (option_map (section_of ls) o) (λ s. s.len ≡ len s.claim)
+    at None has = tt
+    at (Some d) has = has
+
+-- none is taken for a claim that reads and writes nothing
+pub none_against : (c : Claim) → c.reads ≡ empty → c.writes ≡ empty → (m : Moment) → first_at (reads_against c) m ≡ None
+none_against c reads writes [] = refl
+none_against c reads writes (x ∷ xs) =
+    ap (λ b. option_map (λ (y : Claimed). y.claim) (cond (b && is_satisfied x) (Some x) (find (λ y. reads_against c y.claim && is_satisfied y) xs))) off
+    ∙ none_against c reads writes xs
+  where
+    at : (b : Bool) → (b && false) ≡ false
+    at true = refl
+    at false = refl
+
+    off : reads_against c x.claim ≡ false
+    off =
+        (λ i. not x.claim.write_half && ((meets (reads i) x.claim.writes || meets (writes i) x.claim.writes) || (meets x.claim.reads (writes i) || meets x.claim.writes (writes i))))
+        ∙ (λ i. not x.claim.write_half && ((meets_empty_left x.claim.writes i || meets_empty_left x.claim.writes i) || (meets_empty_right x.claim.reads i || meets_empty_right x.claim.writes i)))
+        ∙ at (not x.claim.write_half)

@@ -1,5 +1,5 @@
 -- What a follower knows of the events that it followed holds with one event more.
-use Rattle.std.proofs.Common.{◌≡◌, ℕ, zero, suc, ◌*◌, ◌≤◌, ◌<◌, true, false, List, [], ◌∷◌, ◌++◌, append_assoc, length, length-append, drop, refl, sym, ap, subst, ◌∙◌, arith}
+use Rattle.std.proofs.Common.{◌≡◌, ℕ, zero, suc, ◌*◌, ◌≤◌, ◌<◌, true, false, not, ◌&&◌, List, [], ◌∷◌, ◌++◌, append_assoc, length, length-append, drop, refl, sym, ap, subst, ◌∙◌, arith}
 use Rattle.std.proofs.lemmas.List.{take-append-le, take_all}
 use Rattle.std.specs.Vec.{with_items}
 use Rattle.std.specs.declared.vec.Vec.{Vec}
@@ -40,7 +40,8 @@ use Rattle.rwaits.specs.Lines.{TellAt, TellHeads, GoesBy, IsLost, IsTouched, Hol
 use Rattle.rwaits.specs.Follows.{HaveRoom, Follows}
 use Rattle.rwaits.specs.Past.{Past, begun, with_event, start_of, state_of, noted, is_issue, StoodBy}
 use Rattle.rwaits.specs.Tracked.{shown, told}
-use Rattle.rwaits.specs.Waiting.{HoldRising, HoldWaiting}
+use Rattle.rwaits.specs.Waiting.{HoldAsking, HoldWaiting, TellRising, has_end, with_seat}
+use Rattle.rcover.specs.declared.wait_end.WaitEnd.{WaitEnd}
 use Rattle.rwaits.specs.Heads.{IsMoment, TellsNow}
 use Rattle.rwaits.proofs.lists.Kept.{length_claims}
 use Rattle.rwaits.proofs.told.Noted.{lengths_next, lengths_stay, asks_more}
@@ -51,6 +52,7 @@ use Rattle.rclaim.specs.declared.changes.StatusChange.{StatusChange}
 use Rattle.rset.specs.Sets.{Set}
 use Rattle.std.specs.FinSet.{contains}
 use Rattle.rwaits.proofs.told.Lost.{behind_before, goes_by, read_stays, told_before}
+use Rattle.rwaits.proofs.told.Gone.{waiting_over}
 use Rattle.rwaits.proofs.told.Grants.{goes_on}
 use Rattle.rwaits.proofs.told.Stood.{stood_by}
 use Rattle.rwaits.proofs.told.Tracking.{shown_at_most, told_are_ended, tracked_next, tracked_opening}
@@ -192,11 +194,6 @@ module _ (a : Following) (p : Past) (k : Follows a p) where
     pub seats_next : AllByRecursion (λ x. x.claim.seat < length a.runs.items) n
     seats_next = seats_next_at (length a.runs.items) k.room.seats
 
-    pub seats_both : (l l' : ℕ) → l ≡ SEATS → l' ≡ SEATS → AllByRecursion (λ x. (x.claim.seat < l) × (x.claim.seat < l')) n
-    seats_both l l' is is' =
-        all_from (λ x. (x.claim.seat < l) × (x.claim.seat < l')) n
-        (λ x there. (subst (λ k. x.claim.seat < k) (sym is) (seat_in_next x there), subst (λ k. x.claim.seat < k) (sym is') (seat_in_next x there)))
-
     pub claims_few_next : length n ≤ 2 * SEATS
     claims_few_next =
         let few = few_claims (next (state_of p) e) reached_on.sound in
@@ -229,15 +226,30 @@ module _ (a : Following) (p : Past) (k : Follows a p) where
         all_from (GoesOn (seat_of e) (changes_between (state_of p) (next (state_of p) e)).grants m n) m
         (λ x there quiet. goes_on (state_of p) e reached comes old x there quiet)
 
+    -- the waits that the event ends, told by what is known before it
+    pub ends_next : (last n' : Moment) (rs : List Run) (ended : List WaitEnd) → last ≡ m → n' ≡ n → rs ≡ a.runs.items
+        → ((ds : List Event) → AllByRecursion (λ x. slice_index a.asks x.claim.seat ≡ asks_since x.claim.seat ds) last → AreOf (length_by a.lengths) (length_in ds) last → AllByRecursion (AreLong (length_in ds)) rs → ended ≡ told ds last n' (table_of rs))
+        → ended ≡ told es m n table
+    ends_next last n' rs ended is_m is_n are tells =
+        tells es (subst (λ (z : Moment). AllByRecursion (λ x. slice_index a.asks x.claim.seat ≡ asks_since x.claim.seat es) z) (sym is_m) asks_now)
+        (subst (λ (z : Moment). AreOf (length_by a.lengths) (length_in es) z) (sym is_m) lengths_now) (subst (λ (z : List Run). AllByRecursion (AreLong (length_in es)) z) (sym are) long_now)
+        ∙ (λ i. told es (is_m i) (is_n i) (table_of (are i)))
+
+    -- the seats that wait behind it: none of which a wait ended
+    pub waits_next : is_issue e ≡ false → (left now : Set) (n' : Moment) (ended : List WaitEnd) (seat : ℕ) → n' ≡ n → seat ≡ seat_of e → ended ≡ told es m n table
+        → ((l : ℕ) → l < SEATS → contains left l ≡ (not (has_end ended l) && contains a.waiting l)) → now ≡ with_seat left n' seat → HoldWaiting now n
+    waits_next old left now n' ended seat is_n seated are without is =
+        subst (λ (w : Set). HoldWaiting w n) (sym (is ∙ (λ i. with_seat left (is_n i) (seated i)))) (waiting_over (state_of p) e reached comes old es table a.waiting left k.waiting ended are without (seats_next_at SEATS refl))
+
     -- heads that tell of all writes before the event tell of those behind it, and go on as they do
-    pub heads_turn : is_issue e ≡ false → (hs : List Head) (lost : ℕ) (came touched : Set) (last n' : Moment) (statuses : List StatusChange) → last ≡ m → n' ≡ n → IsLost lost e last → statuses ≡ (changes_between (state_of p) (next (state_of p) e)).statuses
-        → ((seat : ℕ) → seat < SEATS → contains came seat ≡ tells_write_of statuses seat) → AllByRecursion (IsTouched lost statuses touched last) last → TellHeads hs last → TellAt hs m n' × AllByRecursion (GoesBy lost came touched m n') n'
-    heads_turn old hs lost came touched last n' statuses is_m is_n is_lost are_told are touch tells = (
+    pub heads_turn : is_issue e ≡ false → (hs : List Head) (lost : Head) (gone came touched : Set) (last n' : Moment) (statuses : List StatusChange) → last ≡ m → n' ≡ n → AllByRecursion (IsLost lost gone e last) last → statuses ≡ (changes_between (state_of p) (next (state_of p) e)).statuses
+        → ((seat : ℕ) → seat < SEATS → contains came seat ≡ tells_write_of statuses seat) → AllByRecursion (IsTouched lost.claim.seat statuses touched last) last → TellHeads hs last → TellAt hs m n' × AllByRecursion (GoesBy lost gone came touched m n') n'
+    heads_turn old hs lost gone came touched last n' statuses is_m is_n is_lost are_told are touch tells = (
       subst (TellAt hs m) (sym is_n) (told_before (state_of p) e reached comes old hs (subst (TellHeads hs) is_m tells)),
-      subst (λ (z : Moment). AllByRecursion (GoesBy lost came touched m z) z) (sym is_n)
-          (all_from (GoesBy lost came touched m n) n
+      subst (λ (z : Moment). AllByRecursion (GoesBy lost gone came touched m z) z) (sym is_n)
+          (all_from (GoesBy lost gone came touched m n) n
           (λ x there. goes_by (state_of p) e reached comes old came (λ seat low. are seat low ∙ ap (λ cs. tells_write_of cs seat) are_told)
-          (all_from (λ y. y.claim.seat < SEATS) m (λ y in_m. seat_in y in_m)) lost (subst (IsLost lost e) is_m is_lost) touched (subst (λ (z : List StatusChange × Moment). AllByRecursion (IsTouched lost z.0 touched z.1) z.1) (λ i. (are_told i, is_m i)) touch) x there (seat_in_next x there))),
+          (all_from (λ y. y.claim.seat < SEATS) m (λ y in_m. seat_in y in_m)) lost gone (subst (λ (z : Moment). AllByRecursion (IsLost lost gone e z) z) is_m is_lost) touched (subst (λ (z : List StatusChange × Moment). AllByRecursion (IsTouched lost.claim.seat z.0 touched z.1) z.1) (λ i. (are_told i, is_m i)) touch) x there (seat_in_next x there))),
     )
 
     -- sets that hold all writes before the event hold those behind it
@@ -280,8 +292,8 @@ module _ (a : Following) (p : Past) (k : Follows a p) where
         → ((rest : List Event) → AllByRecursion (AreLong (length_in (es ++ e ∷ rest))) b.runs.items)
         → ((c : Claim) → length_by b.lengths c ≡ noted e (length_by a.lengths) c)
         → ((seat : ℕ) → seat < SEATS → slice_index b.asks seat ≡ count_ask seat (slice_index a.asks seat) e)
-        → HoldWaiting b.waiting n → HoldRising b.rising n → TellsNow b.heads n → b.ended.items ≡ told es m n table → Follows b (with_event p e)
-    known b room kept long lengths asks waiting rising heads ended = record {
+        → HoldWaiting b.waiting n → TellRising b.rising n → HoldAsking b.asking n → TellsNow b.heads n → b.ended.items ≡ told es m n table → Follows b (with_event p e)
+    known b room kept long lengths asks waiting rising asking heads ended = record {
       accepted = accepted_push o es e k.accepted comes;
       seats = k.seats;
       some_cap = k.some_cap;
@@ -293,7 +305,8 @@ module _ (a : Following) (p : Past) (k : Follows a p) where
           subst (λ (z : List Event × LockState). AreOf (length_by b.lengths) (length_in z.0) z.1.claims) (λ i. (behind rest i, sym at_next i)) (lengths_come (length_by b.lengths) lengths rest);
       asks = λ seat h. asks seat h ∙ ap (λ n. count_ask seat n e) (k.asks seat h) ∙ sym (asks_more seat es e);
       waiting = subst (λ (s : LockState). HoldWaiting b.waiting s.claims) (sym at_next) waiting;
-      rising = subst (λ (s : LockState). HoldRising b.rising s.claims) (sym at_next) rising;
+      rising = subst (λ (s : LockState). TellRising b.rising s.claims) (sym at_next) rising;
+      asking = subst (λ (s : LockState). HoldAsking b.asking s.claims) (sym at_next) asking;
       heads = subst (λ (s : LockState). TellsNow b.heads s.claims) (sym at_next) heads;
       room = room;
       none = λ none. absurd (never_none none);
@@ -326,6 +339,7 @@ known_first groups seats cap a most some few room heads long asks none = record 
   asks = asks;
   waiting = tt;
   rising = tt;
+  asking = tt;
   heads = heads;
   room = room;
   none = λ _. none;

@@ -6,7 +6,8 @@ use Rattle.std.specs.Prelude.{slice_get}
 use Rattle.std.specs.FinSet.{contains, empty, is_subset}
 use Rattle.rset.specs.Sets.{Set, meets}
 use Rattle.rset.specs.declared.TheConstants.{SEATS}
-use Rattle.rset.proofs.SetsMeet.{meets_empty_left, meets_empty_right, meets_within_right}
+use Rattle.rset.proofs.SetsMeet.{meets_empty_left, meets_empty_right, meets_symmetric, meets_within_right}
+use Rattle.rset.proofs.SetsWithin.{within_transitive}
 use Rattle.rclaim.specs.declared.claim.Claim.{Claim}
 use Rattle.rclaim.specs.declared.changes.StatusChange.{StatusChange}
 use Rattle.rclaim.specs.declared.event.Event.{Event}
@@ -31,7 +32,7 @@ use Rattle.rcover.proofs.runs.Moments.{are_one}
 use Rattle.rcover.proofs.states.LeastOfLine.{IsWriteThere, write_by_stamp, of_line_there, least_there, line_shrinks}
 use Rattle.rcover.proofs.states.Lines.{IsOfLine, earlier_of, least_is, least_below}
 use Rattle.rwaits.specs.declared.lines.Head.{Head}
-use Rattle.rwaits.specs.Lines.{head_of, has_write, takes_seat, set_at, IsBehind, HoldBehind, IsLost, IsTouched, with_told, TellAt, TellHeads, GoesBy, HoldWritten, ReadStays}
+use Rattle.rwaits.specs.Lines.{head_of, takes_seat, set_at, IsBehind, HoldBehind, IsLost, IsTouched, with_told, TellAt, TellHeads, IsNoted, GoesBy, HoldWritten, ReadStays}
 use Rattle.rwaits.specs.Past.{is_issue}
 use Rattle.rwaits.specs.Quiet.{tells_write_of}
 use Rattle.rwaits.proofs.lists.Kept.{keeper_there}
@@ -118,19 +119,19 @@ module _ (s : LockState) (e : Event) (reached : IsReached s) (comes : Comes s e)
       left_by (event.Ask seat part) old still = let h = left s (event.Ask seat part) x there refl in (h.to, h.there, h.still)
 
   -- the least of a line stays where it is of another seat than the one that is lost
-  module _ (lost : ℕ) (is_lost : IsLost lost e m) where
+  module _ (lost : Head) (gone : Set) (is_lost : AllByRecursion (IsLost lost gone e m) m) where
     rising : EachPair Rises m
     rising = reached.sound.well_formed.rising
 
     rising_on : EachPair Rises n
     rising_on = on.sound.well_formed.rising
 
-    not_taken : (x : Claimed) → Among x m → x.claim.write_half ≡ true → (least_of x.claim m).seat ≢ lost → takes_seat e x.claim.seat ≡ false
+    not_taken : (x : Claimed) → Among x m → x.claim.write_half ≡ true → (least_of x.claim m).seat ≢ lost.claim.seat → takes_seat e x.claim.seat ≡ false
     not_taken x there write other =
         false_from (takes_seat e x.claim.seat) (λ h.
-        absurd (other (all_at (λ y. y.claim.write_half ≡ true → takes_seat e y.claim.seat ≡ true → (least_of y.claim m).seat ≡ lost) m x is_lost there write h)))
+        absurd (other (ap (λ (k : Head). k.claim.seat) ((all_at (IsLost lost gone e m) m x is_lost there).taken write h))))
 
-    pub least_stays : (k : ℕ) (x : Claimed) → Among x m → x.claim.write_half ≡ true → There x.claim n → x.claim.stamp < k → (least_of x.claim m).seat ≢ lost → least_of x.claim n ≡ least_of x.claim m
+    pub least_stays : (k : ℕ) (x : Claimed) → Among x m → x.claim.write_half ≡ true → There x.claim n → x.claim.stamp < k → (least_of x.claim m).seat ≢ lost.claim.seat → least_of x.claim n ≡ least_of x.claim m
     least_stays zero x there write there' below other = absurd (omega arith)
     least_stays (suc k) x there write there' below other =
         write_by_stamp s reached (least_of c n) (least_of c m) (of_line_there s reached c waits (least_of c n) shrunk) (least_there s reached c waits) (let l = low in let h = high (least_stays k) in omega arith)
@@ -149,7 +150,7 @@ module _ (s : LockState) (e : Event) (reached : IsReached s) (comes : Comes s e)
 
         -- it is so of earlier writes
         Earlier : Type 0
-        Earlier = (y : Claimed) → Among y m → y.claim.write_half ≡ true → There y.claim n → y.claim.stamp < k → (least_of y.claim m).seat ≢ lost → least_of y.claim n ≡ least_of y.claim m
+        Earlier = (y : Claimed) → Among y m → y.claim.write_half ≡ true → There y.claim n → y.claim.stamp < k → (least_of y.claim m).seat ≢ lost.claim.seat → least_of y.claim n ≡ least_of y.claim m
 
         -- by an earlier write that shares a place and has the same least
         by : Earlier → (y : Claimed) → Among y m → is_earlier_write c y.claim ≡ true → share_place y.claim c ≡ true → (least_of y.claim m).stamp ≤ (least_of c m).stamp → (least_of c n).stamp ≤ (least_of c m).stamp
@@ -158,7 +159,7 @@ module _ (s : LockState) (e : Event) (reached : IsReached s) (comes : Comes s e)
             let of_y : IsWriteThere y.claim m = record { there = record { at = y; among = in_m; is = refl }; write = parts.write } in
             let up = least_under m rising c y in_m earlier share in
             let same : least_of y.claim m ≡ least_of c m = write_by_stamp s reached (least_of y.claim m) (least_of c m) (least_there s reached y.claim of_y) (least_there s reached c waits) (omega arith) in
-            let other_y : (least_of y.claim m).seat ≢ lost = λ h. other (ap (λ (d : Claim). d.seat) (sym same) ∙ h) in
+            let other_y : (least_of y.claim m).seat ≢ lost.claim.seat = λ h. other (ap (λ (d : Claim). d.seat) (sym same) ∙ h) in
             let z = stands y in_m parts.write (not_taken y in_m parts.write other_y) in
             let less = parts.below in
             let stays = stays_so y in_m parts.write z (omega arith) other_y in
@@ -171,6 +172,50 @@ module _ (s : LockState) (e : Event) (reached : IsReached s) (comes : Comes s e)
         high stays_so = elim (least_from m rising c) [
           | inl itself ↦ (let h = least_below c n rising_on c (inl refl) in let e_1 = ap (λ (d : Claim). d.stamp) itself in omega arith)
           | inr y ↦ by stays_so y.0 y.1 y.2 y.3 y.4
+        ]
+
+  -- it stays too where no earlier write that shares a place goes, or gets another one: the places of those are among these
+  module _ (dirty : Set) (gone : AllByRecursion (λ y. y.claim.write_half ≡ true → takes_seat e y.claim.seat ≡ true → is_subset y.claim.places dirty ≡ true) m) where
+    pub least_apart : (x : Claimed) → Among x m → x.claim.write_half ≡ true → meets x.claim.places dirty ≡ false → AllByRecursion (λ y. y.claim.stamp < x.claim.stamp → IsNoted dirty m n y) n → (least_of x.claim n).stamp ≡ (least_of x.claim m).stamp
+    least_apart x there write apart noted = let l = low in let h = high in omega arith
+      where
+        c : Claim
+        c = x.claim
+
+        rises : EachPair Rises m
+        rises = reached.sound.well_formed.rising
+
+        rises_on : EachPair Rises n
+        rises_on = on.sound.well_formed.rising
+
+        waits : IsWriteThere c m
+        waits = record { there = record { at = x; among = there; is = refl }; write = write }
+
+        low : (least_of c m).stamp ≤ (least_of c n).stamp
+        low = least_below c m rises (least_of c n) (line_shrinks s reached e comes c waits (least_of c n) (least_is c n))
+
+        clear : (y : Claimed) → share_place y.claim c ≡ true → is_subset y.claim.places dirty ≡ false
+        clear y share =
+            false_from (is_subset y.claim.places dirty) (λ within.
+            contrary (meets c.places dirty) (meets_within_right c.places y.claim.places dirty within (meets_symmetric c.places y.claim.places ∙ share)) apart)
+
+        by : (y : Claimed) → Among y m → is_earlier_write c y.claim ≡ true → share_place y.claim c ≡ true → (least_of y.claim m).stamp ≤ (least_of c m).stamp → (least_of c n).stamp ≤ (least_of c m).stamp
+        by y in_m earlier share not_below =
+            let parts = earlier_of c y.claim earlier in
+            let stays = false_from (takes_seat e y.claim.seat) (λ takes.
+            contrary (is_subset y.claim.places dirty) (all_at (λ z. z.claim.write_half ≡ true → takes_seat e z.claim.seat ≡ true → is_subset z.claim.places dirty ≡ true) m y gone in_m parts.write takes) (clear y share)) in
+            let z = stands y in_m parts.write stays in
+            let below = subst (λ (d : Claim). d.stamp < c.stamp) (sym z.is) parts.below in
+            let under = least_under n rises_on c z.at z.among (ap (is_earlier_write c) z.is ∙ earlier) (ap (λ d. share_place d c) z.is ∙ share) in
+            elim (all_at (λ (y : Claimed). y.claim.stamp < c.stamp → IsNoted dirty m n y) n z.at noted z.among below (ap (λ (d : Claim). d.write_half) z.is ∙ parts.write)) [
+              | inl same ↦ (let e_1 = ap (λ (d : Claim). (least_of d m).stamp) z.is in omega arith)
+              | inr within ↦ contrary (is_subset y.claim.places dirty) (ap (λ (d : Claim). is_subset d.places dirty) (sym z.is) ∙ within) (clear y share)
+            ]
+
+        high : (least_of c n).stamp ≤ (least_of c m).stamp
+        high = elim (least_from m rises c) [
+          | inl itself ↦ (let h = least_below c n rises_on c (inl refl) in let e_1 = ap (λ (d : Claim). d.stamp) itself in omega arith)
+          | inr y ↦ by y.0 y.1 y.2 y.3 y.4
         ]
 
   -- heads that tell of all writes before the event tell of those behind it
@@ -214,13 +259,13 @@ module _ (s : LockState) (e : Event) (reached : IsReached s) (comes : Comes s e)
       holds_y : holds_at (least_of c n) n ≡ is_satisfied y
       holds_y = ap (λ d. holds_at d n) (sym standing.2) ∙ holds_own n on.sound.well_formed.rising y standing.1 y_write
 
-      module _ (lost : ℕ) (is_lost : IsLost lost e m) (other : (least_of c m).seat ≢ lost) where
+      -- a least claim of the same stamp is the same
+      module _ (stamps : (least_of c n).stamp ≡ (least_of c m).stamp) where
         least_is_still : least_of c n ≡ least_of c m
         least_is_still =
             let z = before s e reached comes old x there in
-            subst (λ (d : Claim). least_of d n ≡ least_of d m) (sym z.2.claim)
-            (least_stays lost is_lost (suc z.0.claim.stamp) z.0 z.1 (ap (λ (d : Claim). d.write_half) (sym z.2.claim) ∙ write) (record { at = x; among = there; is = z.2.claim }) (omega arith)
-            (λ h. other (ap (λ (d : Claim). (least_of d m).seat) z.2.claim ∙ h)))
+            let waits : IsWriteThere c m = record { there = record { at = z.0; among = z.1; is = sym z.2.claim }; write = write } in
+            write_by_stamp s reached (least_of c n) (least_of c m) (of_line_there s reached c waits (least_of c n) (line_shrinks s reached e comes c waits (least_of c n) (least_is c n))) (least_there s reached c waits) stamps
 
         y_is : y.claim ≡ least_of c m
         y_is = standing.2 ∙ least_is_still
@@ -257,16 +302,24 @@ module _ (s : LockState) (e : Event) (reached : IsReached s) (comes : Comes s e)
             came_head = record { claim = least_of c m; holds = true }
 
     -- so the head of each write goes on
-    pub goes_by : (lost : ℕ) → IsLost lost e m → (touched : Set) → AllByRecursion (IsTouched lost told touched m) m → (x : Claimed) → Among x n → x.claim.seat < SEATS → GoesBy lost came touched m n x
-    goes_by lost is_lost touched touch x there low = record {
+    pub goes_by : (lost : Head) (gone : Set) → AllByRecursion (IsLost lost gone e m) m → (touched : Set) → AllByRecursion (IsTouched lost.claim.seat told touched m) m → (x : Claimed) → Among x n → x.claim.seat < SEATS → GoesBy lost gone came touched m n x
+    goes_by lost gone is_lost touched touch x there low = record {
       still = λ write off.
-          let other = elsewhere write off in
-          head_stays x there write low lost is_lost other
+          head_stays x there write low (other write (elsewhere write off))
           ∙ ap (λ b. cond b (let g : Head = record { claim = least_of x.claim m; holds = true } in g) (head_of m x.claim))
           (are (least_of x.claim m).seat (least_low x there write low) ∙ ap (λ (d : Claim). tells_write_of told (least_of d m).seat) is ∙ parts.not_told (half write) (ap (λ (d : Claim). contains touched d.seat) (sym is) ∙ off));
       elsewhere = elsewhere;
       seat = λ write. least_low x there write low;
-      head = λ write other. head_stays x there write low lost is_lost other;
+      other = other;
+      apart = λ write dirty within apart noted.
+          subst (λ (d : Claim). (least_of d n).stamp ≡ (least_of d m).stamp) (sym is)
+          (least_apart dirty
+          (all_from (λ y. y.claim.write_half ≡ true → takes_seat e y.claim.seat ≡ true → is_subset y.claim.places dirty ≡ true) m
+          (λ y in_m w takes. within_transitive y.claim.places gone dirty ((all_at (IsLost lost gone e m) m y is_lost in_m).places w takes) within)) z.0 z.1 (half write) (ap (λ (d : Claim). meets d.places dirty) (sym is) ∙ apart)
+          (subst (λ (d : Claim). AllByRecursion (λ y. y.claim.stamp < d.stamp → IsNoted dirty m n y) n) is noted));
+      head = λ write stamps. head_stays x there write low stamps;
+      one = λ write same.
+          ap (head_of m) is ∙ (all_at (IsLost lost gone e m) m z.0 is_lost z.1).one (half write) (ap (λ (d : Claim). (least_of d m).seat) (sym is) ∙ same);
     }
       where
         z : (y : Claimed) × Among y m × IsGrown y x
@@ -275,14 +328,21 @@ module _ (s : LockState) (e : Event) (reached : IsReached s) (comes : Comes s e)
         is : x.claim ≡ z.0.claim
         is = z.2.claim
 
-        parts : IsTouched lost told touched m z.0
-        parts = all_at (IsTouched lost told touched m) m z.0 touch z.1
+        parts : IsTouched lost.claim.seat told touched m z.0
+        parts = all_at (IsTouched lost.claim.seat told touched m) m z.0 touch z.1
 
         half : x.claim.write_half ≡ true → z.0.claim.write_half ≡ true
         half write = ap (λ (d : Claim). d.write_half) (sym is) ∙ write
 
-        elsewhere : x.claim.write_half ≡ true → contains touched x.claim.seat ≡ false → (least_of x.claim m).seat ≢ lost
+        elsewhere : x.claim.write_half ≡ true → contains touched x.claim.seat ≡ false → (least_of x.claim m).seat ≢ lost.claim.seat
         elsewhere write off h = parts.not_lost (half write) (ap (λ (d : Claim). contains touched d.seat) (sym is) ∙ off) (ap (λ (d : Claim). (least_of d m).seat) (sym is) ∙ h)
+
+        other : x.claim.write_half ≡ true → (least_of x.claim m).seat ≢ lost.claim.seat → (least_of x.claim n).stamp ≡ (least_of x.claim m).stamp
+        other write apart =
+            ap (λ (d : Claim). d.stamp)
+            (subst (λ (d : Claim). least_of d n ≡ least_of d m) (sym is)
+            (least_stays lost gone is_lost (suc z.0.claim.stamp) z.0 z.1 (half write) (record { at = x; among = there; is = is }) (omega arith)
+            (λ h. apart (ap (λ (d : Claim). (least_of d m).seat) is ∙ h))))
 
     -- a read that reads nothing of what came to be held is kept waiting as before
     pub read_stays : (written : Set) → HoldWritten written came n → AllByRecursion (λ y. y.claim.seat < SEATS) n → (x : Claimed) → Among x n → ReadStays written m n x
@@ -313,24 +373,3 @@ module _ (s : LockState) (e : Event) (reached : IsReached s) (comes : Comes s e)
         = ap (λ (d : Claim). meets x.claim.reads d.writes) (sym is)
         ∙ read_meets x.claim k.0.claim none (third_of_three k.0.claim.write_half (is_active k.0) (conflicts k.0.claim x.claim) k.3) in
         contrary (meets x.claim.reads written) (meets_within_right x.claim.reads y.0.claim.writes written within met) apart)
-
--- ---- the seat that is lost
-
--- none is where the seat has no write
-pub lost_none : (seat lost : ℕ) (m : Moment) → has_write seat m ≡ false → IsLost lost (Finish seat) m
-lost_none seat lost m none =
-    all_from (λ x. x.claim.write_half ≡ true → takes_seat (Finish seat) x.claim.seat ≡ true → (least_of x.claim m).seat ≡ lost) m
-    (λ x there write takes.
-    contrary (has_write seat m)
-    (any_among (λ y. (y.claim.seat == seat) && y.claim.write_half) m x there (and_from (x.claim.seat == seat) x.claim.write_half (eq-eqb x.claim.seat seat (sym (eqb-true seat x.claim.seat takes))) write)) none)
-
--- nor where the event is no finish
-pub lost_other : (lost : ℕ) (e : Event) (m : Moment) → ((seat : ℕ) → e ≡ Finish seat → ⊥) → IsLost lost e m
-lost_other lost e m other =
-    all_from (λ x. x.claim.write_half ≡ true → takes_seat e x.claim.seat ≡ true → (least_of x.claim m).seat ≡ lost) m (λ x there write takes. absurd (at e other x.claim.seat takes))
-  where
-    at : (e : Event) → ((seat : ℕ) → e ≡ Finish seat → ⊥) → (seat : ℕ) → takes_seat e seat ≡ true → ⊥
-    at (Issue t r) other seat takes = contrary true refl (sym takes)
-    at (Finish t) other seat takes = other t refl
-    at (event.Rise t) other seat takes = contrary true refl (sym takes)
-    at (event.Ask t part) other seat takes = contrary true refl (sym takes)

@@ -1,6 +1,7 @@
 -- What is found of a line from its end is its least claim.
 use Rattle.std.proofs.Common.{◌≡◌, ℕ, ◌<◌, ◌≤◌, nat_lt, Bool, true, false, not, ◌&&◌, cond, [], ◌∷◌, ◌++◌, refl, sym, ap, subst, ◌∙◌, ◌⊎◌, inl, inr, arith}
 use Rattle.std.proofs.lemmas.Bool.{and_parts, ltb-true, ltb-false}
+use Rattle.std.specs.List.{AllByRecursion}
 use Rattle.std.specs.FinSet.{contains, difference, empty}
 use Rattle.rset.specs.Sets.{Set, meets}
 use Rattle.rset.proofs.SetMembers.{contains_difference}
@@ -157,6 +158,10 @@ module _ (xs ys : Moment) (x : Claimed) (rising : EachPair Rises (xs ++ x ∷ ys
     | inr (inr behind) ↦ (let not_above = (all_at (Rises x) ys z (pairs_after Rises xs x ys rising) behind).not_above in absurd (omega arith))
   ]
 
+  -- what is so of those in front is so of all earlier ones
+  pub earlier_all : (P : Claimed → Type 0) → AllByRecursion P xs → AllByRecursion (λ y. y.claim.stamp < c.stamp → P y) m
+  earlier_all P all = all_from (λ y. y.claim.stamp < c.stamp → P y) m (λ y there below. all_at P xs y all (in_front y there below))
+
   module _ (f : Found) (is : IsFound m c xs f) where
     low : f.stamp ≤ (least_of c m).stamp
     low = elim (least_from m rising c) [
@@ -165,6 +170,19 @@ module _ (xs ys : Moment) (x : Claimed) (rising : EachPair Rises (xs ++ x ∷ ys
           let parts = earlier_of c y.0.claim y.2 in
           let h = all_at (λ z. IsBeside c z.claim → f.stamp ≤ (least_of z.claim m).stamp) xs y.0 is.least (in_front y.0 y.1 parts.below) (record { write = parts.write; share = y.3 }) in
           let up = y.4 in omega arith)
+    ]
+
+    -- the stamp that is found is that of the least
+    pub stamp_found : f.stamp ≡ (least_of c m).stamp
+    stamp_found = elim is.is_least [
+      | inl itself ↦ (let h = least_below c m rising c (inl refl) in let l = low in let e = itself.stamp in omega arith)
+      | inr y ↦ (
+          let in_y = in_append xs (x ∷ ys) y.at y.among in
+          let below = all_at (λ z. z.claim.write_half ≡ true → z.claim.stamp < c.stamp) xs y.at are_before.earlier y.among y.beside.write in
+          let h = least_under m rising c y.at in_y (earlier_from c y.at.claim (record { write = y.beside.write; below = below })) y.beside.share in
+          let l = low in
+          let e = y.stamp in
+          omega arith)
     ]
 
     -- the seat that is found is that of the least

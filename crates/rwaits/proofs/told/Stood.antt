@@ -132,12 +132,16 @@ module _ (s : LockState) (e : Event) (reached : IsReached s) (comes : Comes s e)
       (λ r. contrary ((x.claim.seat == t) && not x.claim.write_half) (and_from (x.claim.seat == t) (not x.claim.write_half) (eq-eqb x.claim.seat t (sym (eqb-true t x.claim.seat on))) (ap not r)) kept)
   left_write (event.Ask t part) x there on = contrary false on refl
 
-  -- and it is the write half of the upgrade
-  left_half : (x : Claimed) → Among x n → rises_at e x.claim.seat ≡ true → is_rising_half x.claim ≡ true
-  left_half x there rises =
+  pub left_is_write : (x : Claimed) → Among x n → rises_at e x.claim.seat ≡ true → x.claim.write_half ≡ true
+  left_is_write x there rises =
       let from = came s e reached comes x there in
       let same : x.claim ≡ from.0.claim = from.1.given.claim ∙ from.1.by_rule.same in
-      let write : x.claim.write_half ≡ true = ap (λ d. d.write_half) same ∙ left_write e from.0 from.1.in_changed (ap (λ d. rises_at e d.seat) (sym same) ∙ rises) in
+      ap (λ d. d.write_half) same ∙ left_write e from.0 from.1.in_changed (ap (λ d. rises_at e d.seat) (sym same) ∙ rises)
+
+  -- and it is the write half of the upgrade
+  pub left_half : (x : Claimed) → Among x n → rises_at e x.claim.seat ≡ true → is_rising_half x.claim ≡ true
+  left_half x there rises =
+      let write = left_is_write x there rises in
       let was = before x there in
       let half = passing (λ z. (z.claim.seat == x.claim.seat) && is_read_half z.claim) m (half_there e comes x.claim.seat rises) in
       let parts = and_parts (half.0.claim.seat == x.claim.seat) (is_read_half half.0.claim) half.2 in

@@ -1,5 +1,5 @@
 -- Tables of what is kept for each seat, claim by claim.
-use Rattle.std.proofs.Common.{◌≡◌, ◌≢◌, ℕ, ◌==◌, true, false, ◌||◌, cond, List, [], ◌∷◌, ◌++◌, refl, sym, ap, ◌∙◌}
+use Rattle.std.proofs.Common.{◌≡◌, ◌≢◌, ℕ, ◌==◌, true, false, cond, List, [], ◌∷◌, ◌++◌, refl, sym, ap, ◌∙◌}
 use Rattle.std.proofs.lemmas.Bool.{eqb-true, eq-eqb}
 use Rattle.std.specs.List.{AllByRecursion}
 use Rattle.rmodel.specs.declared.claimed.Claimed.{Claimed}
@@ -9,18 +9,32 @@ use Rattle.rmodel.proofs.settling.OneSettlement.{both_cases}
 use Rattle.rwaits.specs.Follow.{may_wait, WaitApart, kept_of, with_entry, kept_with}
 use Rattle.rcover.specs.Moments.{Moment}
 use Rattle.rcover.specs.Sections.{Sections}
-use Rattle.rcover.specs.Told.{waits_first, waits_to_rise}
-use Rattle.rwaits.specs.Tracked.{kept_by}
 use Rattle.rwaits.proofs.lists.Kept.{pairs_before, pairs_after}
 
 module _ (m n : Moment) (table : ℕ → Sections) (x : Claimed) where
-  pub first_kept : waits_first n x ≡ true → (seat : ℕ) → with_entry table x.claim.seat (kept_by waits_first x.claim (table x.claim.seat) m n) seat ≡ kept_with m n table x seat
-  first_kept first seat =
-      sym (λ i. (cond (first i || waits_to_rise n x) (with_entry table x.claim.seat (cond (first i) (kept_by waits_first x.claim (table x.claim.seat) m n) (kept_by waits_to_rise x.claim (table x.claim.seat) m n))) table) seat)
+  abbrev made_of : Sections
+  made_of = kept_of m n (table x.claim.seat) x
 
-  pub none_kept : waits_first n x ≡ false → waits_to_rise n x ≡ false → (seat : ℕ) → table seat ≡ kept_with m n table x seat
-  none_kept first rise seat =
-      sym (λ i. (cond (first i || rise i) (with_entry table x.claim.seat (kept_of m n (table x.claim.seat) x)) table) seat)
+  -- nothing is kept of a claim that does not wait
+  pub none_kept : may_wait n x ≡ false → (seat : ℕ) → table seat ≡ kept_with m n table x seat
+  none_kept off seat = sym (ap (λ b. (cond b (with_entry table x.claim.seat made_of) table) seat) off)
+
+  -- of one that waits, what is due
+  pub some_kept : may_wait n x ≡ true → (a : Sections) → made_of ≡ a → (seat : ℕ) → with_entry table x.claim.seat a seat ≡ kept_with m n table x seat
+  some_kept on a is seat = sym (ap (λ b. (cond b (with_entry table x.claim.seat made_of) table) seat) on ∙ ap (λ s. with_entry table x.claim.seat s seat) is)
+
+  entry_same : (seat : ℕ) → table seat ≡ with_entry table x.claim.seat (table x.claim.seat) seat
+  entry_same seat =
+      both_cases (seat == x.claim.seat)
+      (λ own. sym (ap (λ b. cond b (table x.claim.seat) (table seat)) own ∙ ap table (sym (eqb-true seat x.claim.seat own))))
+      (λ other. sym (ap (λ b. cond b (table x.claim.seat) (table seat)) other))
+
+  -- where what is kept stays, the table does
+  pub same_kept : (may_wait n x ≡ true → made_of ≡ table x.claim.seat) → (seat : ℕ) → table seat ≡ kept_with m n table x seat
+  same_kept same seat =
+      both_cases (may_wait n x)
+      (λ on. entry_same seat ∙ some_kept on (table x.claim.seat) (same on) seat)
+      (λ off. none_kept off seat)
 
 -- claims that wait have what is due
 abbrev pub Done : Moment → Moment → (ℕ → Sections) → (ℕ → Sections) → List Claimed → Type 0

@@ -39,8 +39,8 @@ use Rattle.rcover.proofs.told.Few.{waits_told}
 use Rattle.rwaits.specs.Follow.{may_wait, kept_of, with_entry}
 use Rattle.rwaits.specs.Past.{is_issue, rises_at}
 use Rattle.rwaits.specs.Tracked.{gone_on, no_sections, told, told_if}
-use Rattle.rwaits.specs.Waiting.{some_wait, HoldWaiting, with_seat, HoldRising, with_risen, risen_by, first_of, ends_none}
-use Rattle.rwaits.proofs.told.Quiet.{begun_kept, begun_told, old_rises, old_waits, there_before}
+use Rattle.rwaits.specs.Waiting.{some_wait, HoldWaiting, with_seat, first_of, ends_none}
+use Rattle.rwaits.proofs.told.Quiet.{begun_kept, begun_told, old_waits, there_before}
 use Rattle.rwaits.proofs.told.Stood.{before, first_was, rise_was}
 
 or_left : (a b : Bool) → a ≡ true → (a || b) ≡ true
@@ -70,12 +70,6 @@ module _ (n : Moment) (x : Claimed) (seats : Set) where
   not_by : (test : Bool) → (test ≡ true → contains seats x.claim.seat ≡ true) → contains seats x.claim.seat ≡ false → test ≡ false
   not_by test is off = false_from test (λ on. contrary (contains seats x.claim.seat) (is on) off)
 
-  pub not_first : (some_wait n x ≡ true → contains seats x.claim.seat ≡ true) → contains seats x.claim.seat ≡ false → waits_first n x ≡ false
-  not_first is off = not_by (waits_first n x) (λ on. is (first_is n x on)) off
-
-  pub not_rise : (some_wait n x ≡ true → contains seats x.claim.seat ≡ true) → contains seats x.claim.seat ≡ false → waits_to_rise n x ≡ false
-  not_rise is off = not_by (waits_to_rise n x) (λ on. is (rise_is n x on)) off
-
   pub not_risen : (waits_to_rise n x ≡ true → contains seats x.claim.seat ≡ true) → contains seats x.claim.seat ≡ false → waits_to_rise n x ≡ false
   not_risen is off = not_by (waits_to_rise n x) is off
 
@@ -101,12 +95,8 @@ module _ (test : Moment → Claimed → Bool) (seats : Set) (n : Moment) (seat :
       at true l held other = contains_insert seats seat l ∙ or_right (l == seat) (contains seats l) held
       at false l held other = contains_remove seats seat l ∙ (λ i. not (other i) && held i)
 
-noted_seat : (seats : Set) (n : Moment) (seat : ℕ) → ((x : Claimed) → Among x n → x.claim.seat ≢ seat → some_wait n x ≡ true → contains seats x.claim.seat ≡ true) → HoldWaiting (with_seat seats n seat) n
+pub noted_seat : (seats : Set) (n : Moment) (seat : ℕ) → ((x : Claimed) → Among x n → x.claim.seat ≢ seat → some_wait n x ≡ true → contains seats x.claim.seat ≡ true) → HoldWaiting (with_seat seats n seat) n
 noted_seat seats n seat others = noted_by some_wait seats n seat others
-
--- and so it is where all are held
-pub noted_still : (seats : Set) (n : Moment) (seat : ℕ) → HoldWaiting seats n → HoldWaiting (with_seat seats n seat) n
-noted_still seats n seat hold = noted_seat seats n seat (λ x there other waits. all_at (λ y. some_wait n y ≡ true → contains seats y.claim.seat ≡ true) n x hold there waits)
 
 -- ---- behind an event
 
@@ -118,7 +108,7 @@ module _ (s : LockState) (e : Event) (reached : IsReached s) (comes : Comes s e)
   n = (next s e).claims
 
   -- a claim of another seat was there, and what it asks for it asked for
-  in_changed : (e : Event) → Comes s e → (c : Claimed) → Among c (changed s e).claims → c.claim.seat ≢ seat_of e → Among c m
+  pub in_changed : (e : Event) → Comes s e → (c : Claimed) → Among c (changed s e).claims → c.claim.seat ≢ seat_of e → Among c m
   in_changed (Issue seat r) comes c there other =
       let ns = map (waiting r.first) (claims_of s.groups.groups s.issued seat r) in
       elim (among_append m ns c there) [
@@ -137,25 +127,26 @@ module _ (s : LockState) (e : Event) (reached : IsReached s) (comes : Comes s e)
       kept true w = refl
       kept false w = refl
 
-  asked_before : (x : Claimed) → Among x n → x.claim.seat ≢ seat_of e → nat_lt 0 (len x.asked) ≡ true → (y : Claimed) × Among y m × (y.claim ≡ x.claim) × (nat_lt 0 (len y.asked) ≡ true)
+  -- a claim that asks for something did so once the event had changed it, and was granted as much
+  pub asked_from : (x : Claimed) → Among x n → nat_lt 0 (len x.asked) ≡ true → (y : Claimed) × Among y (changed s e).claims × (y.claim ≡ x.claim) × (y.granted ≡ x.granted) × (y.asked ≡ x.asked)
   unfolding given
-  asked_before x there other asks =
+  asked_from x there asks =
       let S = settled (changed s e).claims in
       let w = among_map (with_asked S) S x there in
       let is : x ≡ w.0 = w.2 ∙ still (gets_asked S w.0) w.0 (ap (λ (z : Claimed). nat_lt 0 (len z.asked)) (sym w.2) ∙ asks) in
       let from = zip_source (SettlesAt (changed s e).claims S) (changed s e).claims S w.0 (settles_settled (changed s e).claims (sound_changed s e reached.sound comes).well_formed) w.1 in
-      let claim : from.0.claim ≡ x.claim = sym (ap (λ (z : Claimed). z.claim) is ∙ from.2.same) in (
-        from.0,
-        in_changed e comes from.0 from.1 (λ same. other (ap (λ (d : Claim). d.seat) (sym claim) ∙ same)),
-        claim,
-        ap (λ (a : Set). nat_lt 0 (len a)) (sym (ap (λ (z : Claimed). z.asked) is ∙ from.2.asked)) ∙ asks,
-      )
+      (from.0, from.1, sym (ap (λ (z : Claimed). z.claim) is ∙ from.2.same), sym (ap (λ (z : Claimed). z.granted) is ∙ from.2.granted), sym (ap (λ (z : Claimed). z.asked) is ∙ from.2.asked))
     where
       still : (b : Bool) (w : Claimed) → nat_lt 0 (len (cond b (record w { asked = empty; granted = union w.granted w.asked }) w).asked) ≡ true → cond b (record w { asked = empty; granted = union w.granted w.asked }) w ≡ w
       still true w asks = contrary (nat_lt 0 (len (empty {R = nat_cmp}))) asks (ap (nat_lt 0) (len-empty nat_cmp))
       still false w asks = refl
 
-  rises_not : (e : Event) (seat : ℕ) → seat ≢ seat_of e → rises_at e seat ≡ false
+  asked_before : (x : Claimed) → Among x n → x.claim.seat ≢ seat_of e → nat_lt 0 (len x.asked) ≡ true → (y : Claimed) × Among y m × (y.claim ≡ x.claim) × (nat_lt 0 (len y.asked) ≡ true)
+  asked_before x there other asks =
+      let from = asked_from x there asks in
+      (from.0, in_changed e comes from.0 from.1 (λ same. other (ap (λ (d : Claim). d.seat) (sym from.2) ∙ same)), from.2, ap (λ (a : Set). nat_lt 0 (len a)) from.4 ∙ asks)
+
+  pub rises_not : (e : Event) (seat : ℕ) → seat ≢ seat_of e → rises_at e seat ≡ false
   rises_not (Issue t r) seat other = refl
   rises_not (Finish t) seat other = refl
   rises_not (event.Rise t) seat other = false_from (t == seat) (λ same. absurd (other (sym (eqb-true t seat same))))
@@ -186,42 +177,6 @@ module _ (s : LockState) (e : Event) (reached : IsReached s) (comes : Comes s e)
 
   pub waiting_next : (seats : Set) → HoldWaiting seats m → HoldWaiting (with_seat seats n (seat_of e)) n
   waiting_next seats hold = noted_seat seats n (seat_of e) (waited_before seats hold)
-
-  -- the seats of the upgrades that wait to rise did so before
-  risen_before : (seats : Set) → HoldRising seats m → (x : Claimed) → Among x n → rises_at e x.claim.seat ≡ false → (is_issue e ≡ true → x.claim.seat ≢ seat_of e) → waits_to_rise n x ≡ true → contains seats x.claim.seat ≡ true
-  risen_before seats hold x there not_it other on =
-      both_cases (is_issue e)
-      (λ issue.
-      let old = old_rises s e reached comes issue x there (other issue) in
-      all_at (λ y. waits_to_rise m y ≡ true → contains seats y.claim.seat ≡ true) m x hold old.0 (sym old.1 ∙ on))
-      (λ plain.
-      let was = before s e reached comes plain x there in
-      ap (λ (d : Claim). contains seats d.seat) was.2.claim
-      ∙ all_at (λ y. waits_to_rise m y ≡ true → contains seats y.claim.seat ≡ true) m was.0 hold was.1 (rise_was s e reached comes plain x there on not_it))
-
-  -- behind any event, once the seat of the event is looked at
-  pub rising_next : (seats : Set) → HoldRising seats m → HoldRising (with_risen seats n (seat_of e)) n
-  rising_next seats hold = noted_by waits_to_rise seats n (seat_of e) (λ x there other on. risen_before seats hold x there (rises_not e x.claim.seat other) (λ issue. other) on)
-
-  -- behind an event that is no issue, nothing need be looked at
-  pub rising_on : (seats : Set) → HoldRising seats m → is_issue e ≡ false → HoldRising (risen_by seats e) n
-  rising_on seats hold plain =
-      all_from (λ x. waits_to_rise n x ≡ true → contains (risen_by seats e) x.claim.seat ≡ true) n
-      (λ x there on. both_cases (rises_at e x.claim.seat)
-      (λ rises. in_it e x.claim.seat rises)
-      (λ not_it. held_on e x.claim.seat (risen_before seats hold x there not_it (λ issue. contrary (is_issue e) issue plain) on)))
-    where
-      in_it : (e : Event) (l : ℕ) → rises_at e l ≡ true → contains (risen_by seats e) l ≡ true
-      in_it (Issue t r) l on = contrary false on refl
-      in_it (Finish t) l on = contrary false on refl
-      in_it (event.Rise t) l on = contains_insert seats t l ∙ or_left (l == t) (contains seats l) (eq-eqb l t (sym (eqb-true t l on)))
-      in_it (event.Ask t part) l on = contrary false on refl
-
-      held_on : (e : Event) (l : ℕ) → contains seats l ≡ true → contains (risen_by seats e) l ≡ true
-      held_on (Issue t r) l held = held
-      held_on (Finish t) l held = held
-      held_on (event.Rise t) l held = contains_insert seats t l ∙ or_right (l == t) (contains seats l) held
-      held_on (event.Ask t part) l held = held
 
   -- ---- where no seat waits
 
@@ -303,7 +258,7 @@ pub rest_is : (xs : Moment) (i : ℕ) → take (length xs - i) (drop i xs) ≡ d
 rest_is xs i = let long = length-drop i xs in take_all (length xs - i) (drop i xs) (omega arith)
 
 -- a finish leaves no claim of its seat
-none_left : (s : LockState) (seat : ℕ) → IsReached s → Comes s (Finish seat) → list_any (λ x. x.claim.seat == seat) (next s (Finish seat)).claims ≡ false
+pub none_left : (s : LockState) (seat : ℕ) → IsReached s → Comes s (Finish seat) → list_any (λ x. x.claim.seat == seat) (next s (Finish seat)).claims ≡ false
 none_left s seat reached comes =
     none_from (λ x. x.claim.seat == seat) (next s (Finish seat)).claims
     (λ x there. false_from (x.claim.seat == seat) (λ on.

@@ -1,4 +1,4 @@
-use Rattle.std.proofs.Common.{List, sym, subst, ◌∙◌}
+use Rattle.std.proofs.Common.{List, sym, ap, subst, ◌∙◌}
 use Rattle.rwaits.specs.declared.section.Section.{Section}
 use Rattle.rwaits.specs.Follow.{HaveLengths}
 use Rattle.rwaits.proofs.show.show_read.Goals as goal
@@ -9,5 +9,5 @@ returns-then-not-holds_at-clause-lengths c = λ len are own have. c.show_found.e
 pub returns-clause-lengths : goal.returns-clause-lengths
 returns-clause-lengths c = λ len are own have. record {
   reads = subst (λ (ss : List Section). HaveLengths len ss) (sym (c.copy_sections.ensures.items ∙ c.deref.ensures.value)) have.reads;
-  writes = c.push_section.ensures.lengths len own (subst (λ (ss : List Section). HaveLengths len ss) (sym c.clear.ensures.items) tt);
+  writes = c.push_section.ensures.lengths len (ap (λ (s : Section). s.len) c.section_of.ensures ∙ own ∙ sym (ap (λ (s : Section). len s.claim) c.section_of.ensures)) (subst (λ (ss : List Section). HaveLengths len ss) (sym c.clear.ensures.items) tt);
 }

@@ -6,6 +6,7 @@ use Rattle.rcover.specs.Ended.{wait_of}
 use Rattle.rcover.specs.History.{asks_since, length_in}
 use Rattle.rwaits.specs.Follow.{table_of, length_by, HasRoom, AreLong, AreOf}
 use Rattle.rwaits.specs.Tracked.{told_if}
+use Rattle.rwaits.proofs.told.Looked.{RestGoesOn}
 use Rattle.rwaits.proofs.tell.tell.Given as goal
 
 abbrev pub invariant-loop-x : goal.invariant-loop-x
@@ -15,4 +16,5 @@ invariant-loop-x l = record {
   room : HasRoom l.scratch;
   told : (es : List Event) → AllByRecursion (λ x. slice_index l.asks x.claim.seat ≡ asks_since x.claim.seat es) l.last → AreOf (length_by l.lengths) (length_in es) l.last → AllByRecursion (AreLong (length_in es)) l.runs
       → l.ended.items ≡ filter_map (λ x. told_if (length_in es) l.last l.next (table_of l.runs) x (wait_of es l.last x)) (take l.x-index l.last);
+  rest : RestGoesOn l.last l.next l.x-index l.left;
 }

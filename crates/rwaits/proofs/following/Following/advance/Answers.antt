@@ -1,36 +1,40 @@
 use Rattle.std.proofs.Common.{◌≡◌, ℕ, ◌<◌, ◌≤◌, ◌==◌, true, false, List, ◌∷◌, ◌++◌, length, take, sym, ap, subst, ◌∙◌, arith}
 use Rattle.std.specs.List.{list_any, AllByRecursion}
-use Rattle.std.specs.Prelude.{slice_index}
 use Rattle.rset.specs.declared.TheConstants.{SEATS}
 use Rattle.rclaim.specs.Events.{seat_of}
 use Rattle.rmodel.specs.State.{LockState}
 use Rattle.rmodel.specs.Steps.{next}
-use Rattle.rmodel.specs.WellFormed.{EachPair, Rises}
+use Rattle.rmodel.specs.WellFormed.{Distinct, EachPair, Rises}
 use Rattle.rbound.specs.declared.which.Which.{Which}
 use Rattle.rcover.specs.Ended.{waits_in}
-use Rattle.rcover.specs.History.{asks_since, length_in}
+use Rattle.rcover.specs.History.{length_in}
 use Rattle.rcover.specs.Lists.{AreAtMost}
 use Rattle.rcover.specs.Moments.{Moment}
 use Rattle.std.specs.Vec.{with_items}
+use Rattle.std.specs.declared.vec.Vec.{Vec}
+use Rattle.std.specs.declared.alloc.Global.{Global}
 use Rattle.rwaits.specs.declared.following.Following.{Following}
 use Rattle.rwaits.specs.declared.run.Run.{Run}
 use Rattle.rwaits.specs.Follow.{table_of, length_by, HasRoom, AreLong, AreOf, may_wait, WaitApart, kept_of}
 use Rattle.rwaits.specs.declared.lines.Head.{Head}
 use Rattle.rclaim.specs.declared.changes.StatusChange.{StatusChange}
 use Rattle.rwaits.proofs.told.Turns.{touched_all}
-use Rattle.rwaits.specs.Lines.{HoldBehind, IsTouched, HeadsTell, IsLost, HoldWritten, TellHeads}
+use Rattle.rwaits.specs.Lines.{HoldBehind, IsTouched, IsLost, HoldWritten, TellHeads, HeadsTell}
 use Rattle.rclaim.specs.Changes.{ChangeLists}
 use Rattle.rclaim.specs.declared.changes.GrantChange.{GrantChange}
 use Rattle.rmodel.specs.Changes.{changes_between}
 use Rattle.rwaits.specs.Past.{state_of, StoodBy}
-use Rattle.rwaits.specs.Quiet.{GoesOn}
-use Rattle.rwaits.specs.Tracked.{shown, told}
-use Rattle.rwaits.proofs.told.Knowing.{reached, claims_few, seats_now, shown_few, asks_now, lengths_now, long_now, event_seat, seats_next, apart_next, few_next, lengths_stay_on, lengths_come, refilled, is_moment_now, is_moment_next, known, rising_now, seats_both, rising_next, behind_turn, heads_turn, reads_next, stood_next, quiet_now}
+use Rattle.rwaits.specs.Quiet.{GoesOn, OneWaits}
+use Rattle.rwaits.proofs.told.Looked.{one_waits}
+use Rattle.rwaits.specs.Tracked.{shown}
+use Rattle.rwaits.proofs.told.Knowing.{reached, claims_few, seats_now, shown_few, event_seat, seats_next, apart_next, few_next, lengths_stay_on, lengths_come, refilled, is_moment_now, is_moment_next, known, rising_now, seats_next_at, rising_next, behind_turn, heads_turn, reads_next, stood_next, quiet_now, ends_next, waits_next}
 use Rattle.rwaits.proofs.told.Noted.{asks_at_most}
 use Rattle.rset.specs.Sets.{Set}
 use Rattle.rwaits.specs.Heads.{IsMoment, TellsNow}
-use Rattle.rwaits.specs.Waiting.{HoldRising, HoldWaiting, with_seat, first_of}
-use Rattle.rwaits.proofs.told.Waiting.{none_before, plain_of, rising_on, waiting_next}
+use Rattle.rwaits.specs.Waiting.{HoldAsking, HoldWaiting, TellRising, first_of}
+use Rattle.rwaits.proofs.told.Asking.{asking_next}
+use Rattle.rwaits.proofs.told.Rising.{risen_next}
+use Rattle.rwaits.proofs.told.Waiting.{none_before, plain_of}
 use Rattle.rwaits.proofs.following.Following.advance.Goals as goal
 
 pub tell-requires-clause-seats : goal.tell-requires-clause-seats
@@ -88,50 +92,56 @@ pub turn-requires-clause-moment : goal.turn-requires-clause-moment
 turn-requires-clause-moment c =
     let p = c.requires.ahead.0 in
     let k = c.requires.ahead.1.follows in
-    subst IsMoment (sym (c.claims-5.ensures ∙ ap (λ (s : LockState). s.claims) c.requires.ahead.1.state)) (is_moment_next c.args.self.now p k c.args.event.now c.requires.ahead.1.comes)
+    subst IsMoment (sym (c.claims-4.ensures ∙ ap (λ (s : LockState). s.claims) c.requires.ahead.1.state)) (is_moment_next c.args.self.now p k c.args.event.now c.requires.ahead.1.comes)
 
 pub turn-requires-clause-room : goal.turn-requires-clause-room
-turn-requires-clause-room c = c.tell_now.ensures.room
+turn-requires-clause-room c = record {
+  now = ap (λ (v : Vec Head Global). length v.items) c.lose-gone.ensures.now ∙ c.tell_now.ensures.room.now;
+  behind = ap (λ (v : Vec Set Global). length v.items) c.lose-gone.ensures.behind ∙ c.tell_now.ensures.room.behind;
+}
+
+pub keep-requires-clause-event : goal.keep-requires-clause-event
+keep-requires-clause-event c = event_seat c.args.self.now c.requires.ahead.0 c.requires.ahead.1.follows c.args.event.now c.requires.ahead.1.comes
 
 pub keep-requires-clause-head : goal.keep-requires-clause-head
 keep-requires-clause-head c =
     let p = c.requires.ahead.0 in
     let k = c.requires.ahead.1.follows in
     let e = c.args.event.now in
-    let at_n = c.claims-7.ensures ∙ ap (λ (s : LockState). s.claims) c.requires.ahead.1.state in
-    subst (λ (n : Moment). AllByRecursion (λ x. (x.claim.seat < length c.deref-11.result.now) × (x.claim.seat < length c.deref-12.result.now)) n) (sym at_n)
-    (seats_both c.args.self.now p k e c.requires.ahead.1.comes (length c.deref-11.result.now) (length c.deref-12.result.now)
-    (ap (λ (l : List Head). length l) c.deref-11.ensures.value ∙ c.turn.ensures.room.last)
-    (ap (λ (l : List Head). length l) c.deref-12.ensures.value ∙ c.turn.ensures.room.now))
+    let at_n = c.claims-6.ensures ∙ ap (λ (s : LockState). s.claims) c.requires.ahead.1.state in
+    subst (λ (n : Moment). AllByRecursion (λ x. x.claim.seat < length c.deref-11.result.now) n) (sym at_n)
+    (seats_next_at c.args.self.now p k e c.requires.ahead.1.comes (length c.deref-11.result.now) (ap (λ (l : List Head). length l) c.deref-11.ensures.value ∙ c.turn.ensures.room.now))
 
 pub keep-requires-clause-heads : goal.keep-requires-clause-heads
 keep-requires-clause-heads c =
+    let a = c.args.self.now in
     let p = c.requires.ahead.0 in
     let g = c.requires.ahead.1 in
     let k = g.follows in
     let e = c.args.event.now in
     let m = (state_of p).claims in
-    let state = ap (λ (s : LockState). s.claims) g.state in
-    let at_n = c.claims-7.ensures ∙ state in
+    let lost = c.lose-gone.new.self.lost in
     let statuses = c.deref-7.ensures.value ∙ ap (λ (l : ChangeLists). l.statuses) (c.behind-machine-2.view_is ∙ c.changes-2.ensures ∙ g.changes) in
     let statuses_2 = c.deref-10.ensures.value ∙ ap (λ (l : ChangeLists). l.statuses) (c.behind-machine-3.view_is ∙ c.changes-3.ensures ∙ g.changes) in
-    let touch : AllByRecursion (IsTouched c.lost-lost.result c.deref-7.result.now c.touched_by-touched.result c.deref.result.now) c.deref.result.now
-    = subst (λ (cs : List StatusChange). AllByRecursion (IsTouched c.lost-lost.result cs c.touched_by-touched.result c.deref.result.now) c.deref.result.now) (statuses_2 ∙ sym statuses)
-    (touched_all c.deref-9.result.now c.lost-lost.result c.deref-10.result.now c.touched_by-touched.result c.touched_by-touched.ensures.lost c.touched_by-touched.ensures.told c.deref.result.now c.deref.result.now
-    (subst (λ (ss : List Set). HoldBehind ss c.deref.result.now c.deref.result.now) (sym c.deref-9.ensures.value) c.tell_now.ensures.told.behind)) in
+    let touch : AllByRecursion (IsTouched lost.claim.seat c.deref-7.result.now c.touched_by-touched.result c.deref.result.now) c.deref.result.now
+    = subst (λ (cs : List StatusChange). AllByRecursion (IsTouched lost.claim.seat cs c.touched_by-touched.result c.deref.result.now) c.deref.result.now) (statuses_2 ∙ sym statuses)
+    (touched_all c.deref-9.result.now lost.claim.seat c.deref-10.result.now c.touched_by-touched.result c.touched_by-touched.ensures.lost c.touched_by-touched.ensures.told c.deref.result.now c.deref.result.now
+    (subst (λ (ss : List Set). HoldBehind ss c.deref.result.now c.deref.result.now) (sym (c.deref-9.ensures.value ∙ ap (λ (v : Vec Set Global). v.items) c.lose-gone.ensures.behind)) c.tell_now.ensures.told.behind)) in
     let both =
-    heads_turn c.args.self.now p k e g.comes (plain_of c.args.self.now.waiting e c.requires.other) c.tell_now.new.self.now.items c.lost-lost.result c.seats_told-came.result c.touched_by-touched.result c.deref.result.now c.claims-5.result.now c.deref-7.result.now
-    (c.deref.ensures.value ∙ g.noted c.requires.other) (c.claims-5.ensures ∙ state) (subst (IsLost c.lost-lost.result e) (c.deref-8.ensures.value ∙ sym c.deref.ensures.value) c.lost-lost.ensures) statuses c.seats_told-came.ensures touch c.tell_now.ensures.told.heads in
+    heads_turn a p k e g.comes (plain_of a.waiting e c.requires.other) c.lose-gone.new.self.now.items lost c.lose-gone.result c.seats_told-came.result c.touched_by-touched.result c.deref.result.now c.claims-4.result.now c.deref-7.result.now
+    (c.deref.ensures.value ∙ g.noted c.requires.other) (c.claims-4.ensures ∙ ap (λ (t : LockState). t.claims) g.state)
+    (subst (λ (z : Moment). AllByRecursion (IsLost lost c.lose-gone.result e z) z) (c.deref-8.ensures.value ∙ sym c.deref.ensures.value) c.lose-gone.ensures.lost) statuses c.seats_told-came.ensures touch
+    (subst (λ (v : Vec Head Global). TellHeads v.items c.deref.result.now) (sym c.lose-gone.ensures.now) c.tell_now.ensures.told.heads) in
     let tell = c.turn.ensures.tell m both.0 both.1 in
-    subst (λ (z : List Head × List Head × Moment × Moment). AllByRecursion (HeadsTell z.0 z.1 c.turn.new.self.changed z.2 z.3) z.3)
-    (λ i. (sym c.deref-12.ensures.value i, sym c.deref-11.ensures.value i, sym (c.deref-13.ensures.value ∙ g.noted c.requires.other) i, (c.claims-5.ensures ∙ sym c.claims-7.ensures) i)) tell
+    subst (λ (z : List Head × Moment × Moment). AllByRecursion (HeadsTell z.0 c.turn.new.self.lost c.turn.new.self.moved c.turn.new.self.risen z.1 z.2) z.2)
+    (λ i. (sym c.deref-11.ensures.value i, sym (c.deref-12.ensures.value ∙ g.noted c.requires.other) i, (c.claims-4.ensures ∙ sym c.claims-6.ensures) i)) tell
 
 pub keep-requires-clause-seats : goal.keep-requires-clause-seats
 keep-requires-clause-seats c =
     let p = c.requires.ahead.0 in
     let k = c.requires.ahead.1.follows in
     let e = c.args.event.now in
-    let at_n = c.claims-7.ensures ∙ ap (λ (s : LockState). s.claims) c.requires.ahead.1.state in
+    let at_n = c.claims-6.ensures ∙ ap (λ (s : LockState). s.claims) c.requires.ahead.1.state in
     subst (λ (z : List Run × Moment). AllByRecursion (λ x. x.claim.seat < length z.0) z.1) (λ i. (sym c.deref_mut.ensures.value i, sym at_n i)) (seats_next c.args.self.now p k e c.requires.ahead.1.comes)
 
 pub keep-requires-clause-apart : goal.keep-requires-clause-apart
@@ -139,7 +149,7 @@ keep-requires-clause-apart c =
     let p = c.requires.ahead.0 in
     let k = c.requires.ahead.1.follows in
     let e = c.args.event.now in
-    let at_n = c.claims-7.ensures ∙ ap (λ (s : LockState). s.claims) c.requires.ahead.1.state in
+    let at_n = c.claims-6.ensures ∙ ap (λ (s : LockState). s.claims) c.requires.ahead.1.state in
     subst (λ (n : Moment). EachPair (WaitApart n) n) (sym at_n) (apart_next c.args.self.now p k e c.requires.ahead.1.comes)
 
 pub keep-requires-clause-few : goal.keep-requires-clause-few
@@ -147,8 +157,8 @@ keep-requires-clause-few c =
     let p = c.requires.ahead.0 in
     let k = c.requires.ahead.1.follows in
     let e = c.args.event.now in
-    let at_m = c.deref-13.ensures.value ∙ c.requires.ahead.1.noted c.requires.other in
-    let at_n = c.claims-7.ensures ∙ ap (λ (s : LockState). s.claims) c.requires.ahead.1.state in
+    let at_m = c.deref-12.ensures.value ∙ c.requires.ahead.1.noted c.requires.other in
+    let at_n = c.claims-6.ensures ∙ ap (λ (s : LockState). s.claims) c.requires.ahead.1.state in
     subst (λ (z : List Run × Moment × Moment). AllByRecursion (λ x. may_wait z.2 x ≡ true → AreAtMost SEATS (kept_of z.1 z.2 (table_of z.0 x.claim.seat) x)) z.2)
     (λ i. (sym c.deref_mut.ensures.value i, sym at_m i, sym at_n i)) (few_next c.args.self.now p k e c.requires.ahead.1.comes)
 
@@ -159,24 +169,26 @@ returns c = λ p g.
     let a = c.args.self.now in
     let e = c.args.event.now in
     let es = p.events in
-    let at_m = c.deref-13.ensures.value ∙ g.noted c.requires.other in
-    let at_n = c.claims-7.ensures ∙ ap (λ (s : LockState). s.claims) g.state in
-    let told_m = c.deref-5.ensures.value ∙ g.noted c.requires.other in
-    let told_n = c.claims.ensures ∙ ap (λ (s : LockState). s.claims) g.state in
+    let at_m = c.deref-12.ensures.value ∙ g.noted c.requires.other in
+    let at_n = c.claims-6.ensures ∙ ap (λ (s : LockState). s.claims) g.state in
+    let lost = c.lose-gone.new.self.lost in
     let statuses = c.deref-7.ensures.value ∙ ap (λ (l : ChangeLists). l.statuses) (c.behind-machine-2.view_is ∙ c.changes-2.ensures ∙ g.changes) in
     let statuses_2 = c.deref-10.ensures.value ∙ ap (λ (l : ChangeLists). l.statuses) (c.behind-machine-3.view_is ∙ c.changes-3.ensures ∙ g.changes) in
-    let touch : AllByRecursion (IsTouched c.lost-lost.result c.deref-7.result.now c.touched_by-touched.result c.deref.result.now) c.deref.result.now
-    = subst (λ (cs : List StatusChange). AllByRecursion (IsTouched c.lost-lost.result cs c.touched_by-touched.result c.deref.result.now) c.deref.result.now) (statuses_2 ∙ sym statuses)
-    (touched_all c.deref-9.result.now c.lost-lost.result c.deref-10.result.now c.touched_by-touched.result c.touched_by-touched.ensures.lost c.touched_by-touched.ensures.told c.deref.result.now c.deref.result.now
-    (subst (λ (ss : List Set). HoldBehind ss c.deref.result.now c.deref.result.now) (sym c.deref-9.ensures.value) c.tell_now.ensures.told.behind)) in
+    let touch : AllByRecursion (IsTouched lost.claim.seat c.deref-7.result.now c.touched_by-touched.result c.deref.result.now) c.deref.result.now
+    = subst (λ (cs : List StatusChange). AllByRecursion (IsTouched lost.claim.seat cs c.touched_by-touched.result c.deref.result.now) c.deref.result.now) (statuses_2 ∙ sym statuses)
+    (touched_all c.deref-9.result.now lost.claim.seat c.deref-10.result.now c.touched_by-touched.result c.touched_by-touched.ensures.lost c.touched_by-touched.ensures.told c.deref.result.now c.deref.result.now
+    (subst (λ (ss : List Set). HoldBehind ss c.deref.result.now c.deref.result.now) (sym (c.deref-9.ensures.value ∙ ap (λ (v : Vec Set Global). v.items) c.lose-gone.ensures.behind)) c.tell_now.ensures.told.behind)) in
     let both =
-    heads_turn a p k e comes (plain_of a.waiting e c.requires.other) c.tell_now.new.self.now.items c.lost-lost.result c.seats_told-came.result c.touched_by-touched.result c.deref.result.now c.claims-5.result.now c.deref-7.result.now
-    (c.deref.ensures.value ∙ g.noted c.requires.other) (c.claims-5.ensures ∙ ap (λ (t : LockState). t.claims) g.state) (subst (IsLost c.lost-lost.result e) (c.deref-8.ensures.value ∙ sym c.deref.ensures.value) c.lost-lost.ensures) statuses c.seats_told-came.ensures touch c.tell_now.ensures.told.heads in
+    heads_turn a p k e g.comes (plain_of a.waiting e c.requires.other) c.lose-gone.new.self.now.items lost c.lose-gone.result c.seats_told-came.result c.touched_by-touched.result c.deref.result.now c.claims-4.result.now c.deref-7.result.now
+    (c.deref.ensures.value ∙ g.noted c.requires.other) (c.claims-4.ensures ∙ ap (λ (t : LockState). t.claims) g.state)
+    (subst (λ (z : Moment). AllByRecursion (IsLost lost c.lose-gone.result e z) z) (c.deref-8.ensures.value ∙ sym c.deref.ensures.value) c.lose-gone.ensures.lost) statuses c.seats_told-came.ensures touch
+    (subst (λ (v : Vec Head Global). TellHeads v.items c.deref.result.now) (sym c.lose-gone.ensures.now) c.tell_now.ensures.told.heads) in
     let lengths = c.note_lengths.new.lengths in
     let runs = c.keep.new.runs in
     let same : length runs ≡ length a.runs.items = c.keep.ensures.len ∙ ap (λ (rs : List Run). length rs) c.deref_mut.ensures.value in
     let kept_runs : (with_items a.runs runs).items ≡ runs = refilled a.runs runs same in
-    let b : Following = record { waiting = c.note_ended.new.waiting; rising = c.note_rise.new.rising; last = a.last; there = a.there; runs = with_items a.runs runs; lengths = lengths; asks = c.note_ask.new.asks; heads = c.turn.new.self; scratch = c.tell.new.scratch; ended = c.tell.new.ended } in
+    let b : Following = record { waiting = c.note_seat.new.waiting; rising = c.note_event.new.rising; asking = c.note_event.new.asking; last = a.last; there = a.there; runs = with_items a.runs runs; lengths = lengths; asks = c.note_ask.new.asks; heads = c.turn.new.self; scratch = c.tell.new.scratch; ended = c.tell.new.ended } in
+    let ends = ends_next a p k e comes c.deref-5.result.now c.claims.result.now c.deref-2.result.now c.tell.new.ended.items (c.deref-5.ensures.value ∙ g.noted c.requires.other) (c.claims.ensures ∙ ap (λ (t : LockState). t.claims) g.state) c.deref-2.ensures.value c.tell.ensures.told in
     known a p k e comes b
     (record {
       last = k.room.last;
@@ -198,23 +210,22 @@ returns c = λ p g.
     (subst (λ (rs : List Run). AllByRecursion (AreLong (length_in (es ++ e ∷ rest))) rs) (sym c.deref_mut.ensures.value) (k.long (e ∷ rest)))))
     c.note_lengths.ensures.value
     (λ seat h. c.note_ask.ensures.value seat (subst (λ l. seat < l) (sym k.room.asks) h))
-    (subst (λ (n : Moment). HoldWaiting c.note_ended.new.waiting n) (c.claims-4.ensures ∙ ap (λ (t : LockState). t.claims) g.state) c.note_ended.ensures)
-    (subst (λ (w : Set). HoldRising w (next (state_of p) e).claims) (sym c.note_rise.ensures) (rising_on (state_of p) e (reached a p k) comes a.rising k.rising (plain_of a.waiting e c.requires.other)))
-    (subst (TellsNow c.turn.new.self) (c.claims-5.ensures ∙ ap (λ (t : LockState). t.claims) g.state) (c.turn.ensures.told (state_of p).claims both.0
-    (behind_turn a p k e comes (plain_of a.waiting e c.requires.other) c.tell_now.new.self.behind.items c.deref.result.now c.claims-5.result.now (c.deref.ensures.value ∙ g.noted c.requires.other) (c.claims-5.ensures ∙ ap (λ (t : LockState). t.claims) g.state) c.tell_now.ensures.told.behind) both.1))
-    (c.tell.ensures.told es
-    (subst (λ (m : Moment). AllByRecursion (λ x. slice_index a.asks x.claim.seat ≡ asks_since x.claim.seat es) m) (sym told_m) (asks_now a p k))
-    (subst (λ (m : Moment). AreOf (length_by a.lengths) (length_in es) m) (sym told_m) (lengths_now a p k))
-    (subst (λ (rs : List Run). AllByRecursion (AreLong (length_in es)) rs) (sym c.deref-2.ensures.value) (long_now a p k))
-    ∙ (λ i. told es (told_m i) (told_n i) (table_of (c.deref-2.ensures.value i))))
+    (waits_next a p k e comes (plain_of a.waiting e c.requires.other) c.note_ended.new.waiting c.note_seat.new.waiting c.claims-3.result.now c.deref-6.result.now c.seat-2.result (c.claims-3.ensures ∙ ap (λ (t : LockState). t.claims) g.state) c.seat-2.ensures
+    (c.deref-6.ensures.value ∙ ends) c.note_ended.ensures c.note_seat.ensures)
+    (subst (λ (w : Set). TellRising w (next (state_of p) e).claims) (sym c.note_event.ensures.rising) (risen_next (state_of p) e (reached a p k) comes a.rising k.rising))
+    (subst (λ (w : Set). HoldAsking w (next (state_of p) e).claims) (sym c.note_event.ensures.asking) (asking_next (state_of p) e (reached a p k) comes a.asking k.asking))
+    (subst (TellsNow c.turn.new.self) (c.claims-4.ensures ∙ ap (λ (t : LockState). t.claims) g.state) (c.turn.ensures.told (state_of p).claims both.0
+    (behind_turn a p k e comes (plain_of a.waiting e c.requires.other) c.lose-gone.new.self.behind.items c.deref.result.now c.claims-4.result.now (c.deref.ensures.value ∙ g.noted c.requires.other) (c.claims-4.ensures ∙ ap (λ (t : LockState). t.claims) g.state)
+    (subst (λ (v : Vec Set Global). HoldBehind v.items c.deref.result.now c.deref.result.now) (sym c.lose-gone.ensures.behind) c.tell_now.ensures.told.behind)) both.1))
+    ends
 
 pub keep-requires-clause-stood : goal.keep-requires-clause-stood
 keep-requires-clause-stood c =
     let p = c.requires.ahead.0 in
     let k = c.requires.ahead.1.follows in
     let e = c.args.event.now in
-    let at_m = c.deref-13.ensures.value ∙ c.requires.ahead.1.noted c.requires.other in
-    let at_n = c.claims-7.ensures ∙ ap (λ (s : LockState). s.claims) c.requires.ahead.1.state in
+    let at_m = c.deref-12.ensures.value ∙ c.requires.ahead.1.noted c.requires.other in
+    let at_n = c.claims-6.ensures ∙ ap (λ (s : LockState). s.claims) c.requires.ahead.1.state in
     subst (λ (z : Moment × Moment). AllByRecursion (StoodBy e z.0 z.1) z.1) (λ i. (sym at_m i, sym at_n i)) (stood_next c.args.self.now p k e c.requires.ahead.1.comes (plain_of c.args.self.now.waiting c.args.event.now c.requires.other))
 
 pub tell-requires-clause-quiet : goal.tell-requires-clause-quiet
@@ -233,7 +244,7 @@ pub keep-requires-clause-last_rises : goal.keep-requires-clause-last_rises
 keep-requires-clause-last_rises c =
     let p = c.requires.ahead.0 in
     let k = c.requires.ahead.1.follows in
-    let at_m = c.deref-13.ensures.value ∙ c.requires.ahead.1.noted c.requires.other in
+    let at_m = c.deref-12.ensures.value ∙ c.requires.ahead.1.noted c.requires.other in
     subst (EachPair Rises) (sym at_m) (rising_now c.args.self.now p k)
 
 pub keep-requires-clause-next_rises : goal.keep-requires-clause-next_rises
@@ -241,18 +252,8 @@ keep-requires-clause-next_rises c =
     let p = c.requires.ahead.0 in
     let k = c.requires.ahead.1.follows in
     let e = c.args.event.now in
-    let at_n = c.claims-7.ensures ∙ ap (λ (s : LockState). s.claims) c.requires.ahead.1.state in
+    let at_n = c.claims-6.ensures ∙ ap (λ (s : LockState). s.claims) c.requires.ahead.1.state in
     subst (EachPair Rises) (sym at_n) (rising_next c.args.self.now p k e c.requires.ahead.1.comes)
-
-pub note_ended-requires : goal.note_ended-requires
-note_ended-requires c =
-    let p = c.requires.ahead.0 in
-    let k = c.requires.ahead.1.follows in
-    let e = c.args.event.now in
-    let at_n : c.claims-3.result.now ≡ (next (state_of p) e).claims = c.claims-3.ensures ∙ ap (λ (t : LockState). t.claims) c.requires.ahead.1.state in
-    subst (λ (z : Set × Moment). HoldWaiting z.0 z.1)
-    (λ i. (sym (c.note_seat.ensures ∙ (λ j. with_seat c.args.self.now.waiting (at_n j) (c.seat-2.ensures j))) i, sym (c.claims-4.ensures ∙ ap (λ (t : LockState). t.claims) c.requires.ahead.1.state) i))
-    (waiting_next (state_of p) e (reached c.args.self.now p k) c.requires.ahead.1.comes c.args.self.now.waiting k.waiting)
 
 pub note_seat-requires-clause-low : goal.note_seat-requires-clause-low
 note_seat-requires-clause-low c = subst (λ l. l < SEATS) (sym c.seat-2.ensures) (event_seat c.args.self.now c.requires.ahead.0 c.requires.ahead.1.follows c.args.event.now c.requires.ahead.1.comes)
@@ -277,8 +278,34 @@ note_seat-requires-clause-none c =
     (subst (λ (n : Moment). list_any (λ x. x.claim.seat == seat_of e) (take (first_of e c.args.self.now.there (length n)) n) ≡ false) (sym (c.claims-3.ensures ∙ ap (λ (t : LockState). t.claims) g.state))
     (none_before (state_of p) e (reached c.args.self.now p g.follows) g.comes c.args.self.now.there g.there).1)
 
-pub note_rise-requires : goal.note_rise-requires
-note_rise-requires c = event_seat c.args.self.now c.requires.ahead.0 c.requires.ahead.1.follows c.args.event.now c.requires.ahead.1.comes
+pub note_event-requires : goal.note_event-requires
+note_event-requires c = event_seat c.args.self.now c.requires.ahead.0 c.requires.ahead.1.follows c.args.event.now c.requires.ahead.1.comes
+
+pub note_seat-requires-clause-rising : goal.note_seat-requires-clause-rising
+note_seat-requires-clause-rising c =
+    let p = c.requires.ahead.0 in
+    let g = c.requires.ahead.1 in
+    let a = c.args.self.now in
+    subst (λ (z : Set × Moment). TellRising z.0 z.1) (λ i. (sym c.note_event.ensures.rising i, sym (c.claims-3.ensures ∙ ap (λ (t : LockState). t.claims) g.state) i))
+    (risen_next (state_of p) c.args.event.now (reached a p g.follows) g.comes a.rising g.follows.rising)
+
+pub tell-requires-clause-rising : goal.tell-requires-clause-rising
+tell-requires-clause-rising c =
+    subst (λ (m : Moment). TellRising c.args.self.now.rising m) (sym (c.deref-5.ensures.value ∙ c.requires.ahead.1.noted c.requires.other)) c.requires.ahead.1.follows.rising
+
+pub tell-requires-clause-asking : goal.tell-requires-clause-asking
+tell-requires-clause-asking c =
+    subst (λ (m : Moment). HoldAsking c.args.self.now.asking m) (sym (c.deref-5.ensures.value ∙ c.requires.ahead.1.noted c.requires.other)) c.requires.ahead.1.follows.asking
+
+pub tell-requires-clause-apart : goal.tell-requires-clause-apart
+tell-requires-clause-apart c =
+    let p = c.requires.ahead.0 in
+    let k = c.requires.ahead.1.follows in
+    subst (λ (m : Moment). EachPair (OneWaits m) m) (sym (c.deref-5.ensures.value ∙ c.requires.ahead.1.noted c.requires.other)) (one_waits (state_of p) (reached c.args.self.now p k))
+
+pub tell-requires-clause-next_rises : goal.tell-requires-clause-next_rises
+tell-requires-clause-next_rises c =
+    subst (EachPair Rises) (sym (c.claims.ensures ∙ ap (λ (s : LockState). s.claims) c.requires.ahead.1.state)) (rising_next c.args.self.now c.requires.ahead.0 c.requires.ahead.1.follows c.args.event.now c.requires.ahead.1.comes)
 
 pub tell-requires-clause-low : goal.tell-requires-clause-low
 tell-requires-clause-low c =
@@ -290,11 +317,20 @@ tell-requires-clause-waiting c =
 
 pub keep-requires-clause-low : goal.keep-requires-clause-low
 keep-requires-clause-low c =
-    subst (λ (m : Moment). AllByRecursion (λ x. x.claim.seat < SEATS) m) (sym (c.claims-7.ensures ∙ ap (λ (s : LockState). s.claims) c.requires.ahead.1.state))
+    subst (λ (m : Moment). AllByRecursion (λ x. x.claim.seat < SEATS) m) (sym (c.claims-6.ensures ∙ ap (λ (s : LockState). s.claims) c.requires.ahead.1.state))
     (is_moment_next c.args.self.now c.requires.ahead.0 c.requires.ahead.1.follows c.args.event.now c.requires.ahead.1.comes).seats
 
 pub keep-requires-clause-waiting : goal.keep-requires-clause-waiting
-keep-requires-clause-waiting c = subst (λ (n : Moment). HoldWaiting c.note_ended.new.waiting n) (c.claims-4.ensures ∙ sym c.claims-7.ensures) c.note_ended.ensures
+keep-requires-clause-waiting c =
+    let p = c.requires.ahead.0 in
+    let g = c.requires.ahead.1 in
+    let k = g.follows in
+    let e = c.args.event.now in
+    let a = c.args.self.now in
+    let ends = ends_next a p k e g.comes c.deref-5.result.now c.claims.result.now c.deref-2.result.now c.tell.new.ended.items (c.deref-5.ensures.value ∙ g.noted c.requires.other) (c.claims.ensures ∙ ap (λ (t : LockState). t.claims) g.state) c.deref-2.ensures.value c.tell.ensures.told in
+    subst (λ (n : Moment). HoldWaiting c.note_seat.new.waiting n) (sym (c.claims-6.ensures ∙ ap (λ (s : LockState). s.claims) g.state))
+    (waits_next a p k e g.comes (plain_of a.waiting e c.requires.other) c.note_ended.new.waiting c.note_seat.new.waiting c.claims-3.result.now c.deref-6.result.now c.seat-2.result (c.claims-3.ensures ∙ ap (λ (t : LockState). t.claims) g.state) c.seat-2.ensures
+    (c.deref-6.ensures.value ∙ ends) c.note_ended.ensures c.note_seat.ensures)
 
 pub keep-requires-clause-rising : goal.keep-requires-clause-rising
 keep-requires-clause-rising c =
@@ -302,13 +338,18 @@ keep-requires-clause-rising c =
     let g = c.requires.ahead.1 in
     let e = c.args.event.now in
     let a = c.args.self.now in
-    subst (λ (z : Set × Moment). HoldRising z.0 z.1) (λ i. (sym c.note_rise.ensures i, sym (c.claims-7.ensures ∙ ap (λ (s : LockState). s.claims) g.state) i))
-    (rising_on (state_of p) e (reached a p g.follows) g.comes a.rising g.follows.rising (plain_of a.waiting e c.requires.other))
+    subst (λ (z : Set × Moment). TellRising z.0 z.1) (λ i. (sym c.note_event.ensures.rising i, sym (c.claims-6.ensures ∙ ap (λ (s : LockState). s.claims) g.state) i))
+    (risen_next (state_of p) e (reached a p g.follows) g.comes a.rising g.follows.rising)
 
-pub written_by-requires : goal.written_by-requires
-written_by-requires c =
-    subst (λ (m : Moment). AllByRecursion (λ x. x.claim.seat < SEATS) m) (sym (c.claims-6.ensures ∙ ap (λ (s : LockState). s.claims) c.requires.ahead.1.state))
+pub written_by-requires-clause-low : goal.written_by-requires-clause-low
+written_by-requires-clause-low c =
+    subst (λ (m : Moment). AllByRecursion (λ x. x.claim.seat < SEATS) m) (sym (c.claims-5.ensures ∙ ap (λ (s : LockState). s.claims) c.requires.ahead.1.state))
     (is_moment_next c.args.self.now c.requires.ahead.0 c.requires.ahead.1.follows c.args.event.now c.requires.ahead.1.comes).seats
+
+pub written_by-requires-clause-one_each : goal.written_by-requires-clause-one_each
+written_by-requires-clause-one_each c =
+    subst (λ (m : Moment). EachPair Distinct m) (sym (c.claims-5.ensures ∙ ap (λ (s : LockState). s.claims) c.requires.ahead.1.state))
+    (is_moment_next c.args.self.now c.requires.ahead.0 c.requires.ahead.1.follows c.args.event.now c.requires.ahead.1.comes).one_each
 
 pub keep-requires-clause-reads : goal.keep-requires-clause-reads
 keep-requires-clause-reads c =
@@ -317,18 +358,21 @@ keep-requires-clause-reads c =
     let e = c.args.event.now in
     let a = c.args.self.now in
     let statuses = c.deref-7.ensures.value ∙ ap (λ (l : ChangeLists). l.statuses) (c.behind-machine-2.view_is ∙ c.changes-2.ensures ∙ g.changes) in
-    reads_next a p g.follows e g.comes (plain_of a.waiting e c.requires.other) c.seats_told-came.result c.written_by.result c.deref-13.result.now c.claims-7.result.now c.deref-7.result.now
-    (c.deref-13.ensures.value ∙ g.noted c.requires.other) (c.claims-7.ensures ∙ ap (λ (s : LockState). s.claims) g.state) statuses c.seats_told-came.ensures
-    (subst (λ (n : Moment). HoldWritten c.written_by.result c.seats_told-came.result n) (c.claims-6.ensures ∙ sym c.claims-7.ensures) c.written_by.ensures)
+    reads_next a p g.follows e g.comes (plain_of a.waiting e c.requires.other) c.seats_told-came.result c.written_by.result c.deref-12.result.now c.claims-6.result.now c.deref-7.result.now
+    (c.deref-12.ensures.value ∙ g.noted c.requires.other) (c.claims-6.ensures ∙ ap (λ (s : LockState). s.claims) g.state) statuses c.seats_told-came.ensures
+    (subst (λ (n : Moment). HoldWritten c.written_by.result c.seats_told-came.result n) (c.claims-5.ensures ∙ sym c.claims-6.ensures) c.written_by.ensures)
 
-pub lost-lost-requires-clause-low : goal.lost-lost-requires-clause-low
-lost-lost-requires-clause-low c = event_seat c.args.self.now c.requires.ahead.0 c.requires.ahead.1.follows c.args.event.now c.requires.ahead.1.comes
+pub lose-gone-requires-clause-low : goal.lose-gone-requires-clause-low
+lose-gone-requires-clause-low c = event_seat c.args.self.now c.requires.ahead.0 c.requires.ahead.1.follows c.args.event.now c.requires.ahead.1.comes
 
-pub lost-lost-requires-clause-room : goal.lost-lost-requires-clause-room
-lost-lost-requires-clause-room c = c.tell_now.ensures.room
+pub lose-gone-requires-clause-moment : goal.lose-gone-requires-clause-moment
+lose-gone-requires-clause-moment c = subst IsMoment (sym (c.deref-8.ensures.value ∙ c.requires.ahead.1.noted c.requires.other)) (is_moment_now c.args.self.now c.requires.ahead.0 c.requires.ahead.1.follows)
 
-pub lost-lost-requires-clause-told : goal.lost-lost-requires-clause-told
-lost-lost-requires-clause-told c = subst (λ (m : Moment). TellHeads c.tell_now.new.self.now.items m) (c.deref.ensures.value ∙ sym c.deref-8.ensures.value) c.tell_now.ensures.told.heads
+pub lose-gone-requires-clause-room : goal.lose-gone-requires-clause-room
+lose-gone-requires-clause-room c = c.tell_now.ensures.room
+
+pub lose-gone-requires-clause-told : goal.lose-gone-requires-clause-told
+lose-gone-requires-clause-told c = subst (λ (m : Moment). TellHeads c.tell_now.new.self.now.items m) (c.deref.ensures.value ∙ sym c.deref-8.ensures.value) c.tell_now.ensures.told.heads
 
 pub tell-requires-clause-head : goal.tell-requires-clause-head
 tell-requires-clause-head c =

@@ -12,13 +12,15 @@ use Rattle.rwaits.specs.declared.run.Run.{Run}
 use Rattle.rwaits.specs.Follow.{table_of, HasRoom, AreLong, with_entry}
 use Rattle.rwaits.specs.Past.{state_of}
 use Rattle.rwaits.specs.Heads.{IsMoment, TellsNow}
-use Rattle.rwaits.specs.Waiting.{HoldRising, HoldWaiting, with_risen, with_seat, first_of}
+use Rattle.rwaits.specs.Waiting.{HoldAsking, HoldWaiting, TellRising, with_seat, first_of}
 use Rattle.rwaits.proofs.told.Quiet.{there_before}
 use Rattle.rset.specs.Sets.{Set}
 use Rattle.rwaits.specs.Tracked.{no_sections}
 use Rattle.rwaits.proofs.told.Knowing.{reached, event_seat, is_moment_next, refilled, known}
 use Rattle.rwaits.proofs.told.Noted.{asks_at_most}
-use Rattle.rwaits.proofs.told.Waiting.{calm_all, calm_none, none_before, rising_next, waiting_next}
+use Rattle.rwaits.proofs.told.Asking.{asking_next}
+use Rattle.rwaits.proofs.told.Rising.{risen_next}
+use Rattle.rwaits.proofs.told.Waiting.{calm_all, calm_none, none_before, waiting_next}
 use Rattle.rwaits.proofs.following.Following.go_on.Goals as goal
 
 pub clear_run-requires-clause-seat : goal.clear_run-requires-clause-seat
@@ -57,7 +59,7 @@ returns c = λ p g.
     let runs = c.clear_run.new.runs in
     let same : length runs ≡ length a.runs.items = c.clear_run.ensures.len ∙ ap (λ (rs : List Run). length rs) c.deref_mut.ensures.value in
     let kept_runs : (with_items a.runs runs).items ≡ runs = refilled a.runs runs same in
-    let b : Following = record { waiting = c.note_seat.new.waiting; rising = c.note_risen.new.rising; last = a.last; there = a.there; runs = with_items a.runs runs; lengths = c.note_lengths.new.lengths; asks = c.note_ask.new.asks; heads = c.pass.new.self; scratch = a.scratch; ended = c.clear.new.self } in
+    let b : Following = record { waiting = c.note_seat.new.waiting; rising = c.note_event.new.rising; asking = c.note_event.new.asking; last = a.last; there = a.there; runs = with_items a.runs runs; lengths = c.note_lengths.new.lengths; asks = c.note_ask.new.asks; heads = c.pass.new.self; scratch = a.scratch; ended = c.clear.new.self } in
     let cleared : (other : ℕ) → table_of b.runs.items other ≡ with_entry table (seat_of e) no_sections other
     = λ other.
     ap (λ (rs : List Run). table_of rs other) kept_runs ∙ c.clear_run.ensures.kept other
@@ -82,10 +84,9 @@ returns c = λ p g.
     (subst (λ (w : Set). HoldWaiting w (next (state_of p) e).claims)
     (sym (c.note_seat.ensures ∙ (λ i. with_seat a.waiting ((c.claims-2.ensures ∙ ap (λ (t : LockState). t.claims) g.state) i) (c.seat-2.ensures i))))
     (waiting_next (state_of p) e (reached a p k) comes a.waiting k.waiting))
-    (subst (λ (w : Set). HoldRising w (next (state_of p) e).claims)
-    (sym (c.note_risen.ensures ∙ (λ i. with_risen a.rising ((c.claims-3.ensures ∙ ap (λ (t : LockState). t.claims) g.state) i) (c.seat-3.ensures i))))
-    (rising_next (state_of p) e (reached a p k) comes a.rising k.rising))
-    (subst (TellsNow c.pass.new.self) (c.claims-4.ensures ∙ ap (λ (t : LockState). t.claims) g.state) c.pass.ensures.told)
+    (subst (λ (w : Set). TellRising w (next (state_of p) e).claims) (sym c.note_event.ensures.rising) (risen_next (state_of p) e (reached a p k) comes a.rising k.rising))
+    (subst (λ (w : Set). HoldAsking w (next (state_of p) e).claims) (sym c.note_event.ensures.asking) (asking_next (state_of p) e (reached a p k) comes a.asking k.asking))
+    (subst (TellsNow c.pass.new.self) (c.claims-3.ensures ∙ ap (λ (t : LockState). t.claims) g.state) c.pass.ensures.told)
     (c.clear.ensures.items ∙ sym (calm_none (state_of p) e (reached a p k) comes a.waiting k.waiting c.requires.calm es table))
 
 pub note_seat-requires-clause-low : goal.note_seat-requires-clause-low
@@ -115,7 +116,7 @@ pub pass-requires-clause-moment : goal.pass-requires-clause-moment
 pass-requires-clause-moment c =
     let p = c.requires.ahead.0 in
     let k = c.requires.ahead.1.follows in
-    subst IsMoment (sym (c.claims-4.ensures ∙ ap (λ (s : LockState). s.claims) c.requires.ahead.1.state)) (is_moment_next c.args.self.now p k c.args.event.now c.requires.ahead.1.comes)
+    subst IsMoment (sym (c.claims-3.ensures ∙ ap (λ (s : LockState). s.claims) c.requires.ahead.1.state)) (is_moment_next c.args.self.now p k c.args.event.now c.requires.ahead.1.comes)
 
 pub pass-requires-clause-room : goal.pass-requires-clause-room
 pass-requires-clause-room c = c.requires.ahead.1.follows.room.heads
@@ -127,30 +128,18 @@ pass-requires-clause-told c = λ brought.
     let k = g.follows in
     let e = c.args.event.now in
     let was = there_before (state_of p) e (reached c.args.self.now p k) g.comes (sym c.is_issue.ensures ∙ brought) in
-    let at_n = c.claims-4.ensures ∙ ap (λ (s : LockState). s.claims) g.state in (
+    let at_n = c.claims-3.ensures ∙ ap (λ (s : LockState). s.claims) g.state in (
       subst (λ (z : ℕ × Moment). z.0 ≤ length z.1) (λ i. (sym g.there i, sym at_n i)) was.1,
       subst (TellsNow c.args.self.now.heads) (sym ((λ i. take (g.there i) (at_n i)) ∙ was.0)) k.heads,
     )
 
-pub note_risen-requires-clause-low : goal.note_risen-requires-clause-low
-note_risen-requires-clause-low c = subst (λ l. l < SEATS) (sym c.seat-3.ensures) (event_seat c.args.self.now c.requires.ahead.0 c.requires.ahead.1.follows c.args.event.now c.requires.ahead.1.comes)
+pub note_event-requires : goal.note_event-requires
+note_event-requires c = event_seat c.args.self.now c.requires.ahead.0 c.requires.ahead.1.follows c.args.event.now c.requires.ahead.1.comes
 
-pub note_risen-requires-clause-first : goal.note_risen-requires-clause-first
-note_risen-requires-clause-first c =
-    let g = c.requires.ahead.1 in
+pub note_seat-requires-clause-rising : goal.note_seat-requires-clause-rising
+note_seat-requires-clause-rising c =
     let p = c.requires.ahead.0 in
-    let e = c.args.event.now in
-    let is : c.first_of-first.result ≡ first_of e c.args.self.now.there (length c.claims-3.result.now) = c.first_of-first.ensures ∙ ap (λ (l : Moment). first_of e c.args.self.now.there (length l)) (c.claims.ensures ∙ sym c.claims-3.ensures) in
-    subst (λ k. k ≤ length c.claims-3.result.now) (sym is)
-    (subst (λ (n : Moment). first_of e c.args.self.now.there (length n) ≤ length n) (sym (c.claims-3.ensures ∙ ap (λ (t : LockState). t.claims) g.state))
-    (none_before (state_of p) e (reached c.args.self.now p g.follows) g.comes c.args.self.now.there g.there).0)
-
-pub note_risen-requires-clause-none : goal.note_risen-requires-clause-none
-note_risen-requires-clause-none c =
     let g = c.requires.ahead.1 in
-    let p = c.requires.ahead.0 in
-    let e = c.args.event.now in
-    let is : c.first_of-first.result ≡ first_of e c.args.self.now.there (length c.claims-3.result.now) = c.first_of-first.ensures ∙ ap (λ (l : Moment). first_of e c.args.self.now.there (length l)) (c.claims.ensures ∙ sym c.claims-3.ensures) in
-    subst (λ (z : ℕ × ℕ). list_any (λ x. x.claim.seat == z.0) (take z.1 c.claims-3.result.now) ≡ false) (λ i. (sym c.seat-3.ensures i, sym is i))
-    (subst (λ (n : Moment). list_any (λ x. x.claim.seat == seat_of e) (take (first_of e c.args.self.now.there (length n)) n) ≡ false) (sym (c.claims-3.ensures ∙ ap (λ (t : LockState). t.claims) g.state))
-    (none_before (state_of p) e (reached c.args.self.now p g.follows) g.comes c.args.self.now.there g.there).1)
+    let a = c.args.self.now in
+    subst (λ (z : Set × Moment). TellRising z.0 z.1) (λ i. (sym c.note_event.ensures.rising i, sym (c.claims-2.ensures ∙ ap (λ (t : LockState). t.claims) g.state) i))
+    (risen_next (state_of p) c.args.event.now (reached a p g.follows) g.comes a.rising g.follows.rising)

@@ -22,21 +22,20 @@ returns-clause-told c = λ m tell hold by _.
     let v = c.args.self.now.behind in
     let ss = c.forget.new.behind in
     let was = c.deref_mut.ensures.value in
-    let is = c.deref_mut-4.ensures.value in
+    let is = c.deref_mut-3.ensures.value in
     let one : (with_items v ss).items ≡ ss = refilled_sets v ss (c.forget.ensures.len ∙ ap (λ (l : List Set). length l) was) in
     subst (λ (z : List Head × List Set). IsTold z.0 z.1 n)
     (λ i. (
-      sym (refilled_heads c.args.self.now.now c.turn_heads-self.new.now (c.turn_heads-self.ensures.now_len ∙ ap (λ (hs : List Head). length hs) c.deref_mut-2.ensures.value)) i,
-      sym (refilled_sets (with_items v ss) c.turn_heads-self.new.behind (c.turn_heads-self.ensures.behind_len ∙ ap (λ (l : List Set). length l) is)) i,
+      sym (refilled_heads c.args.self.now.now c.turn_heads-moves.new.now (c.turn_heads-moves.ensures.len ∙ ap (λ (hs : List Head). length hs) c.deref_mut-2.ensures.value)) i,
+      sym (refilled_sets (with_items v ss) c.turn_heads-moves.new.behind (c.turn_heads-moves.ensures.behind_len ∙ ap (λ (l : List Set). length l) is)) i,
     ))
-    (c.turn_heads-self.ensures.told m (subst (λ (hs : List Head). TellAt hs m n) (sym c.deref_mut-2.ensures.value) tell) by
-    (but_from c.args.lost v.items c.deref_mut-4.result.now
+    (c.turn_heads-moves.ensures.told m (subst (λ (hs : List Head). TellAt hs m n) (sym c.deref_mut-2.ensures.value) tell) by
+    (but_from c.args.self.now.lost.claim.seat v.items c.deref_mut-3.result.now
     (λ least other. ap (λ (l : List Set). set_at l least) (is ∙ one) ∙ c.forget.ensures.others least other ∙ ap (λ (l : List Set). set_at l least) was) m n hold))
 
 pub returns-clause-tell : goal.returns-clause-tell
 returns-clause-tell c = λ m tell by.
     let n = c.args.moment.now in
-    let now = refilled_heads c.args.self.now.now c.turn_heads-self.new.now (c.turn_heads-self.ensures.now_len ∙ ap (λ (hs : List Head). length hs) c.deref_mut-2.ensures.value) in
-    let last = refilled_heads c.args.self.now.last c.turn_heads-self.new.last (c.turn_heads-self.ensures.last_len ∙ ap (λ (hs : List Head). length hs) c.deref_mut-3.ensures.value) in
-    subst (λ (z : List Head × List Head). AllByRecursion (HeadsTell z.0 z.1 c.turn_heads-self.result m n) n) (λ i. (sym now i, sym last i))
-    (c.turn_heads-self.ensures.tell m (subst (λ (hs : List Head). TellAt hs m n) (sym c.deref_mut-2.ensures.value) tell) by)
+    let now = refilled_heads c.args.self.now.now c.turn_heads-moves.new.now (c.turn_heads-moves.ensures.len ∙ ap (λ (hs : List Head). length hs) c.deref_mut-2.ensures.value) in
+    subst (λ (hs : List Head). AllByRecursion (HeadsTell hs c.args.self.now.lost c.turn_heads-moves.result.moved c.turn_heads-moves.result.risen m n) n) (sym now)
+    (c.turn_heads-moves.ensures.tell m (subst (λ (hs : List Head). TellAt hs m n) (sym c.deref_mut-2.ensures.value) tell) by)

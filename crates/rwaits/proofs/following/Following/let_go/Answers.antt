@@ -1,0 +1,38 @@
+use Rattle.std.proofs.Common.{◌∷◌, refl, sym, ◌∙◌}
+use Rattle.rmodel.specs.Steps.{next}
+use Rattle.rwaits.specs.declared.following.Following.{Following}
+use Rattle.rwaits.specs.Follow.{table_of, length_by, with_entry}
+use Rattle.rwaits.specs.Past.{state_of}
+use Rattle.rwaits.specs.Tracked.{no_sections}
+use Rattle.std.specs.Prelude.{slice_index}
+use Rattle.rclaim.specs.Events.{seat_of}
+use Rattle.rwaits.proofs.told.Knowing.{reached, known}
+use Rattle.rwaits.proofs.told.LetGo.{waiting_stays, rising_stays, asking_stays, kept_stays, asks_stay, lengths_stay}
+use Rattle.rwaits.proofs.told.Waiting.{calm_all, calm_none}
+use Rattle.rwaits.proofs.following.Following.let_go.Goals as goal
+
+pub returns : goal.returns
+returns c = λ machine p g.
+    let k = g.follows in
+    let comes = g.comes in
+    let a = c.args.self.now in
+    let e = c.args.event.now in
+    let s = state_of p in
+    let is = c.requires.finish in
+    let there = reached a p k in
+    let table = table_of a.runs.items in
+    let b : Following = record a { ended = c.clear.new.self; heads = c.close.new.self } in
+    known a p k e comes b
+    (record { last = k.room.last; seats = k.room.seats; runs = k.room.runs; scratch = k.room.scratch; ended = c.clear.ensures.capacity ∙ k.room.ended; lengths = k.room.lengths; asks = k.room.asks; heads = c.close.ensures.room })
+    (kept_stays s e there comes is table (calm_all s e there comes a.waiting k.waiting c.requires.calm table (with_entry table (seat_of e) no_sections) (λ other. refl)))
+    (λ rest. k.long (e ∷ rest))
+    (λ d. lengths_stay e is (length_by a.lengths) d)
+    (λ seat h. asks_stay e is seat (slice_index a.asks seat))
+    (waiting_stays s e there comes is a.waiting k.waiting)
+    (rising_stays s e there comes is a.rising k.rising)
+    (asking_stays s e there comes is a.asking k.asking)
+    (c.close.ensures.told (next s e).claims)
+    (c.clear.ensures.items ∙ sym (calm_none s e there comes a.waiting k.waiting c.requires.calm p.events table))
+
+pub close-requires : goal.close-requires
+close-requires c = record { room = c.requires.ahead.2.follows.room.heads }

@@ -1,0 +1,95 @@
+-- The write that an event takes away, and the head that is lost with it.
+use Rattle.std.proofs.Common.{◌≡◌, ◌≤◌, ◌<◌, ℕ, Bool, true, false, cond, find, Option, Some, None, [], ◌∷◌, refl, sym, ap, ◌∙◌, arith, inl, inr}
+use Rattle.std.proofs.lemmas.Bool.{and_parts, and_from, eqb-true}
+use Rattle.std.specs.List.{AllByRecursion}
+use Rattle.std.specs.FinSet.{is_subset}
+use Rattle.std.specs.Option.{option_map}
+use Rattle.rset.specs.Sets.{Set}
+use Rattle.rset.specs.declared.TheConstants.{SEATS}
+use Rattle.rset.proofs.SetsWithin.{within_reflexive}
+use Rattle.rclaim.specs.Events.{seat_of}
+use Rattle.rclaim.specs.declared.claim.Claim.{Claim}
+use Rattle.rclaim.specs.declared.event.Event.{Event}
+use Rattle.rclaim.specs.declared.event.Event.TheVariants.{Issue, Finish}
+use Rattle.rclaim.specs.declared.event.Event.TheVariants as event
+use Rattle.rmodel.specs.declared.claimed.Claimed.{Claimed}
+use Rattle.rmodel.specs.WellFormed.{Among, EachPair, Rises, Distinct}
+use Rattle.rmodel.proofs.ListFacts.{contrary, false_from, all_at, all_from, any_among}
+use Rattle.rcover.proofs.lists.Found.{first_of}
+use Rattle.rcover.specs.Line.{least_of}
+use Rattle.rcover.specs.Moments.{Moment, holds_at}
+use Rattle.rwaits.specs.declared.lines.Head.{Head}
+use Rattle.rwaits.specs.Lines.{head_of, is_taken, places_taken, takes_seat, IsLost}
+use Rattle.rwaits.proofs.told.Grants.{one_write}
+use Rattle.rwaits.proofs.told.Leasts.{least_in}
+use Rattle.rwaits.proofs.told.Quiet.{least_all}
+
+-- none is where no write goes, and the seat is none
+pub lost_none : (lost : Head) (gone : Set) (e : Event) (m : Moment) → SEATS ≤ lost.claim.seat → AllByRecursion (λ x. x.claim.seat < SEATS) m → ((x : Claimed) → Among x m → x.claim.write_half ≡ true → takes_seat e x.claim.seat ≡ false) → AllByRecursion (IsLost lost gone e m) m
+lost_none lost gone e m high low none =
+    all_from (IsLost lost gone e m) m
+    (λ x there. record {
+      places = λ write takes. contrary (takes_seat e x.claim.seat) takes (none x there write);
+      taken = λ write takes. contrary (takes_seat e x.claim.seat) takes (none x there write);
+      one = λ write same.
+          let least = least_all (λ d. d.seat < SEATS) x.claim (all_at (λ y. y.claim.seat < SEATS) m x low there) m low in
+          absurd (omega arith);
+    })
+
+-- the write that goes, by its places
+pub taken_at : (e : Event) (m : Moment) (places : Set) → places_taken e m ≡ Some places → (w : Claimed) × Among w m × (is_taken e w ≡ true) × (w.claim.places ≡ places)
+taken_at e [] places is = absurd (no_one places is)
+  where
+    no_one : (s : Set) → None ≡ Some s → ⊥
+    no_one s h = cc
+taken_at e (x ∷ xs) places is = at (taken_at e xs places) (is_taken e x) refl is
+  where
+    one : (s t : Set) → Some s ≡ Some t → s ≡ t
+    one s t h = cc
+
+    at : (places_taken e xs ≡ Some places → (w : Claimed) × Among w xs × (is_taken e w ≡ true) × (w.claim.places ≡ places)) → (b : Bool) → is_taken e x ≡ b → option_map (λ (y : Claimed). y.claim.places) (cond b (Some x) (find (is_taken e) xs)) ≡ Some places
+        → (w : Claimed) × Among w (x ∷ xs) × (is_taken e w ≡ true) × (w.claim.places ≡ places)
+    at later true taken h = (x, inl refl, taken, one x.claim.places places h)
+    at later false not_taken h = let w = later h in (w.0, inr w.1, w.2, w.3)
+
+-- none goes where there are none
+pub none_taken : (e : Event) (m : Moment) → places_taken e m ≡ None → (x : Claimed) → Among x m → x.claim.write_half ≡ true → takes_seat e x.claim.seat ≡ false
+none_taken e m none x there write =
+    false_from (takes_seat e x.claim.seat) (λ takes.
+    let w = first_of (is_taken e) m (any_among (is_taken e) m x there (and_from (takes_seat e x.claim.seat) x.claim.write_half takes write)) in
+    absurd (not_none w.one.claim.places (sym (ap (λ (o : Option Claimed). option_map (λ (y : Claimed). y.claim.places) o) w.is) ∙ none)))
+  where
+    not_none : (s : Set) → Some s ≡ None → ⊥
+    not_none s h = cc
+
+-- a seat that is taken is that of the event
+pub seat_taken : (e : Event) (seat : ℕ) → takes_seat e seat ≡ true → seat_of e ≡ seat
+seat_taken (Issue t r) seat takes = contrary false takes refl
+seat_taken (Finish t) seat takes = eqb-true t seat takes
+seat_taken (event.Rise t) seat takes = contrary false takes refl
+seat_taken (event.Ask t part) seat takes = contrary false takes refl
+
+-- and only a finish takes one
+only_one : (e : Event) (m : Moment) → EachPair Distinct m → (x w : Claimed) → Among x m → Among w m → x.claim.write_half ≡ true → w.claim.write_half ≡ true → takes_seat e x.claim.seat ≡ true → takes_seat e w.claim.seat ≡ true → x ≡ w
+only_one e m distinct x w in_x in_w x_write w_write x_takes w_takes = one_write m distinct x w in_x in_w x_write w_write (sym (seat_taken e x.claim.seat x_takes) ∙ seat_taken e w.claim.seat w_takes)
+
+-- where one goes, it is its head
+pub lost_one : (lost : Head) (e : Event) (w : Claimed) (m : Moment) → EachPair Rises m → EachPair Distinct m → Among w m → is_taken e w ≡ true → head_of m w.claim ≡ lost → AllByRecursion (IsLost lost w.claim.places e m) m
+lost_one lost e w m rising distinct in_m taken is =
+    all_from (IsLost lost w.claim.places e m) m
+    (λ x there. record {
+      places = λ write takes. ap (λ (y : Claimed). is_subset y.claim.places w.claim.places) (same_one x there write takes) ∙ within_reflexive w.claim.places;
+      taken = λ write takes. ap (λ (y : Claimed). head_of m y.claim) (same_one x there write takes) ∙ is;
+      one = λ write same.
+          let a = least_in m rising x there write in
+          let b = least_in m rising w in_m w_parts.1 in
+          let y : a.0 ≡ b.0 = one_write m distinct a.0 b.0 a.1 b.1 a.3 b.3 (ap (λ (d : Claim). d.seat) a.2 ∙ same ∙ ap (λ (h : Head). h.claim.seat) (sym is) ∙ ap (λ (d : Claim). d.seat) (sym b.2)) in
+          let least : least_of x.claim m ≡ least_of w.claim m = sym a.2 ∙ ap (λ (z : Claimed). z.claim) y ∙ b.2 in
+          (λ i. let h : Head = record { claim = least i; holds = holds_at (least i) m } in h) ∙ is;
+    })
+  where
+    w_parts : (takes_seat e w.claim.seat ≡ true) × (w.claim.write_half ≡ true)
+    w_parts = and_parts (takes_seat e w.claim.seat) w.claim.write_half taken
+
+    same_one : (x : Claimed) → Among x m → x.claim.write_half ≡ true → takes_seat e x.claim.seat ≡ true → x ≡ w
+    same_one x there write takes = only_one e m distinct x w there in_m write w_parts.1 takes w_parts.0
