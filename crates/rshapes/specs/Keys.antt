@@ -1,5 +1,5 @@
 -- What shapes and asks are looked up by. No contract of another crate speaks of it.
-use Rattle.std.specs.Prelude.{ℕ, Bool, ◌&&◌, ◌==◌, ◌%◌, ◌^◌, ◌*◌, ◌++◌, fold, bit_or}
+use Rattle.std.specs.Prelude.{ℕ, Bool, ◌&&◌, ◌==◌, ◌%◌, ◌^◌, ◌*◌, ◌+◌, fold, bit_or}
 use Rattle.std.specs.Hash as fed
 use Rattle.rset.specs.Sets.{Set, equals, rising}
 use Rattle.rclaim.specs.Codes.{kind_number}
@@ -19,9 +19,17 @@ same_key a b = (a.task == b.task) && ((a.kind == b.kind) && equals a.reads b.rea
 abbrev pub same_asked : AskedSet → AskedSet → Bool
 same_asked a b = equals a.set b.set
 
+-- a word with another behind it, in one word
+abbrev pub with_word : ℕ → ℕ → ℕ
+with_word word behind = (word * 11400714819323198485 % 2 ^ 64 + behind) % 2 ^ 64
+
+-- all that a key says, in one word: keys that differ may share it
+abbrev pub word_of : ShapeKey → ℕ
+word_of k = with_word (with_word (with_word (with_word k.task k.kind) (mask_of k.reads)) (mask_of k.writes)) (mask_of k.first)
+
 -- what is hashed of a key, and of a set that was asked for
 abbrev pub key_input : ShapeKey → fed.HashWrites
-key_input k = fed.u8 k.task ++ fed.u8 k.kind ++ fed.u64 (mask_of k.reads) ++ fed.u64 (mask_of k.writes) ++ fed.u64 (mask_of k.first)
+key_input k = fed.u64 (word_of k)
 
 abbrev pub asked_input : AskedSet → fed.HashWrites
 asked_input a = fed.u64 (mask_of a.set)

@@ -1,6 +1,6 @@
 // What shapes and asks are looked up by, with their hashes.
 ghost use Rattle.std.specs.Prelude.{◌≡◌, []};
-ghost use Rattle.rshapes.specs.Keys.{mask_of, key_of};
+ghost use Rattle.rshapes.specs.Keys.{mask_of, with_word, word_of, key_of};
 ghost use Rattle.rclaim.specs.Codes.{kind_number};
 
 use rclaim::{Kind, Request};
@@ -64,11 +64,7 @@ impl Hash for ShapeKey {
     ghost respects_eq = { same_key_fed };
 
     fn hash<H: Hasher>(&self, state: &mut H) {
-        state.write_u8(self.task);
-        state.write_u8(self.kind);
-        state.write_u64(mask_of(self.reads));
-        state.write_u64(mask_of(self.writes));
-        state.write_u64(mask_of(self.first));
+        state.write_u64(word_of(self));
     }
 }
 
@@ -130,6 +126,24 @@ fn mask_of(set: ResourceSet) -> u64
     ensures { result ≡ mask_of set }
 {
     set.iter().fold(0u64, |mask, l| mask | 1 << (l % 64))
+}
+
+/// A word with another behind it, in one word.
+fn with_word(word: u64, behind: u64) -> u64
+    ensures { result ≡ with_word word behind }
+{
+    word.wrapping_mul(0x9e37_79b9_7f4a_7c15)
+        .wrapping_add(behind)
+}
+
+/// All that a key says, in one word: one is hashed sooner than five, and keys that differ may share it.
+fn word_of(key: &ShapeKey) -> u64
+    ensures { result ≡ word_of key.now }
+{
+    let who = with_word(key.task as u64, key.kind as u64);
+    let reads = with_word(who, mask_of(key.reads));
+    let writes = with_word(reads, mask_of(key.writes));
+    with_word(writes, mask_of(key.first))
 }
 
 /// The number of a kind.

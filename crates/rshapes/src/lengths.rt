@@ -15,6 +15,13 @@ pub(crate) fn same_shape(a: &Request, b: &Request) -> bool
         && a.first() == b.first()
 }
 
+/// Whether a request has no smaller lengths than another.
+pub(crate) fn is_as_long(known: &Request, other: &Request) -> bool
+    ensures { result ≡ true → lengthened known.now other.now ≡ known.now }
+{
+    other.len() <= known.len() && other.later() <= known.later()
+}
+
 /// The request with the greater lengths of two requests of one shape.
 pub(crate) fn lengthened(known: &Request, other: &Request) -> Request
     requires { same_shape other.now known.now ≡ true }

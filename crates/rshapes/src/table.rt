@@ -4,7 +4,7 @@ ghost use Rattle.rshapes.specs.Shapes.{is_shape_of, taken_over, with_shape, shap
 ghost use Rattle.rshapes.specs.Kept.{shapes_in, IsTable};
 
 use crate::key::{AskedSet, ShapeKey, key_of};
-use crate::lengths::{lengthened, same_shape};
+use crate::lengths::{is_as_long, lengthened, same_shape};
 use indexmap::IndexSet;
 use rclaim::Request;
 use rset::ResourceSet;
@@ -44,7 +44,9 @@ pub(crate) fn take_over(entries: &mut Vec<Entry>, place: usize, task: u8, reques
     ensures { shapes_in entries.new.items ≡ taken_over (shapes_in entries.old.items) place request.now }
 {
     let entry = &mut entries[place];
-    entry.request = lengthened(&entry.request, request);
+    if !is_as_long(&entry.request, request) {
+        entry.request = lengthened(&entry.request, request);
+    }
 }
 
 /// One ask more of the shape at a place, and its number among the different ones of the shape.
