@@ -28,7 +28,7 @@ use Rattle.rforms.proofs.written.Reaching.{accepted_from}
 use Rattle.rreport.specs.Behind.{past_in, IsToldWhole}
 use Rattle.rreport.specs.Gathered.{KnowsGathered}
 use Rattle.rreport.specs.Report.{ReportFields}
-use Rattle.rreport.specs.Told.{told, leaves_from}
+use Rattle.rpage.specs.Told.{told, leaves_from}
 use Rattle.rreport.proofs.Parts.{parts_are}
 use Rattle.rwaits.specs.Past.{begun}
 use Rattle.rreading.specs.Knows.{Knows}

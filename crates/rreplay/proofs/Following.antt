@@ -21,7 +21,7 @@ use Rattle.rforms.proofs.lists.NoActs.{no_act}
 use Rattle.rforms.proofs.lists.Places.{placed, none_due, up_to_five}
 use Rattle.rforms.specs.Waits.{ended_in, no_bounds}
 use Rattle.rreport.specs.Open.{open_told}
-use Rattle.rreport.specs.Told.{step_told}
+use Rattle.rpage.specs.Told.{step_told}
 use Rattle.rreport.proofs.Opening.{open-append}
 use Rattle.rreplay.specs.Replaying.{history_text}
 

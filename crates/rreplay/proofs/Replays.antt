@@ -25,7 +25,7 @@ use Rattle.rforms.proofs.lists.Places.{up_to_five}
 use Rattle.rreport.specs.Behind.{past_in, ComesNext}
 use Rattle.rreport.specs.Gathered.{KnowsGathered}
 use Rattle.rreport.specs.Open.{open_told}
-use Rattle.rreport.specs.Told.{step_told}
+use Rattle.rpage.specs.Told.{step_told}
 use Rattle.rreading.specs.Knows.{Knows, StandBehind, changes_in}
 use Rattle.rreading.specs.declared.reading.Reading.{Reading}
 use Rattle.rreplay.specs.Names.{names_read}

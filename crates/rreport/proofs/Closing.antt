@@ -18,12 +18,14 @@ use Rattle.rforms.specs.WrongBounds.{bound_told}
 use Rattle.rforms.specs.declared.word.Stage.{Stage}
 use Rattle.rforms.proofs.lists.ToldWaits.{each_told}
 use Rattle.rreport.specs.Behind.{past_in, bound_by}
-use Rattle.rreport.specs.Gaps.{solid, gaps_in, bound_text, filled}
-use Rattle.rreport.specs.Open.{cover_text, open_line, open_told, bounds_of}
-use Rattle.rreport.specs.Told.{told, told_line}
+use Rattle.rpage.specs.Waits.{bound_text}
+use Rattle.rreport.specs.Gaps.{solid, gaps_in, filled}
+use Rattle.rpage.specs.Waits.{cover_text}
+use Rattle.rreport.specs.Open.{open_line, open_told, bounds_of}
+use Rattle.rpage.specs.Told.{told, told_line}
 use Rattle.rreport.proofs.Gaps.{solid_gaps, filled-solid}
 use Rattle.rreport.proofs.Opening.{open-append}
-use Rattle.rreport.proofs.Rows.{line_is}
+use Rattle.rpage.proofs.Rows.{line_is}
 
 five_behind : (a b c d e z : List ℕ) → (a ++ (b ++ (c ++ (d ++ e)))) ++ z ≡ a ++ (b ++ (c ++ (d ++ (e ++ z))))
 five_behind a b c d e z =

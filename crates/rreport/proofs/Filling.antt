@@ -5,7 +5,8 @@ use Rattle.std.proofs.lemmas.List.{append-nil, take_more, drop_more, length-take
 use Rattle.std.proofs.lemmas.Option.{get_or_from_slice_get}
 use Rattle.std.proofs.Math.Seq.{take-length}
 use Rattle.rbound.specs.Bounds.{Numbers}
-use Rattle.rreport.specs.Gaps.{solid, with_gaps, AreRising, bound_text, filled}
+use Rattle.rpage.specs.Waits.{bound_text}
+use Rattle.rreport.specs.Gaps.{solid, with_gaps, AreRising, filled}
 use Rattle.rreport.proofs.Gaps.{rising_le, gaps-append, gaps-push, gaps_are, filled-solid, filled-whole, filled-append}
 
 -- a part of a text, as a range takes it

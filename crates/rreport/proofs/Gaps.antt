@@ -2,7 +2,8 @@
 use Rattle.std.proofs.Common.{◌≡◌, ℕ, suc, ◌≤◌, List, [], ◌∷◌, ◌++◌, take, drop, length, Option, Some, None, refl, sym, ap, ◌∙◌, arith, append_assoc}
 use Rattle.std.proofs.lemmas.List.{map-append, drop-append-le, take-append-le}
 use Rattle.rbound.specs.Bounds.{Numbers}
-use Rattle.rreport.specs.Gaps.{solid, with_gaps, AreRising, gaps_in, bound_text, filled}
+use Rattle.rpage.specs.Waits.{bound_text}
+use Rattle.rreport.specs.Gaps.{solid, with_gaps, AreRising, gaps_in, filled}
 
 -- ---- places that rise
 

@@ -1,11 +1,6 @@
 pub mod Gaps
 pub mod Filling
 pub mod Opening
-pub mod Puts
-pub mod Rows
-pub mod Sets
-pub mod Tables
-pub mod Growing
 pub mod Writing
 pub mod Gathering
 pub mod Closing

@@ -10,7 +10,7 @@ use Rattle.rforms.specs.Lines.{Line}
 use Rattle.rforms.specs.Reports.{status_lines}
 use Rattle.rreport.specs.Gaps.{solid, with_gaps, AreRising}
 use Rattle.rreport.specs.Open.{open_line, open_told}
-use Rattle.rreport.specs.Told.{told}
+use Rattle.rpage.specs.Told.{told}
 use Rattle.rreport.proofs.Gaps.{rising_longer, rising_push, gaps-append, gaps-push}
 
 -- ---- the bytes grow

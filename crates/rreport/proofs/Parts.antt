@@ -14,8 +14,8 @@ use Rattle.rforms.specs.Reports.{Entry, ledger_after, declared_lines, history_li
 use Rattle.rforms.specs.Texts.{report_text}
 use Rattle.rforms.specs.Waits.{bound_in}
 use Rattle.rreport.specs.Report.{ReportFields, told_by, HasItsLedgers}
-use Rattle.rreport.specs.Told.{told, leaves_from}
-use Rattle.rreport.proofs.Growing.{told-append}
+use Rattle.rpage.specs.Told.{told, leaves_from}
+use Rattle.rpage.proofs.Growing.{told-append}
 
 leaves_are : (f : ℕ → Ledger) (a n : ℕ) → leaves_from a (map f (range_with_len a n)) ≡ map (λ l. Leaves l (f l)) (range_with_len a n)
 leaves_are f a zero = refl

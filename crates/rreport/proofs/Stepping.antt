@@ -18,7 +18,7 @@ use Rattle.rforms.proofs.written.Reaching.{after_is, accepted_from}
 use Rattle.rreport.specs.Behind.{past_in}
 use Rattle.rreport.specs.Open.{open_told}
 use Rattle.rreport.specs.Report.{ReportFields, told_by, IsOverResources}
-use Rattle.rreport.specs.Told.{entry_told}
+use Rattle.rpage.specs.Told.{entry_told}
 use Rattle.rreport.proofs.Opening.{open_grown}
 
 -- what holds of each item in turn holds of the item at a place

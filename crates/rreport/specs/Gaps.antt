@@ -1,7 +1,7 @@
 -- Texts with gaps: where the bound of a wait belongs, a text stays open until the bound is known.
 use Rattle.std.specs.Prelude.{◌≤◌, ℕ, suc, List, [], ◌∷◌, ◌++◌, map, take, drop, decimal, Option, Some, None}
 use Rattle.rbound.specs.Bounds.{Numbers}
-use Rattle.rforms.specs.Texts.{behind_comma}
+use Rattle.rpage.specs.Waits.{bound_text}
 
 -- bytes without a gap
 abbrev pub solid : List ℕ → List (Option ℕ)
@@ -22,10 +22,6 @@ abbrev pub gaps_in : List (Option ℕ) → ℕ
 gaps_in [] = 0
 gaps_in (Some byte ∷ text) = gaps_in text
 gaps_in (None ∷ text) = suc (gaps_in text)
-
--- what stands in a gap once it is filled: a bound, and the end of its line
-abbrev pub bound_text : Numbers → List ℕ
-bound_text bound = behind_comma (decimal bound.reads) ++ (behind_comma (decimal bound.writes) ++ (behind_comma (decimal bound.units) ++ 10 ∷ []))
 
 -- a text whose gaps are filled with these bounds, in their order
 abbrev pub filled : List Numbers → List (Option ℕ) → List ℕ

@@ -1,8 +1,6 @@
-pub mod Told
 pub mod Gaps
 pub mod Open
 pub mod Gathered
 pub mod Behind
 pub mod Report
 pub mod Codes
-pub mod ErrorLine

@@ -9,14 +9,9 @@ use Rattle.rforms.specs.Texts.{behind_comma}
 use Rattle.rforms.specs.Words.{stage_text}
 use Rattle.rforms.specs.WrongBounds.{bound_told}
 use Rattle.rforms.specs.declared.word.Stage.{Stage}
+use Rattle.rpage.specs.Told.{told_line}
+use Rattle.rpage.specs.Waits.{cover_text}
 use Rattle.rreport.specs.Gaps.{solid}
-use Rattle.rreport.specs.Told.{told_line}
-
--- how the line of a wait begins: whose it was, which, and its cover
-abbrev pub cover_text : Names → ℕ → Stage → Numbers → List ℕ
-cover_text names seat stage cover =
-    codes "wait," ++ (name_at names.tasks seat ++ (behind_comma (stage_text stage)
-    ++ (behind_comma (decimal cover.reads) ++ (behind_comma (decimal cover.writes) ++ behind_comma (decimal cover.units)))))
 
 -- the text of one line; in that of a wait a gap stands for its bound
 abbrev pub open_line : Names → Line → List (Option ℕ)

@@ -5,12 +5,12 @@ ghost use Rattle.rforms.specs.Heads.{Head, read_groups};
 ghost use Rattle.rforms.specs.Reports.{Entry, history_lines};
 ghost use Rattle.rforms.specs.Waits.{bound_in};
 ghost use Rattle.rreport.specs.Behind.{IsToldWhole};
-ghost use Rattle.rreport.specs.Told.{told};
+ghost use Rattle.rpage.specs.Told.{told};
 
 use crate::gathered::Gathered;
 use crate::open::OpenText;
-use crate::page::Page;
 use rexpand::Groups;
+use rpage::Page;
 use std::alloc::{AllocError, Global};
 
 /// The text of a history that was told whole, with the bounds of the waits that it ended, over its groups and under its cap.

@@ -5,12 +5,12 @@ ghost use Rattle.rforms.specs.Lines.{Happens, Does};
 ghost use Rattle.rforms.specs.Reports.{status_lines, grant_line, wait_line};
 ghost use Rattle.rforms.specs.Waits.{no_bounds};
 ghost use Rattle.rreport.specs.Open.{open_told};
-ghost use Rattle.rreport.specs.Told.{entry_told, step_told};
+ghost use Rattle.rpage.specs.Told.{entry_told, step_told};
 
-use crate::names::NameRows;
 use crate::open::OpenText;
 use rclaim::{Changes, Event, GrantChange, StatusChange};
 use rcover::WaitEnd;
+use rpage::NameRows;
 use rvalue::{Act, Edit, Entry};
 use std::alloc::AllocError;
 

@@ -8,15 +8,13 @@ ghost use Rattle.rforms.specs.Reports.{history_lines};
 ghost use Rattle.rforms.specs.Texts.{report_text};
 ghost use Rattle.rforms.specs.Written.{MayBeWritten};
 ghost use Rattle.rreport.specs.Report.{told_by, IsOverResources, HasItsLedgers};
-ghost use Rattle.rreport.specs.Told.{told};
+ghost use Rattle.rpage.specs.Told.{told};
 ghost use Rattle.rreport.specs.declared.write.WriteErr.TheVariants as cause;
 
-use crate::ending::ending_of;
-use crate::head::head_of;
 use crate::history::history_of;
-use crate::names::NameRows;
 use crate::report::Report;
 use io_ends::{Sink, WriteFault, write_all};
+use rpage::{NameRows, ending_of, head_of};
 use std::alloc::{AllocError, Global};
 use thiserror::Error;
 

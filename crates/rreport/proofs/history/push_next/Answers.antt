@@ -10,7 +10,7 @@ use Rattle.rforms.specs.Reports.{Entry}
 use Rattle.rreport.specs.Behind.{AreBehind}
 use Rattle.rreport.specs.Gathered.{KnowsGathered}
 use Rattle.rreport.specs.Open.{open_told}
-use Rattle.rreport.specs.Told.{entry_told}
+use Rattle.rpage.specs.Told.{entry_told}
 use Rattle.rreport.proofs.Writing.{always_on_ok}
 use Rattle.rreport.proofs.history.push_next.Goals as goal
 

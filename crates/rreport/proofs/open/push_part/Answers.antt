@@ -1,7 +1,7 @@
 use Rattle.std.proofs.Common.{ℕ, List, ◌++◌, take, drop, ap, ◌∙◌, append_assoc}
 use Rattle.std.proofs.lemmas.Result.{on_ok_weaker}
 use Rattle.rbound.specs.Bounds.{numbers_in}
-use Rattle.rreport.specs.Gaps.{bound_text}
+use Rattle.rpage.specs.Waits.{bound_text}
 use Rattle.rreport.proofs.Filling.{part_is}
 use Rattle.rreport.proofs.open.push_part.Goals as goal
 

@@ -1,5 +1,5 @@
 use Rattle.rforms.specs.Lines.{Does}
-use Rattle.rreport.specs.Told.{told_line}
+use Rattle.rpage.specs.Told.{told_line}
 use Rattle.rreport.proofs.Opening.{still_rising, grown_open}
 use Rattle.rreport.proofs.open.OpenText.push_act.Goals as goal
 

@@ -2,7 +2,7 @@ use Rattle.std.proofs.Common.{◌≡◌, ◌++◌, OnOk, sym, subst}
 use Rattle.std.specs.Prelude.{List, Option, ℕ}
 use Rattle.rforms.specs.Reports.{status_lines}
 use Rattle.rreport.specs.Gaps.{with_gaps}
-use Rattle.rreport.specs.Told.{told}
+use Rattle.rpage.specs.Told.{told}
 use Rattle.rreport.proofs.Opening.{still_rising, grown_open, status_open}
 use Rattle.rreport.proofs.open.OpenText.push_status.Goals as goal
 

@@ -1,6 +1,6 @@
 use Rattle.std.proofs.Common.{◌++◌, ◌∷◌, [], ap, ◌∙◌}
 use Rattle.rforms.specs.Waits.{stage_of, cover_of}
-use Rattle.rreport.specs.Open.{cover_text}
+use Rattle.rpage.specs.Waits.{cover_text}
 use Rattle.rreport.proofs.Opening.{still_rising, gap_put, gap_rising}
 use Rattle.rreport.proofs.open.OpenText.push_wait.Goals as goal
 
