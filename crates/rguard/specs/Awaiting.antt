@@ -1,15 +1,11 @@
 -- What waits are for.
-use Rattle.std.specs.Prelude.{◌≡◌, []}
-use Rattle.rset.specs.declared.TheConstants.{RESOURCES}
-use Rattle.rstate.specs.Lent.{LentFields}
-use Rattle.rguard.specs.declared.kind.GuardKind.{GuardKind}
-use Rattle.rguard.specs.declared.kind.GuardKind.TheVariants as kinds
-use Rattle.rguard.specs.declared.kind.Awaited.{Awaited}
-use Rattle.rguard.specs.declared.kind.Awaited.TheVariants.{Read, Write, Rise, Nest}
-
--- nothing is lent, and there is room for all resources
-abbrev pub no_loans : {V : Type 0} → LentFields V
-no_loans = record { reads = []; writes = []; reads_room = RESOURCES; writes_room = RESOURCES }
+use Rattle.std.specs.Prelude.{◌≡◌}
+use Rattle.rlent.specs.declared.kind.GuardKind.{GuardKind}
+use Rattle.rlent.specs.declared.kind.GuardKind.TheVariants as kinds
+use Rattle.rlent.specs.Sections.{SectionFields, no_loans}
+use Rattle.rguard.specs.Guards.{WaitFields}
+use Rattle.rguard.specs.declared.awaited.Awaited.{Awaited}
+use Rattle.rguard.specs.declared.awaited.Awaited.TheVariants.{Read, Write, Rise, Nest}
 
 module _ {T : Type 0} where
   -- the kind of the guard
@@ -25,3 +21,7 @@ module _ {T : Type 0} where
   HasNext Write = Unit {0}
   HasNext (Rise next alloc) = next ≡ no_loans
   HasNext Nest = Unit {0}
+
+-- what contracts see of the wait of a section
+abbrev pub waiting : {V E : Type 0} → SectionFields V E → GuardKind → WaitFields V E
+waiting s kind = record { site = s.site; seat = s.seat; acts = s.acts; kind = kind }

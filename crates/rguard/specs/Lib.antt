@@ -1,7 +1,5 @@
 pub mod Seats
 pub mod Guards
-pub mod Sections
-pub mod Copies
 pub mod Awaiting
 pub mod Looks
 pub mod Closing

@@ -4,9 +4,10 @@ ghost use Rattle.rguard.specs.Seats.{IsOf, IsIdle, SuitsSeat, Goes, bare};
 ghost use Rattle.rguard.specs.Looks.{HasAwaited, HasAcquired, fields_of};
 
 use crate::guard::Guard;
-use crate::lock::{Lock, Seat};
+use crate::lock::Lock;
 use crate::pending::{Looked, Pending};
 use rclaim::Request;
+use rlent::Seat;
 use rmodel::Machine;
 use rstate::State;
 use rvalue::Editable;

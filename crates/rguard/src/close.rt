@@ -9,7 +9,8 @@ ghost use Rattle.rstate.specs.Histories.{Beginning, IsLawfulFrom};
 ghost use Rattle.rguard.specs.Seats.{IsOf, IsIdle};
 ghost use Rattle.rguard.specs.Closing.{IsClosedBy};
 
-use crate::lock::{Lock, Rnlp, Seat};
+use crate::lock::Lock;
+use rlent::Seat;
 use rmodel::Machine;
 use rstate::State;
 use rvalue::{Editable, History};
@@ -57,7 +58,8 @@ impl<T: Editable, M: Machine> Lock<State<T, M>> {
         ensures seats { All (λ seat. IsClosedBy T.after T.taken T.number result.0.entries (map arc_value result.1.items) seat) seats.items }
         ensures receipt { result.2 ≡ result.0.entries }
     {
-        let Lock { gate, seats: _ } = self;
+        let Lock { gate } = self;
+        let gate = gate.into_gate();
         let state = gate.close(seats);
         let _ = state.history();
         let (history, values) = state.into_parts();

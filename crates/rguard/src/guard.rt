@@ -1,15 +1,15 @@
 //! Guards by kind.
 ghost use Rattle.std.specs.Prelude.{◌≡◌};
 ghost use Rattle.rguard.specs.Awaiting.{awaited_kind, HasNext};
-ghost use Rattle.rguard.specs.Sections.{Holds, guarded};
+ghost use Rattle.rlent.specs.Sections.{Holds, guarded};
 ghost use Rattle.rguard.specs.Looks.{fields_of, kind_of};
 
-use crate::kind::Awaited;
+use crate::awaited::Awaited;
 use crate::nest::NestGuard;
 use crate::read::ReadGuard;
 use crate::rise::RiseGuard;
-use crate::section::Section;
 use crate::write::WriteGuard;
+use rlent::Section;
 use rmodel::Machine;
 use rvalue::Editable;
 

@@ -5,7 +5,8 @@ ghost use Rattle.rlock.specs.Known.{newcomer};
 ghost use Rattle.rstate.specs.Histories.{Beginning};
 ghost use Rattle.rguard.specs.Seats.{IsOf, IsIdle};
 
-use rlock::{Gate, Kept, Pass};
+use rlent::{CountedGate, Seat};
+use rlock::{Gate, Kept};
 use rmodel::Machine;
 use rstate::State;
 use rvalue::Editable;
@@ -15,27 +16,19 @@ use std::marker::Model;
 /// A state behind a gate, which threads may share. Contracts see which gate it is, and the number of its passes.
 #[derive(Drop)]
 pub struct Lock<S: Kept> {
-    pub(crate) gate: Gate<S>,
-    pub(crate) seats: u8,
+    pub(crate) gate: CountedGate<S>,
 }
 
 impl<S: Kept> Model for Lock<S> {
-    ghost use Rattle.std.specs.Prelude.{◌≡◌, ◌<◌};
     ghost use Rattle.rlock.specs.Known.{Site};
 
     ghost Value = { Site };
 
     ghost view = { λ a. a.gate };
-
-    ghost invariant = { λ a. (a.seats ≡ a.gate.passes) × (0 < a.seats) };
 }
 
 /// A runtime of reader and writer locks over many resources: the locked state behind a gate.
 pub type Rnlp<T, M> = Lock<State<T, M>>;
-
-/// A seat at a runtime: a right to issue requests there, one after another. It is a pass at the gate, so whoever has it in hand has no
-/// turn.
-pub type Seat<T, M> = Pass<State<T, M>>;
 
 impl<T: Editable, M: Machine> Lock<State<T, M>> {
     /// A runtime over a machine at which nothing was done, with a value for each resource, and its seats, numbered from 0 in order.
@@ -63,6 +56,7 @@ impl<T: Editable, M: Machine> Lock<State<T, M>> {
         let _ = machine.seats();
         let state = State::new(alloc, machine, values)?;
         let (gate, all) = Gate::new(alloc, state, seats)?;
-        Ok((Lock { gate, seats }, all))
+        let gate = CountedGate::new(gate, seats);
+        Ok((Lock { gate }, all))
     }
 }

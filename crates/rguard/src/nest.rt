@@ -6,11 +6,10 @@ ghost use Rattle.rguard.specs.Seats.{Goes, IsOneTurn, IsIdle, bare};
 ghost use Rattle.rguard.specs.Guards.{HasSeenLawful, HasSeenOwn, Holding, HoldingToWrite, HasValue, IsPartOf, KeepsValues, HasAsked, IsReady};
 
 use crate::acquiring::wait_for;
+use crate::awaited::Awaited;
 use crate::guard::Guard;
-use crate::kind::Awaited;
-use crate::lock::Seat;
 use crate::pending::Pending;
-use crate::section::Section;
+use rlent::{Seat, Section};
 use rmodel::Machine;
 use rset::ResourceSet;
 use rvalue::Editable;
@@ -25,8 +24,8 @@ pub struct NestGuard<'a, T: Editable, M: Machine> {
 
 impl<'a, T: Editable, M: Machine> Model for NestGuard<'a, T, M> {
     ghost use Rattle.rguard.specs.Guards.{GuardFields};
-    ghost use Rattle.rguard.specs.Sections.{Holds, guarded};
-    ghost use Rattle.rguard.specs.declared.kind.GuardKind.TheVariants.{Nest};
+    ghost use Rattle.rlent.specs.Sections.{Holds, guarded};
+    ghost use Rattle.rlent.specs.declared.kind.GuardKind.TheVariants.{Nest};
     ghost use Rattle.std.specs.Coded.{codes};
     ghost use Rattle.rclaim.specs.Codes.{set_code};
 

@@ -1,16 +1,16 @@
 //! Waits for a guard.
 ghost use Rattle.std.specs.Prelude.{◌≡◌, [], IfOk, IfErr};
+ghost use Rattle.rlent.specs.Sections.{no_loans};
 ghost use Rattle.rguard.specs.Seats.{IsOf, IsIdle, SuitsSeat, Goes};
-ghost use Rattle.rguard.specs.Awaiting.{awaited_kind, HasNext, no_loans};
+ghost use Rattle.rguard.specs.Awaiting.{awaited_kind, HasNext};
 ghost use Rattle.rguard.specs.Guards.{HasSeenLawful, HasSeenOwn, HasBegun, kind_for};
-ghost use Rattle.rguard.specs.Sections.{Waits, waiting};
 ghost use Rattle.rguard.specs.Looks.{LooksAt};
 
+use crate::awaited::{Awaited, room_for_all};
 use crate::guard::{Guard, guard_of};
-use crate::kind::{Awaited, room_for_all};
-use crate::lock::{Lock, Rnlp, Seat};
-use crate::section::Section;
+use crate::lock::Lock;
 use rclaim::{Kind, Request};
+use rlent::{Seat, Section};
 use rmodel::Machine;
 use rstate::{Lent, State};
 use rvalue::Editable;
@@ -28,7 +28,8 @@ pub struct Pending<'a, T: Editable, M: Machine> {
 impl<'a, T: Editable, M: Machine> Model for Pending<'a, T, M> {
     ghost use Rattle.rguard.specs.Awaiting.{awaited_kind, HasNext};
     ghost use Rattle.rguard.specs.Guards.{WaitFields};
-    ghost use Rattle.rguard.specs.Sections.{Waits, waiting};
+    ghost use Rattle.rlent.specs.Sections.{Waits};
+    ghost use Rattle.rguard.specs.Awaiting.{waiting};
     ghost use Rattle.std.specs.Coded.{codes};
     ghost use Rattle.rclaim.specs.Codes.{set_code};
 
@@ -95,25 +96,8 @@ impl<T: Editable, M: Machine> Lock<State<T, M>> {
         ensures err { IfErr result (λ e. Goes seat [] e.0) }
         ensures idle { IfErr result (λ e. IsIdle e.0) }
     {
-        let number = seat.number();
-        let mut turn = self.gate.enter(rt, seat);
-        let state = turn.state();
-        let _ = state.history();
-        let _ = state.machine();
-        match state.issue(number, request) {
-            Ok(()) => {
-                let _ = state.history();
-                let section = Section {
-                    lock: self,
-                    seat: self.gate.leave(turn),
-                    lent,
-                    own: Vec::new(alloc),
-                    acts: Vec::new(alloc),
-                };
-                Ok(Pending { section, awaited })
-            }
-            Err(e) => Err((self.gate.leave(turn), e)),
-        }
+        let section = Section::issue(&self.gate, rt, alloc, seat, request, lent)?;
+        Ok(Pending { section, awaited })
     }
 }
 
@@ -133,7 +117,10 @@ impl<'a, T: Editable, M: Machine> Pending<'a, T, M> {
         ensures { LooksAt self.entry result }
     {
         let Pending { section, awaited } = self;
-        section.look(rt, awaited)
+        match section.look(rt) {
+            Ok(section) => Looked::Ready(guard_of(awaited, section)),
+            Err(section) => Looked::NotYet(Pending { section, awaited }),
+        }
     }
 
     /// Rests between two looks: lets another thread have this processor, if one waits for it.
@@ -144,47 +131,6 @@ impl<'a, T: Editable, M: Machine> Pending<'a, T, M> {
         // Whoever holds what is waited for may need this processor.
         thread::yield_now();
         self
-    }
-}
-
-impl<'a, T: Editable, M: Machine> Section<'a, T, M> {
-    // Looks at the wait of the section for this.
-    fn look<R: Wait>(self, rt: &R, awaited: Awaited<T>) -> Looked<'a, T, M>
-        requires waits { Waits T.after T.taken T.number (awaited_kind awaited) self }
-        requires next { HasNext awaited }
-        ensures { LooksAt (waiting self.entry (awaited_kind awaited)) result }
-    {
-        let Section {
-            lock,
-            seat,
-            mut lent,
-            own,
-            acts,
-        } = self;
-        let number = seat.number();
-        let mut turn = lock.gate.enter(rt, seat);
-        let state = turn.state();
-        let _ = state.history();
-        if state.ready(number) {
-            state.take(number, &mut lent);
-            let section = Section {
-                lock,
-                seat: lock.gate.leave(turn),
-                lent,
-                own,
-                acts,
-            };
-            Looked::Ready(guard_of(awaited, section))
-        } else {
-            let section = Section {
-                lock,
-                seat: lock.gate.leave(turn),
-                lent,
-                own,
-                acts,
-            };
-            Looked::NotYet(Pending { section, awaited })
-        }
     }
 }
 

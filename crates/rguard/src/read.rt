@@ -5,8 +5,7 @@ ghost use Rattle.rvalue.specs.declared.act.Act.TheVariants.{Shown};
 ghost use Rattle.rguard.specs.Seats.{Goes, IsOneTurn, IsIdle, bare};
 ghost use Rattle.rguard.specs.Guards.{HasSeenLawful, HasSeenOwn, Holding, HasValue};
 
-use crate::lock::Seat;
-use crate::section::Section;
+use rlent::{Seat, Section};
 use rmodel::Machine;
 use rvalue::Editable;
 use std::alloc::{AllocError, Global};
@@ -20,8 +19,8 @@ pub struct ReadGuard<'a, T: Editable, M: Machine> {
 
 impl<'a, T: Editable, M: Machine> Model for ReadGuard<'a, T, M> {
     ghost use Rattle.rguard.specs.Guards.{GuardFields};
-    ghost use Rattle.rguard.specs.Sections.{Holds, guarded};
-    ghost use Rattle.rguard.specs.declared.kind.GuardKind.TheVariants.{Read};
+    ghost use Rattle.rlent.specs.Sections.{Holds, guarded};
+    ghost use Rattle.rlent.specs.declared.kind.GuardKind.TheVariants.{Read};
     ghost use Rattle.std.specs.Coded.{codes};
     ghost use Rattle.rclaim.specs.Codes.{set_code};
 

@@ -6,12 +6,11 @@ ghost use Rattle.rguard.specs.Seats.{Goes, IsOneTurn, IsIdle, bare};
 ghost use Rattle.rguard.specs.Guards.{HasSeenLawful, HasSeenOwn, Holding, HasValue, IsReady};
 
 use crate::acquiring::wait_for;
+use crate::awaited::Awaited;
 use crate::guard::Guard;
-use crate::kind::{Awaited, GuardKind};
-use crate::lock::Seat;
 use crate::pending::Pending;
-use crate::section::Section;
 use crate::write::WriteGuard;
+use rlent::{GuardKind, Seat, Section};
 use rmodel::Machine;
 use rstate::Lent;
 use rvalue::Editable;
@@ -29,10 +28,10 @@ pub struct RiseGuard<'a, T: Editable, M: Machine> {
 
 impl<'a, T: Editable, M: Machine> Model for RiseGuard<'a, T, M> {
     ghost use Rattle.std.specs.Prelude.{◌≡◌};
-    ghost use Rattle.rguard.specs.Awaiting.{no_loans};
+    ghost use Rattle.rlent.specs.Sections.{no_loans};
     ghost use Rattle.rguard.specs.Guards.{GuardFields};
-    ghost use Rattle.rguard.specs.Sections.{Holds, guarded};
-    ghost use Rattle.rguard.specs.declared.kind.GuardKind.TheVariants.{Rise};
+    ghost use Rattle.rlent.specs.Sections.{Holds, guarded};
+    ghost use Rattle.rlent.specs.declared.kind.GuardKind.TheVariants.{Rise};
     ghost use Rattle.std.specs.Coded.{codes};
     ghost use Rattle.rclaim.specs.Codes.{set_code};
 

@@ -8,7 +8,7 @@ use Rattle.rguard.proofs.close.Lock+State+T+M.close.Goals as goal
 pub into_parts-history-requires-after_bounds : goal.into_parts-history-requires-after_bounds
 into_parts-history-requires-after_bounds g c κs within =
     no_request g.T.Editable.after g.T.Editable.taken g.T.Editable.number c.args.self c.args.seats.items c.close-state.result c.requires.of c.requires.idle c.requires.all c.close-state.ensures.passes c.history.ensures.lawful
-    (let some : 0 < c.self.inside.gate.passes = subst (λ n. 0 < n) c.self.invariant.0 c.self.invariant.1 in subst (λ s. 0 < s.passes) c.self.view_is some)
+    (subst (λ s. 0 < s.passes) c.self.view_is c.into_gate-gate.ensures.some)
 
 pub returns-clause-seats : goal.returns-clause-seats
 returns-clause-seats g c = λ k d less.

@@ -1,5 +1,6 @@
 use Rattle.std.proofs.Common.{◌≡◌, ◌<◌, ◌≤◌, refl, sym, ap, subst, ◌∙◌}
 use Rattle.std.proofs.lemmas.Option.{get_or_from_slice_get}
+use Rattle.rlock.specs.Known.{Site}
 use Rattle.rstate.specs.Histories.{Beginning}
 use Rattle.rguard.specs.Seats.{SeatOf, IsOf, IsIdle}
 use Rattle.rguard.proofs.lock.Lock+State+T+M.new.Goals as goal
@@ -10,13 +11,13 @@ returns-clause-seats g c = λ k d less.
     let E = g.row.T-Edit.Denot in
     let below : k < c.args.seats = subst (λ n. k < n) c.in_ok-gate.ensures.count.1 less in
     let seats : c.in_ok-state.state.beginning.seats ≡ c.args.seats = ap (λ (b : Beginning V). b.seats) c.in_ok-state.ensures.beginning ∙ sym c.requires.seats in
-    subst (λ (s : SeatOf V E). IsOf c.in_ok-gate.gate s × IsIdle s) (sym (get_or_from_slice_get c.in_ok-gate.all.items k _ d (c.in_ok-gate.ensures.each k below))) (
+    subst (λ (s : SeatOf V E). IsOf c.new-gate.result s × IsIdle s) (sym (get_or_from_slice_get c.in_ok-gate.all.items k _ d (c.in_ok-gate.ensures.each k below))) (
       record {
-        gate = refl;
+        gate = ap (λ (site : Site). site.gate) (sym c.new-gate.ensures);
         began = c.in_ok-state.state.beginning;
         opening = refl;
         there = subst (λ n. k < n) (sym seats) below;
-        all = seats ∙ sym c.in_ok-gate.ensures.count.0;
+        all = seats ∙ sym c.in_ok-gate.ensures.count.0 ∙ ap (λ (site : Site). site.passes) (sym c.new-gate.ensures);
         enough = subst (λ (b : Beginning V). b.seats ≤ b.cap) (sym c.in_ok-state.ensures.beginning) (subst (λ n. n ≤ (g.M.Machine.state c.args.machine).cap) c.requires.seats c.requires.cap);
       },
       refl,

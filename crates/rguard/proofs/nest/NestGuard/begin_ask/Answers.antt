@@ -1,8 +1,9 @@
 use Rattle.std.proofs.Common.{◌≡◌, [], refl, sym, ap, subst, ◌∙◌}
 use Rattle.rguard.specs.Guards.{GuardFields, HasAsked, IsPartOf, KeepsValues}
 use Rattle.rguard.specs.Seats.{Goes}
-use Rattle.rguard.specs.Sections.{guarded, waiting}
-use Rattle.rguard.specs.declared.kind.GuardKind.TheVariants.{Nest}
+use Rattle.rlent.specs.Sections.{guarded}
+use Rattle.rguard.specs.Awaiting.{waiting}
+use Rattle.rlent.specs.declared.kind.GuardKind.TheVariants.{Nest}
 use Rattle.rguard.proofs.Going.{goes_nowhere}
 use Rattle.rguard.proofs.nest.NestGuard.begin_ask.Goals as goal
 

@@ -1,5 +1,5 @@
 use Rattle.std.proofs.Common.{subst}
-use Rattle.rguard.specs.declared.kind.GuardKind.TheVariants as kinds
+use Rattle.rlent.specs.declared.kind.GuardKind.TheVariants as kinds
 use Rattle.rguard.specs.Guards.{GuardFields, HasSeenLawful, HasSeenOwn}
 use Rattle.rguard.proofs.Seeing.{lawful_held, own_held}
 use Rattle.rguard.proofs.nest.NestGuard.seat.Goals as goal

@@ -1,0 +1,53 @@
+//! What waits are for.
+ghost use Rattle.std.specs.Prelude.{◌≡◌, IfOk};
+ghost use Rattle.rlent.specs.Guards.{kind_for};
+ghost use Rattle.rlent.specs.Sections.{no_loans};
+ghost use Rattle.rguard.specs.Awaiting.{awaited_kind, HasNext};
+
+use rclaim::Kind;
+use rset::RESOURCES;
+use rstate::Lent;
+use std::alloc::{AllocError, Global};
+
+/// What a wait is for: the kind of the guard, and what that needs beside its section.
+#[derive(Drop)]
+pub(crate) enum Awaited<T> {
+    Read,
+    Write,
+    /// When an upgrade rises it gives back what it was lent, and is lent other values then: the room for these.
+    Rise { next: Lent<T>, alloc: Global },
+    Nest,
+}
+
+impl<T: Drop> Awaited<T> {
+    /// What a request of this kind waits for. All room is made.
+    ///
+    /// # Errors
+    ///
+    /// Want of memory.
+    pub(crate) fn by(alloc: Global, kind: Kind) -> Result<Awaited<T>, AllocError>
+        ensures kind { IfOk result (λ awaited. awaited_kind awaited ≡ kind_for kind) }
+        ensures next { IfOk result HasNext }
+    {
+        match kind {
+            Kind::Read => Ok(Awaited::Read),
+            Kind::Write | Kind::Mixed => Ok(Awaited::Write),
+            Kind::Upgrade => {
+                let next = room_for_all(alloc)?;
+                Ok(Awaited::Rise { next, alloc })
+            }
+            Kind::Nested => Ok(Awaited::Nest),
+        }
+    }
+}
+
+/// Nothing is lent, and there is room for all resources.
+///
+/// # Errors
+///
+/// Want of memory.
+pub(crate) fn room_for_all<T: Drop>(alloc: Global) -> Result<Lent<T>, AllocError>
+    ensures { IfOk result (λ lent. lent ≡ no_loans) }
+{
+    Lent::new(alloc, usize::from(RESOURCES))
+}

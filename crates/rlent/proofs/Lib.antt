@@ -1,0 +1,17 @@
+pub mod Claims
+pub mod Along
+pub mod Finding
+pub mod Idle
+pub mod Turning
+pub mod Acting
+pub mod Lending
+pub mod Looking
+pub mod Ending
+pub mod Beginning
+pub mod Reading
+pub mod Copying
+pub mod Editing
+pub mod Sharing
+pub mod Halves
+pub mod Rising
+pub mod Asking

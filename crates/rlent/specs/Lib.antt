@@ -1,0 +1,4 @@
+pub mod Seats
+pub mod Guards
+pub mod Sections
+pub mod Copies
