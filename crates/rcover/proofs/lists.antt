@@ -2,6 +2,4 @@
 pub mod Found
 pub mod Different
 pub mod Counting
-pub mod Items
-pub mod Lowest
 pub mod Pushed

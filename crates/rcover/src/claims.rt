@@ -48,15 +48,8 @@ pub(crate) fn reads_against(c: &Claim, d: &Claim) -> bool
 }
 
 /// Whether a claim at a moment is an entitled or satisfied write that conflicts with another.
-pub(crate) fn keeps_out(c: &Claim, x: &Claimed) -> bool
+pub fn keeps_out(c: &Claim, x: &Claimed) -> bool
     ensures { result ≡ keeps_out c.now x.now }
 {
     x.claim.write_half && x.is_active() && conflicts(&x.claim, c)
-}
-
-/// Whether a claim is a write of smaller stamp than another.
-pub(crate) fn is_earlier_write(c: &Claim, d: &Claim) -> bool
-    ensures { result ≡ is_earlier_write c.now d.now }
-{
-    d.write_half && d.stamp < c.stamp
 }

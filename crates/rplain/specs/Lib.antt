@@ -1,4 +1,2 @@
 pub mod Machine
-pub mod NewClaim
-pub mod Sweep
 pub mod Plain

@@ -4,16 +4,7 @@
 //! of claims: in few looks, each of which is proved to come to what the rules say.
 #![tactic(auto)]
 
-mod claims;
-mod give;
-mod left;
 mod list;
-mod new_claim;
 mod plain;
-mod seen;
-mod settle;
-mod sweep;
-mod tell;
-mod way;
 
 pub use plain::Plain;

@@ -5,7 +5,7 @@ ghost use Rattle.rmodel.specs.Claims.{is_read_half};
 ghost use Rattle.rmodel.specs.Holds.{Alone, lacks, holds_of, may_rise, may_ask, is_part_of};
 ghost use Rattle.rmodel.specs.Steps.{asking, is_not_holding};
 ghost use Rattle.rmodel.specs.Changes.{status_in};
-ghost use Rattle.rplain.specs.Sweep.{is_of};
+ghost use Rattle.rsettle.specs.Sweep.{is_of};
 ghost use Rattle.rmodel.specs.WellFormed.{EachPair, Distinct};
 
 use rclaim::Status;
@@ -118,34 +118,4 @@ pub(crate) fn ask(claims: &mut Vec<Claimed>, seat: u8, part: ResourceSet)
     ensures capacity { vec_capacity claims.new ≡ vec_capacity claims.old }
 {
     ask_each(claims, seat, part);
-}
-
-/// Removes the read half of the seat's upgrade.
-pub(crate) fn remove_read_half(claims: &mut Vec<Claimed>, seat: u8)
-    ensures items { claims.new.items ≡ filter (λ x. not ((x.claim.seat == seat) && not x.claim.write_half)) claims.old.items }
-    ensures capacity { vec_capacity claims.new ≡ vec_capacity claims.old }
-{
-    claims.retain(|x| !(x.claim.seat == seat && !x.claim.write_half));
-}
-
-/// Removes the claims of the seat.
-pub(crate) fn remove_seat(claims: &mut Vec<Claimed>, seat: u8)
-    ensures items { claims.new.items ≡ filter (λ x. not (x.claim.seat == seat)) claims.old.items }
-    ensures capacity { vec_capacity claims.new ≡ vec_capacity claims.old }
-{
-    claims.retain(|x| x.claim.seat != seat);
-}
-
-/// Makes `to` a copy of the claims, in the room that it has. The room stays. It is made as long as they are, and then
-/// copied at one go: from copy to copy the length hardly differs.
-pub(crate) fn copy_into(to: &mut Vec<Claimed>, claims: &[Claimed])
-    requires { length claims.now ≤ vec_capacity to.old }
-    ensures items { to.new.items ≡ claims.now }
-    ensures capacity { vec_capacity to.new ≡ vec_capacity to.old }
-{
-    to.truncate(claims.len());
-    for i in to.len()..claims.len() {
-        to.push_reserved(claims[i]);
-    }
-    to.copy_from_slice(claims);
 }

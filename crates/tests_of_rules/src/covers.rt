@@ -7,10 +7,11 @@ ghost use Rattle.tests_of_rules.specs.Stories.{IsStory};
 
 use rbound::Which;
 use rclaim::{Event, Kind, Request};
-use rcover::{WaitEnd, plain_cover};
+use rcover::WaitEnd;
 use rexpand::Groups;
 use rmodel::{Machine, admit};
 use rplain::Plain;
+use rplain_cover::plain_cover;
 use rset::{RESOURCES, ResourceSet};
 use rwaits::{Covers, Following};
 use std::alloc::Global;

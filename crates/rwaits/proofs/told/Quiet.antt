@@ -24,8 +24,8 @@ use Rattle.rmodel.proofs.reaching.NewClaims.{IsNew, new_claims}
 use Rattle.rmodel.proofs.reaching.Reached.{reached_next}
 use Rattle.rmodel.proofs.reaching.Soundness.{read_of_half, seat_is_idle}
 use Rattle.rmodel.proofs.settling.OneSettlement.{both_cases}
-use Rattle.rplain.specs.NewClaim.{new_claim, settled_behind}
-use Rattle.rplain.proofs.stepping.IssueSteps.{issue_is}
+use Rattle.rsettle.specs.NewClaim.{new_claim, settled_behind}
+use Rattle.rsettle.proofs.settling.IssueSteps.{issue_is}
 use Rattle.rbound.specs.declared.which.Which.{Which}
 use Rattle.rbound.specs.declared.which.Which.TheVariants.{First, Rise, Ask}
 use Rattle.rcover.specs.Ended.{waits_in, wait_of, wait_end}

@@ -13,14 +13,14 @@ use Rattle.rplain.specs.Plain.{state_of}
 use Rattle.rmodel.specs.Reached.{IsReached}
 use Rattle.rplain.proofs.stepping.PlainSteps.{kept_comes, taken}
 use Rattle.rmodel.proofs.reaching.FewClaims.{few_claims, two_claims}
-use Rattle.rplain.proofs.stepping.IssueSteps.{issue_is, told_is}
+use Rattle.rsettle.proofs.settling.IssueSteps.{issue_is, told_is}
 use Rattle.std.proofs.lemmas.Bool.{or_parts}
 use Rattle.std.specs.FinSet.{union, len, is_subset}
 use Rattle.rset.proofs.SetLemmas.{within_union_right}
 use Rattle.rset.specs.Sets.{Set}
 use Rattle.rmodel.specs.Steps.{next, some_asks}
-use Rattle.rplain.specs.Sweep.{AreReadWithin}
-use Rattle.rplain.proofs.stepping.SoFar.{within_more, within_issued, unasked_issued, within_next, unasked_next}
+use Rattle.rsettle.specs.Sweep.{AreReadWithin}
+use Rattle.rsettle.proofs.settling.SoFar.{within_more, within_issued, unasked_issued, within_next, unasked_next}
 use Rattle.rmodel.proofs.reaching.Reached.{reached_next}
 use Rattle.rplain.proofs.plain.Plain.issue.Goals as goal
 

@@ -1,0 +1,2 @@
+pub mod NewClaim
+pub mod Sweep
