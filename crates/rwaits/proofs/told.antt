@@ -17,8 +17,10 @@ pub mod Taken
 pub mod Undue
 pub mod Rising
 pub mod Asking
+pub mod Reading
 pub mod Gone
 pub mod Looked
 pub mod Closed
 pub mod LetGo
 pub mod Stands
+pub mod Writers

@@ -9,10 +9,10 @@ use Rattle.rplain.specs.Machine.{Standing}
 use Rattle.rcover.specs.History.{length_in, asks_since}
 use Rattle.rwaits.specs.declared.following.Following.{Following}
 use Rattle.rwaits.specs.Follow.{table_of, length_by, HasRoom, AreLong, AreOf}
-use Rattle.rwaits.specs.Heads.{HasPlaces, TellsNow}
+use Rattle.rwaits.specs.Heads.{HasPlaces, TellsNow, TellsWrites}
 use Rattle.rwaits.specs.Past.{Past, start_of, state_of, moments_of, AreLastEnded}
 use Rattle.rwaits.specs.Tracked.{AreTracked}
-use Rattle.rwaits.specs.Waiting.{HoldWaiting, TellRising, HoldAsking, ends_none}
+use Rattle.rwaits.specs.Waiting.{HoldWaiting, TellRising, HoldAsking, HoldReading, TellWanted, ends_none}
 
 -- a follower has its room
 pub record HaveRoom (a : Following) : Type 0 where
@@ -24,6 +24,8 @@ pub record HaveRoom (a : Following) : Type 0 where
   pub lengths : length a.lengths ≡ SEATS
   pub asks : length a.asks ≡ SEATS
   pub heads : HasPlaces a.heads
+  pub places : length a.places ≡ SEATS
+  pub wanted : length a.wanted ≡ SEATS
 
 -- a follower followed these events
 pub record Follows (a : Following) (p : Past) : Type 0 where
@@ -42,8 +44,14 @@ pub record Follows (a : Following) (p : Past) : Type 0 where
   pub rising : TellRising a.rising (state_of p).claims
   -- and no ask of another seat is pending than of those that are noted
   pub asking : HoldAsking a.asking (state_of p).claims
+  -- no other seat has a claim that reads than those that are noted
+  pub reading : HoldReading a.reading (state_of p).claims
+  -- and of each that has one what it reads
+  pub wanted : TellWanted a.wanted (state_of p).claims
   -- the least claims of the lines of all writes, if they are told
   pub heads : TellsNow a.heads (state_of p).claims
+  -- and then which seats have a write, and what it takes
+  pub writes : TellsWrites a.heads (state_of p).claims
   pub room : HaveRoom a
   -- and so are the waits that the last event ended
   pub none : p.events ≡ [] → a.ended.items ≡ []

@@ -6,15 +6,21 @@ use Rattle.rmodel.specs.WellFormed.{EachPair, Rises, Distinct}
 use Rattle.rcover.specs.Moments.{Moment}
 use Rattle.rwaits.specs.declared.heads.Heads.{Heads}
 use Rattle.rwaits.specs.Lines.{IsTold}
+use Rattle.rwaits.specs.Shares.{TellWrites}
 
 -- heads have a place for each seat
 pub record HasPlaces (h : Heads) : Type 0 where
   pub now : length h.now.items ≡ SEATS
   pub behind : length h.behind.items ≡ SEATS
+  pub shares : length h.shares ≡ SEATS
 
 -- if they are told, they are those of the claims at a moment
 abbrev pub TellsNow : Heads → Moment → Type 0
 TellsNow h m = h.told ≡ true → IsTold h.now.items h.behind.items m
+
+-- and so is which seats have a write, and what it takes
+abbrev pub TellsWrites : Heads → Moment → Type 0
+TellsWrites h m = h.told ≡ true → TellWrites h.writers h.shares m
 
 -- claims are such as those of a state
 pub record IsMoment (m : Moment) : Type 0 where

@@ -4,6 +4,7 @@ pub mod Tracked
 pub mod Follow
 pub mod Found
 pub mod Lines
+pub mod Shares
 pub mod Heads
 pub mod Past
 pub mod Waiting

@@ -1,6 +1,6 @@
 -- The heads of writes: the least claims of their lines.
 use Rattle.rmodel.specs.WellFormed.{EachPair, Rises, Distinct}
-use Rattle.std.specs.Prelude.{◌≡◌, ◌⊎◌, ◌++◌, ◌∷◌, true, false, ◌&&◌, ◌||◌, ◌==◌, ◌≢◌, ◌<◌, nat_lt, ℕ, Bool, Option, Some, List, slice_get, unwrap_or, option_map, find, if◌then◌else◌}
+use Rattle.std.specs.Prelude.{◌≡◌, ◌⊎◌, ◌++◌, ◌∷◌, true, false, ◌&&◌, ◌||◌, ◌==◌, ◌≢◌, ◌<◌, nat_lt, ℕ, Bool, Option, Some, List, slice_get, unwrap_or, if◌then◌else◌}
 use Rattle.std.specs.List.{AllByRecursion}
 use Rattle.std.specs.FinSet.{contains, empty, is_subset}
 use Rattle.rset.specs.Sets.{Set, meets}
@@ -90,10 +90,6 @@ HoldBehindBut lost ss m zs = AllByRecursion (λ z. z.claim.write_half ≡ true �
 abbrev pub is_taken : Event → Claimed → Bool
 is_taken e x = takes_seat e x.claim.seat && x.claim.write_half
 
--- the places of the write that an event takes away, if it takes one
-abbrev pub places_taken : Event → Moment → Option Set
-places_taken e m = option_map (λ x. x.claim.places) (find (is_taken e) m)
-
 -- this is the head of the write that an event takes away, if it takes one, and of each write whose least claim is of the same seat; its places are among these
 pub record IsLost (lost : Head) (gone : Set) (e : Event) (m : Moment) (x : Claimed) : Type 0 where
   pub places : x.claim.write_half ≡ true → takes_seat e x.claim.seat ≡ true → is_subset x.claim.places gone ≡ true
@@ -140,6 +136,19 @@ pub record HeadsTell (hs' : List Head) (lost : Head) (went rose : Set) (m n : Mo
   -- or it is as it was
   pub same : x.claim.write_half ≡ true → contains went x.claim.seat ≡ false → contains rose x.claim.seat ≡ false → head_of n x.claim ≡ head_of m x.claim
 
+-- the write of a seat stands at the place that is noted for the seat
+pub record StandsAt (places : List ℕ) (n : Moment) (seat : ℕ) : Type 0 where
+  pub place : ℕ
+  pub noted : slice_get places seat ≡ Some place
+  pub at : Claimed
+  pub there : slice_get n place ≡ Some at
+  pub write : at.claim.write_half ≡ true
+  pub own : at.claim.seat ≡ seat
+
+-- so does the write of each seat that moved or rose
+abbrev pub ArePlaced : List ℕ → Set → Set → Moment → Type 0
+ArePlaced places went rose n = (seat : ℕ) → (contains went seat || contains rose seat) ≡ true → StandsAt places n seat
+
 -- one claim more was gone on with: its head is that of the next moment, and for other seats all is as it was
 pub record IsTurned (now : List Head) (moves : Moves) (lost : Head) (now' : List Head) (moves' : Moves) (m n : Moment) (x : Claimed) : Type 0 where
   pub head : x.claim.write_half ≡ true → slice_get now' x.claim.seat ≡ Some (head_of n x.claim)
@@ -162,9 +171,9 @@ pub record IsNew (moves : Moves) (x : Claimed) : Type 0 where
   pub unmoved : x.claim.write_half ≡ true → contains moves.moved x.claim.seat ≡ false
   pub unrisen : x.claim.write_half ≡ true → contains moves.risen x.claim.seat ≡ false
 
--- resources that hold all that the writes of these seats write
-abbrev pub HoldWritten : Set → Set → Moment → Type 0
-HoldWritten written came m = AllByRecursion (λ x. x.claim.write_half ≡ true → contains came x.claim.seat ≡ true → is_subset x.claim.writes written ≡ true) m
+-- resources that hold all that those writes write that are told to be satisfied
+abbrev pub HoldWritten : Set → List StatusChange → Moment → Type 0
+HoldWritten written statuses m = AllByRecursion (λ x. x.claim.write_half ≡ true → tells_write_of statuses x.claim.seat ≡ true → is_subset x.claim.writes written ≡ true) m
 
 -- where a read reads none of these resources, the write that keeps it waiting does not become satisfied
 abbrev pub ReadStays : Set → Moment → Moment → Claimed → Type 0
@@ -175,6 +184,10 @@ ReadStays written m n x =
 -- the seats of the writes that are looked at: that of the upgrade that rises, and those that wait and whose heads changed
 abbrev pub is_looked_at : Event → Set → Set → Set → ℕ → Bool
 is_looked_at e waiting moved risen seat = rises_at e seat || (contains waiting seat && (contains moved seat || contains risen seat))
+
+-- a claim is the write of one of these seats
+abbrev pub is_write_of : Set → Claimed → Bool
+is_write_of seats x = x.claim.write_half && contains seats x.claim.seat
 
 -- what is kept of the wait of a claim may change by an event: the write is looked at, or the wait of the read begins, or it reads some of what came to be held
 abbrev pub is_due : Event → Set → Set → Claimed → Bool

@@ -5,12 +5,15 @@ use Rattle.std.specs.FinSet.{contains, empty, insert, is_subset, len, remove}
 use Rattle.rset.specs.Sets.{Set}
 use Rattle.rclaim.specs.declared.event.Event.{Event}
 use Rattle.rclaim.specs.declared.event.Event.TheVariants.{Issue, Finish, Rise, Ask}
+use Rattle.rclaim.specs.declared.request.Kind.{Kind}
+use Rattle.rclaim.specs.declared.request.Kind.TheVariants.{Read, Write, Mixed, Upgrade, Nested}
 use Rattle.rmodel.specs.declared.claimed.Claimed.{Claimed}
 use Rattle.rmodel.specs.Claims.{is_satisfied}
 use Rattle.rcover.specs.declared.wait_end.WaitEnd.{WaitEnd}
 use Rattle.rcover.specs.Moments.{Moment}
 use Rattle.rcover.specs.Told.{waits_first, waits_to_rise, waits_for_ask}
 use Rattle.rwaits.specs.Follow.{may_wait}
+use Rattle.rwaits.specs.Lines.{set_at}
 use Rattle.rwaits.specs.Past.{is_issue}
 
 -- a claim is in a wait, or asks for something
@@ -58,6 +61,36 @@ asked_by seats (Issue seat r) = remove seats seat
 asked_by seats (Finish seat) = remove seats seat
 asked_by seats (Rise seat) = seats
 asked_by seats (Ask seat part) = insert seats seat
+
+-- a request of this kind has a claim that reads
+abbrev pub has_read : Kind → Bool
+has_read Read = true
+has_read Write = false
+has_read Mixed = false
+has_read Upgrade = true
+has_read Nested = false
+
+-- the seats of all claims that read are among these
+abbrev pub HoldReading : Set → Moment → Type 0
+HoldReading seats n = AllByRecursion (λ x. x.claim.write_half ≡ false → contains seats x.claim.seat ≡ true) n
+
+-- seats, with that of a request that comes and reads, and without that of any other that comes, of an upgrade that rises, and of a request that is over
+abbrev pub reading_by : Set → Event → Set
+reading_by seats (Issue seat r) = if has_read r.kind then insert seats seat else remove seats seat
+reading_by seats (Finish seat) = remove seats seat
+reading_by seats (Rise seat) = remove seats seat
+reading_by seats (Ask seat part) = seats
+
+-- what is noted of the seat of each claim that reads is what this reads
+abbrev pub TellWanted : List Set → Moment → Type 0
+TellWanted wanted n = AllByRecursion (λ x. x.claim.write_half ≡ false → set_at wanted x.claim.seat ≡ x.claim.reads) n
+
+-- what is noted of a seat: of that of a request that comes, what it reads
+abbrev pub wanted_by : List Set → Event → ℕ → Set
+wanted_by wanted (Issue seat r) other = if other == seat then r.reads else set_at wanted other
+wanted_by wanted (Finish seat) other = set_at wanted other
+wanted_by wanted (Rise seat) other = set_at wanted other
+wanted_by wanted (Ask seat part) other = set_at wanted other
 
 -- one of these waits was of a seat
 abbrev pub has_end : List WaitEnd → ℕ → Bool

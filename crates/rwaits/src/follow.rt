@@ -4,20 +4,21 @@ ghost use Rattle.std.specs.List.{AllByRecursion};
 ghost use Rattle.rclaim.specs.Events.{seat_of};
 ghost use Rattle.rclaim.specs.declared.claim.Claim.{Claim};
 ghost use Rattle.rset.specs.declared.TheConstants.{SEATS};
-ghost use Rattle.rmodel.specs.WellFormed.{EachPair, Rises};
+ghost use Rattle.rmodel.specs.WellFormed.{Among, EachPair, Rises, Distinct};
 ghost use Rattle.rwaits.specs.Follow.{table_of, length_by, section_of, HasRoom, IsTaken, AreLong, AreOf, WaitApart, may_wait, kept_of, with_entry, kept_with};
 ghost use Rattle.rcover.specs.Lists.{AreAtMost};
 ghost use Rattle.std.specs.FinSet.{contains};
 ghost use Rattle.rcover.specs.Moments.{Moment};
 ghost use Rattle.rcover.specs.Told.{waits_to_rise};
-ghost use Rattle.rwaits.specs.Waiting.{HoldWaiting, is_rising, TellRising};
-ghost use Rattle.rwaits.specs.Lines.{HeadsTell, ReadStays, is_looked_at, is_due};
+ghost use Rattle.rwaits.specs.Waiting.{HoldWaiting, HoldReading, TellWanted, is_rising, TellRising};
+ghost use Rattle.rwaits.specs.Lines.{HeadsTell, ReadStays, StandsAt, ArePlaced, is_looked_at, is_write_of, is_due};
 ghost use Rattle.rwaits.specs.Past.{rises_at, StoodBy};
 ghost use Rattle.rcover.specs.Sections.{Sections};
 ghost use Rattle.rwaits.specs.Tracked.{no_sections, gone_on};
 
 use crate::lines::Head;
 use crate::noted::has_stood;
+use crate::reading::reads_stay;
 use crate::run::{Run, Taken, clear, keep_by, none_taken};
 use crate::section::{Lengths, Section, section_of};
 use crate::waiting::still_rises;
@@ -113,6 +114,48 @@ fn keep_wait(
     );
 }
 
+/// Keeps of the wait of a claim at the next moment what is due there, if it waits.
+fn keep_due(
+    runs: &mut [Run],
+    taken: &mut Taken,
+    rising: ResourceSet,
+    event: &Event,
+    lengths: &[Lengths],
+    lost: &Head,
+    section: &Section,
+    moved: ResourceSet,
+    risen: ResourceSet,
+    heads: &[Head],
+    x: &Claimed,
+    last: &[Claimed],
+    next: &[Claimed],
+)
+    requires low { x.now.claim.seat < SEATS }
+    requires rising { waits_to_rise next.now x.now ≡ is_rising rising x.now }
+    requires seat { x.now.claim.seat < length runs.old }
+    requires head { x.now.claim.seat < length heads.now }
+    requires heads { HeadsTell heads.now lost.now moved risen last.now next.now x.now }
+    requires section { section.now ≡ section_of lengths.now lost.now.claim }
+    requires taken { IsTaken lengths.now last.now taken.old }
+    requires last_rises { EachPair Rises last.now }
+    requires next_rises { EachPair Rises next.now }
+    requires stood { StoodBy event.now last.now next.now x.now }
+    requires room { AllByRecursion HasRoom runs.old }
+    requires few { may_wait next.now x.now ≡ true → AreAtMost SEATS (kept_of last.now next.now (table_of runs.old x.now.claim.seat) x.now) }
+    ensures taken { IsTaken lengths.now last.now taken.new }
+    ensures kept { (seat : ℕ) → table_of runs.new seat ≡ kept_with last.now next.now (table_of runs.old) x.now seat }
+    ensures room { AllByRecursion HasRoom runs.new }
+    ensures len { length runs.new ≡ length runs.old }
+    ensures lengths { (len : Claim → ℕ) → AreOf (length_by lengths.now) len last.now → length_by lengths.now x.now.claim ≡ len x.now.claim → AllByRecursion (AreLong len) runs.old → AllByRecursion (AreLong len) runs.new }
+{
+    if !may_wait(rising, x) {
+        return;
+    }
+    keep_wait(
+        runs, taken, event, lengths, lost, section, moved, risen, heads, x, last, next,
+    );
+}
+
 /// Keeps of the wait of a claim at the next moment what is due there, if something is and it waits.
 fn keep_at(
     runs: &mut [Run],
@@ -153,11 +196,8 @@ fn keep_at(
     if !is_due(event, looked, written, x) {
         return;
     }
-    if !may_wait(rising, x) {
-        return;
-    }
-    keep_wait(
-        runs, taken, event, lengths, lost, section, moved, risen, heads, x, last, next,
+    keep_due(
+        runs, taken, rising, event, lengths, lost, section, moved, risen, heads, x, last, next,
     );
 }
 
@@ -203,13 +243,75 @@ fn keep_looked(
     }
 }
 
-/// Keeps of all waits what is due at the next moment. No seats wait but these, and no upgrades wait to rise but those that are told by those that rose.
+/// The write of a seat, where the place is noted at which it stands.
+fn write_at<'a>(places: &[usize], next: &'a [Claimed], seat: u8) -> &'a Claimed
+    requires { StandsAt places.now next.now seat }
+    ensures there { Among result.now next.now }
+    ensures write { result.now.claim.write_half ≡ true }
+    ensures own { result.now.claim.seat ≡ seat }
+{
+    &next[places[usize::from(seat)]]
+}
+
+/// Keeps of the waits of the writes of some seats at the next moment what is due there, where these writes stand at the places that
+/// are noted. Nothing is due of any other claim.
+fn keep_writes(
+    runs: &mut [Run],
+    looked: ResourceSet,
+    rising: ResourceSet,
+    event: &Event,
+    lengths: &[Lengths],
+    lost: &Head,
+    moved: ResourceSet,
+    risen: ResourceSet,
+    heads: &[Head],
+    places: &[usize],
+    last: &[Claimed],
+    next: &[Claimed],
+)
+    requires low { AllByRecursion (λ x. x.claim.seat < SEATS) next.now }
+    requires placed { (seat : ℕ) → contains looked seat ≡ true → StandsAt places.now next.now seat }
+    requires undue { AllByRecursion (λ x. is_write_of looked x ≡ false → may_wait next.now x ≡ true → (a : Sections) → kept_of last.now next.now a x ≡ a) next.now }
+    requires rising { TellRising rising next.now }
+    requires seats { AllByRecursion (λ x. x.claim.seat < length runs.old) next.now }
+    requires head { AllByRecursion (λ x. x.claim.seat < length heads.now) next.now }
+    requires heads { AllByRecursion (HeadsTell heads.now lost.now moved risen last.now next.now) next.now }
+    requires last_rises { EachPair Rises last.now }
+    requires next_rises { EachPair Rises next.now }
+    requires one_each { EachPair Distinct next.now }
+    requires stood { AllByRecursion (StoodBy event.now last.now next.now) next.now }
+    requires room { AllByRecursion HasRoom runs.old }
+    requires apart { EachPair (WaitApart next.now) next.now }
+    requires few { AllByRecursion (λ x. may_wait next.now x ≡ true → AreAtMost SEATS (kept_of last.now next.now (table_of runs.old x.claim.seat) x)) next.now }
+    ensures kept { AllByRecursion (λ x. may_wait next.now x ≡ true → table_of runs.new x.claim.seat ≡ kept_of last.now next.now (table_of runs.old x.claim.seat) x) next.now }
+    ensures room { AllByRecursion HasRoom runs.new }
+    ensures len { length runs.new ≡ length runs.old }
+    ensures lengths { (len : Claim → ℕ) → AreOf (length_by lengths.now) len last.now → AreOf (length_by lengths.now) len next.now → AllByRecursion (AreLong len) runs.old → AllByRecursion (AreLong len) runs.new }
+{
+    if looked.is_empty() {
+        return;
+    }
+    let section = section_of(lengths, &lost.claim);
+    let mut taken = none_taken();
+    for seat in looked.iter() {
+        let x = write_at(places, next, seat);
+        keep_due(
+            runs, &mut taken, rising, event, lengths, lost, &section, moved, risen, heads, x, last,
+            next,
+        );
+    }
+}
+
+/// Keeps of all waits what is due at the next moment. No seats wait but these, no upgrades wait to rise but those that are told by those that rose, and
+/// no seats but these have a claim that reads, each what is noted of its seat.
 /// `moved` are the seats of the writes whose head was the one that is `lost` and is another now, and `risen` those of the writes whose
-/// least claim came to be satisfied.
+/// least claim came to be satisfied; the writes of both stand at the `places` that are noted of their seats.
 pub(crate) fn keep(
     runs: &mut [Run],
     waiting: ResourceSet,
     rising: ResourceSet,
+    reading: ResourceSet,
+    wanted: &[ResourceSet],
     event: &Event,
     written: ResourceSet,
     lengths: &[Lengths],
@@ -217,6 +319,7 @@ pub(crate) fn keep(
     moved: ResourceSet,
     risen: ResourceSet,
     heads: &[Head],
+    places: &[usize],
     last: &[Claimed],
     next: &[Claimed],
 )
@@ -224,12 +327,16 @@ pub(crate) fn keep(
     requires low { AllByRecursion (λ x. x.claim.seat < SEATS) next.now }
     requires waiting { HoldWaiting waiting next.now }
     requires rising { TellRising rising next.now }
+    requires reading { HoldReading reading next.now }
+    requires wanted { TellWanted wanted.now next.now }
     requires seats { AllByRecursion (λ x. x.claim.seat < length runs.old) next.now }
     requires head { AllByRecursion (λ x. x.claim.seat < length heads.now) next.now }
     requires heads { AllByRecursion (HeadsTell heads.now lost.now moved risen last.now next.now) next.now }
+    requires placed { ArePlaced places.now moved risen next.now }
     requires reads { AllByRecursion (ReadStays written last.now next.now) next.now }
     requires last_rises { EachPair Rises last.now }
     requires next_rises { EachPair Rises next.now }
+    requires one_each { EachPair Distinct next.now }
     requires stood { AllByRecursion (StoodBy event.now last.now next.now) next.now }
     requires room { AllByRecursion HasRoom runs.old }
     requires apart { EachPair (WaitApart next.now) next.now }
@@ -240,7 +347,10 @@ pub(crate) fn keep(
     ensures lengths { (len : Claim → ℕ) → AreOf (length_by lengths.now) len last.now → AreOf (length_by lengths.now) len next.now → AllByRecursion (AreLong len) runs.old → AllByRecursion (AreLong len) runs.new }
 {
     let looked = looked_at(event, waiting, moved, risen);
-    if looked.is_empty() && written.is_empty() {
+    if reads_stay(event, written, waiting, reading, wanted) {
+        keep_writes(
+            runs, looked, rising, event, lengths, lost, moved, risen, heads, places, last, next,
+        );
         return;
     }
     keep_looked(

@@ -16,9 +16,11 @@ ghost use Rattle.rplain.specs.Machine.{Standing};
 use crate::follow::{clear_run, keep};
 use crate::heads::Heads;
 use crate::lines::touched_by;
-use crate::noted::{is_finish, is_issue, note_ask, note_lengths, seats_told, written_by};
+use crate::noted::{is_finish, is_issue, note_ask, note_lengths, seats_told};
+use crate::reading::note_wanted;
 use crate::run::Run;
 use crate::section::Lengths;
+use crate::shares::written_by;
 use crate::tell::tell;
 use crate::waiting::{ends_none, first_of, note_ended, note_event, note_seat};
 use rclaim::Event;
@@ -44,6 +46,10 @@ pub struct Following {
     rising: ResourceSet,
     // The seats of the requests of which an ask is pending, with others maybe.
     asking: ResourceSet,
+    // The seats of the requests that have a claim that reads, with others maybe.
+    reading: ResourceSet,
+    // Of each seat, what its last request reads.
+    wanted: [ResourceSet; PLACES],
     // The claims before the last event that might end a wait.
     last: Vec<Claimed>,
     // How many claims there were before the last event.
@@ -55,6 +61,8 @@ pub struct Following {
     asks: [usize; PLACES],
     // The least claims of the lines of all writes.
     heads: Heads,
+    // Of each seat, which of the claims its write is, if its head changed by the last event that might end a wait.
+    places: [usize; PLACES],
     // Room for the sections of one wait.
     scratch: Run,
     ended: Vec<WaitEnd>,
@@ -107,12 +115,15 @@ impl Following {
             waiting: ResourceSet::empty(),
             rising: ResourceSet::empty(),
             asking: ResourceSet::empty(),
+            reading: ResourceSet::empty(),
+            wanted: [ResourceSet::empty(); PLACES],
             last: Vec::with_capacity(alloc, CLAIMS)?,
             there: 0,
             runs: new_runs(alloc)?,
             lengths: [Lengths { len: 0, later: 0 }; PLACES],
             asks: [0; PLACES],
             heads: Heads::new(alloc)?,
+            places: [0; PLACES],
             scratch: new_run(alloc)?,
             ended: Vec::with_capacity(alloc, CLAIMS)?,
         })
@@ -205,7 +216,8 @@ impl Following {
         self.ended.clear();
         note_lengths(&mut self.lengths, event);
         note_ask(&mut self.asks, event);
-        note_event(&mut self.rising, &mut self.asking, event);
+        note_wanted(&mut self.wanted, event);
+        note_event(&mut self.rising, &mut self.asking, &mut self.reading, event);
         let first = first_of(event, self.there, machine.claims());
         note_seat(
             &mut self.waiting,
@@ -244,7 +256,7 @@ impl Following {
         );
         note_lengths(&mut self.lengths, event);
         note_ask(&mut self.asks, event);
-        note_event(&mut self.rising, &mut self.asking, event);
+        note_event(&mut self.rising, &mut self.asking, &mut self.reading, event);
         note_ended(&mut self.waiting, &self.ended);
         let first = first_of(event, self.there, machine.claims());
         note_seat(
@@ -255,24 +267,28 @@ impl Following {
             machine.claims(),
         );
         let came = seats_told(&machine.changes().statuses);
-        let gone = self.heads.lose(event, &self.last);
+        let gone = self.heads.lose(event);
         let touched = touched_by(
             &self.heads.behind,
             self.heads.lost.claim.seat,
             &machine.changes().statuses,
         );
-        self.heads.turn(gone, came, touched, machine.claims());
+        self.heads
+            .turn(&mut self.places, gone, came, touched, machine.claims());
         keep(
             &mut self.runs,
             self.waiting,
             self.rising,
+            self.reading,
+            &self.wanted,
             event,
-            written_by(came, machine.claims()),
+            written_by(&self.heads.shares, &machine.changes().statuses),
             &self.lengths,
             &self.heads.lost,
             self.heads.moved,
             self.heads.risen,
             &self.heads.now,
+            &self.places,
             &self.last,
             machine.claims(),
         );

@@ -4,11 +4,12 @@ ghost use Rattle.std.specs.List.{AllByRecursion};
 ghost use Rattle.rcover.specs.Moments.{Moment};
 ghost use Rattle.rset.specs.declared.TheConstants.{SEATS};
 ghost use Rattle.rclaim.specs.Events.{seat_of};
-ghost use Rattle.rwaits.specs.Lines.{TellAt, TellHeads, GoesBy, HeadsTell, IsLost, IsTold, HoldBehind};
-ghost use Rattle.rwaits.specs.Heads.{HasPlaces, TellsNow, IsMoment};
+ghost use Rattle.rwaits.specs.Lines.{TellAt, TellHeads, GoesBy, HeadsTell, IsLost, IsTold, HoldBehind, ArePlaced};
+ghost use Rattle.rwaits.specs.Heads.{HasPlaces, TellsNow, TellsWrites, IsMoment};
+ghost use Rattle.rwaits.specs.Shares.{AreLeft, TellWrites};
 
 use crate::lines::{Head, forget, no_head, tell_heads};
-use crate::noted::places_taken;
+use crate::shares::{Share, no_share, note_writes, takes_write};
 use crate::turns::turn_heads;
 use rclaim::Event;
 use rmodel::Claimed;
@@ -18,7 +19,7 @@ use std::alloc::{AllocError, Global};
 // A place for each seat.
 const PLACES: usize = SEATS as usize;
 
-/// The least claims of the lines of all writes, for each seat.
+/// The least claims of the lines of all writes, for each seat, and what those writes take.
 #[derive(Drop)]
 pub(crate) struct Heads {
     /// Those of the claims that are there.
@@ -31,6 +32,10 @@ pub(crate) struct Heads {
     pub(crate) moved: ResourceSet,
     /// The seats of the writes whose least claim stayed and came to be satisfied.
     pub(crate) risen: ResourceSet,
+    /// The seats that have a write.
+    pub(crate) writers: ResourceSet,
+    /// What the write of each of them takes; of a seat without one anything may be kept.
+    pub(crate) shares: [Share; PLACES],
     // Whether they are told: they are not, where nobody asked for them.
     told: bool,
 }
@@ -62,6 +67,7 @@ impl Heads {
     pub(crate) fn new(alloc: Global) -> Result<Heads, AllocError>
         ensures room { IfOk result (λ made. HasPlaces made) }
         ensures told { IfOk result (λ made. TellsNow made []) }
+        ensures writes { IfOk result (λ made. TellsWrites made []) }
     {
         Ok(Heads {
             now: new_heads(alloc)?,
@@ -69,6 +75,8 @@ impl Heads {
             lost: no_head(),
             moved: ResourceSet::empty(),
             risen: ResourceSet::empty(),
+            writers: ResourceSet::empty(),
+            shares: [no_share(); PLACES],
             told: false,
         })
     }
@@ -78,8 +86,10 @@ impl Heads {
         requires moment { IsMoment moment.now }
         requires room { HasPlaces self.old }
         requires told { brought ≡ true → (there ≤ length moment.now) × TellsNow self.old (take there moment.now) }
+        requires writes { brought ≡ true → TellsWrites self.old (take there moment.now) }
         ensures room { HasPlaces self.new }
         ensures told { TellsNow self.new moment.now }
+        ensures writes { TellsWrites self.new moment.now }
     {
         if !brought {
             self.told = false;
@@ -87,6 +97,7 @@ impl Heads {
         }
         if self.told {
             tell_heads(&mut self.now, &mut self.behind, moment, there);
+            note_writes(&mut self.writers, &mut self.shares, moment, there);
         }
     }
 
@@ -95,6 +106,7 @@ impl Heads {
         requires room { HasPlaces self.old }
         ensures room { HasPlaces self.new }
         ensures told { (m : Moment) → TellsNow self.new m }
+        ensures writes { (m : Moment) → TellsWrites self.new m }
     {
         self.told = false;
     }
@@ -104,42 +116,47 @@ impl Heads {
         requires moment { IsMoment moment.now }
         requires room { HasPlaces self.old }
         requires told { TellsNow self.old moment.now }
+        requires writes { TellsWrites self.old moment.now }
         ensures room { HasPlaces self.new }
         ensures told { IsTold self.new.now.items self.new.behind.items moment.now }
+        ensures writes { TellWrites self.new.writers self.new.shares moment.now }
     {
         if !self.told {
             tell_heads(&mut self.now, &mut self.behind, moment, 0);
+            self.writers = ResourceSet::empty();
+            note_writes(&mut self.writers, &mut self.shares, moment, 0);
             self.told = true;
         }
     }
 
-    /// Notes the head of the write that an event takes away, if it takes one, and answers the places of that write.
-    pub(crate) fn lose(&mut self, event: &Event, moment: &[Claimed]) -> ResourceSet
+    /// Notes the head of the write that an event takes away, if it takes one, and that its seat has none from then on. Answers the
+    /// places of that write.
+    pub(crate) fn lose(&mut self, event: &Event) -> ResourceSet
         requires low { seat_of event.now < SEATS }
-        requires moment { IsMoment moment.now }
         requires room { HasPlaces self.old }
-        requires told { TellHeads self.old.now.items moment.now }
-        ensures lost { AllByRecursion (IsLost self.new.lost result event.now moment.now) moment.now }
+        ensures lost { (m : Moment) → IsMoment m → TellHeads self.old.now.items m → TellWrites self.old.writers self.old.shares m → AllByRecursion (IsLost self.new.lost result event.now m) m }
+        ensures left { AreLeft event.now self.old.writers self.new.writers }
+        ensures shares { self.new.shares ≡ self.old.shares }
         ensures now { self.new.now ≡ self.old.now }
         ensures behind { self.new.behind ≡ self.old.behind }
     {
-        match places_taken(event, moment) {
-            Some(places) => {
-                self.lost = self.now[event.seat() as usize];
-                places
-            }
-            None => {
-                self.lost.claim.seat = SEATS;
-                ResourceSet::empty()
-            }
+        if !takes_write(event, self.writers) {
+            self.lost.claim.seat = SEATS;
+            return ResourceSet::empty();
         }
+        let at = event.seat() as usize;
+        self.writers = self.writers.without(event.seat());
+        self.lost = self.now[at];
+        self.shares[at].places
     }
 
     /// Goes on to the moment behind an event that brings no claim. The head of the write that it takes away is noted; `gone` are
     /// the places of that write, `came` the seats of the writes that became satisfied, and `touched` those of the writes that
-    /// have one of these for their least claim.
+    /// have one of these for their least claim. Of each seat that moves or rises `places` gets the
+    /// place of its write in the moment.
     pub(crate) fn turn(
         &mut self,
+        places: &mut [usize],
         gone: ResourceSet,
         came: ResourceSet,
         touched: ResourceSet,
@@ -147,7 +164,12 @@ impl Heads {
     )
         requires moment { IsMoment moment.now }
         requires room { HasPlaces self.old }
+        requires places { length places.old ≡ SEATS }
         ensures room { HasPlaces self.new }
+        ensures writers { self.new.writers ≡ self.old.writers }
+        ensures shares { self.new.shares ≡ self.old.shares }
+        ensures places_len { length places.new ≡ length places.old }
+        ensures placed { (m : Moment) → TellAt self.old.now.items m moment.now → AllByRecursion (GoesBy self.old.lost gone came touched m moment.now) moment.now → ArePlaced places.new self.new.moved self.new.risen moment.now }
         ensures told { (m : Moment) → TellAt self.old.now.items m moment.now → HoldBehind self.old.behind.items m moment.now → AllByRecursion (GoesBy self.old.lost gone came touched m moment.now) moment.now → TellsNow self.new moment.now }
         ensures tell { (m : Moment) → TellAt self.old.now.items m moment.now → AllByRecursion (GoesBy self.old.lost gone came touched m moment.now) moment.now → AllByRecursion (HeadsTell self.new.now.items self.new.lost self.new.moved self.new.risen m moment.now) moment.now }
     {
@@ -155,6 +177,7 @@ impl Heads {
         let moves = turn_heads(
             &mut self.now,
             &mut self.behind,
+            places,
             &self.lost,
             gone,
             came,

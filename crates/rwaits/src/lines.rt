@@ -191,7 +191,7 @@ pub(crate) fn tell_heads(
 }
 
 /// The set of a seat; none where it has none.
-fn set_of(behind: &[ResourceSet], seat: u8) -> ResourceSet
+pub(crate) fn set_of(behind: &[ResourceSet], seat: u8) -> ResourceSet
     ensures { result ≡ set_at behind.now seat }
 {
     match behind.get(usize::from(seat)) {

@@ -6,17 +6,13 @@ ghost use Rattle.rclaim.specs.declared.claim.Claim.{Claim};
 ghost use Rattle.rcover.specs.History.{count_ask};
 ghost use Rattle.rwaits.specs.Follow.{length_by};
 ghost use Rattle.std.specs.FinSet.{contains};
-ghost use Rattle.std.specs.List.{AllByRecursion};
 ghost use Rattle.rset.specs.declared.TheConstants.{SEATS};
-ghost use Rattle.rmodel.specs.WellFormed.{EachPair, Distinct};
 ghost use Rattle.rwaits.specs.Quiet.{tells_write_of, has_grant};
-ghost use Rattle.rwaits.specs.Lines.{places_taken, HoldWritten};
 ghost use Rattle.rwaits.specs.Past.{is_issue, noted, rises_at};
 ghost use Rattle.rwaits.specs.Waiting.{is_finish};
 
 use crate::section::Lengths;
 use rclaim::{Event, GrantChange, Status, StatusChange};
-use rmodel::Claimed;
 use rset::{ResourceSet, SEATS};
 
 /// Whether an event is an issue.
@@ -127,45 +123,4 @@ pub(crate) fn busy_seats(seat: u8, grants: &[GrantChange]) -> ResourceSet
     ensures { (other : ℕ) → other < SEATS → contains result other ≡ ((seat == other) || has_grant grants.now other) }
 {
     with_seat_if(seats_granted(grants), true, seat)
-}
-
-/// The places of the write that an event takes away, if it takes one.
-pub(crate) fn places_taken(event: &Event, moment: &[Claimed]) -> Option<ResourceSet>
-    ensures { result ≡ places_taken event.now moment.now }
-{
-    match event {
-        Event::Finish { seat } => moment
-            .iter()
-            .find(|x| *seat == x.claim.seat && x.claim.write_half)
-            .map(|x| x.claim.places),
-        _ => None,
-    }
-}
-
-/// Whether a claim is a write of one of these seats.
-fn is_write_of(seats: ResourceSet, x: &Claimed) -> bool
-    requires { x.now.claim.seat < SEATS }
-    ensures { result ≡ (x.now.claim.write_half && contains seats x.now.claim.seat) }
-{
-    x.claim.write_half && seats.has(x.claim.seat)
-}
-
-/// Resources that hold all that the writes of these seats write. A seat has one write at most.
-pub(crate) fn written_by(came: ResourceSet, moment: &[Claimed]) -> ResourceSet
-    requires low { AllByRecursion (λ x. x.claim.seat < SEATS) moment.now }
-    requires one_each { EachPair Distinct moment.now }
-    ensures { HoldWritten result came moment.now }
-{
-    let mut written = ResourceSet::empty();
-    let mut left = came;
-    for x in moment {
-        if left.is_empty() {
-            return written;
-        }
-        if is_write_of(left, x) {
-            left = left.without(x.claim.seat);
-            written = written.union(x.claim.writes);
-        }
-    }
-    written
 }

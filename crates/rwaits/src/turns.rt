@@ -1,5 +1,5 @@
 // The heads of writes, gone on with over an event that brings no claim.
-ghost use Rattle.std.specs.Prelude.{◌≡◌, ◌≢◌, ◌≤◌, ◌<◌, ◌++◌, ◌∷◌, ℕ, true, false, length};
+ghost use Rattle.std.specs.Prelude.{◌≡◌, ◌≢◌, ◌≤◌, ◌<◌, ◌++◌, ◌∷◌, ◌&&◌, ◌==◌, if◌then◌else◌, ℕ, true, false, Some, length, slice_get};
 ghost use Rattle.std.specs.List.{AllByRecursion};
 ghost use Rattle.std.specs.FinSet.{contains, is_subset};
 ghost use Rattle.rmodel.specs.WellFormed.{EachPair, Rises, Distinct};
@@ -8,7 +8,7 @@ ghost use Rattle.rset.specs.declared.TheConstants.{SEATS};
 ghost use Rattle.rcover.specs.Line.{least_of};
 ghost use Rattle.rcover.specs.Moments.{Moment};
 ghost use Rattle.rwaits.specs.Found.{IsFound};
-ghost use Rattle.rwaits.specs.Lines.{head_of, TellAt, GoesBy, IsNew, IsNext, IsNoted, IsTurned, HeadsTell, set_at, IsBehind, HoldBehindBut, HoldMore, IsTold};
+ghost use Rattle.rwaits.specs.Lines.{head_of, TellAt, GoesBy, IsNew, IsNext, IsNoted, IsTurned, HeadsTell, set_at, IsBehind, ArePlaced, HoldBehindBut, HoldMore, IsTold};
 
 use crate::lines::{Found, Head, found_before, note_behind, put_head};
 use rmodel::Claimed;
@@ -141,10 +141,23 @@ fn turn_head(
     find_head(now, behind, moves, lost, came, before, x);
 }
 
-/// Goes on with the heads of the writes at a moment. `gone` are the places of the write that is lost.
+/// Notes of the seat of a claim where this stands, if it is a write.
+fn note_place(places: &mut [usize], place: usize, x: &Claimed)
+    requires { x.now.claim.seat < length places.old }
+    ensures places { (seat : ℕ) → slice_get places.new seat ≡ (if x.now.claim.write_half && seat == x.now.claim.seat then Some place else slice_get places.old seat) }
+    ensures len { length places.new ≡ length places.old }
+{
+    if x.claim.write_half {
+        places[x.claim.seat as usize] = place;
+    }
+}
+
+/// Goes on with the heads of the writes at a moment. `gone` are the places of the write that is lost. Of each seat that moves or
+/// rises `places` gets the place of its write in the moment.
 pub(crate) fn turn_heads(
     now: &mut [Head],
     behind: &mut [ResourceSet],
+    places: &mut [usize],
     lost: &Head,
     gone: ResourceSet,
     came: ResourceSet,
@@ -154,12 +167,15 @@ pub(crate) fn turn_heads(
     requires low { AllByRecursion (λ x. x.claim.seat < SEATS) moment.now }
     requires now { SEATS ≤ length now.old }
     requires behind { SEATS ≤ length behind.old }
+    requires places { SEATS ≤ length places.old }
     requires rising { EachPair Rises moment.now }
     requires one_each { EachPair Distinct moment.now }
     ensures told { (m : Moment) → TellAt now.old m moment.now → AllByRecursion (GoesBy lost.now gone came touched m moment.now) moment.now → HoldBehindBut lost.now.claim.seat behind.old m moment.now → IsTold now.new behind.new moment.now }
     ensures tell { (m : Moment) → TellAt now.old m moment.now → AllByRecursion (GoesBy lost.now gone came touched m moment.now) moment.now → AllByRecursion (HeadsTell now.new lost.now result.moved result.risen m moment.now) moment.now }
+    ensures placed { (m : Moment) → TellAt now.old m moment.now → AllByRecursion (GoesBy lost.now gone came touched m moment.now) moment.now → ArePlaced places.new result.moved result.risen moment.now }
     ensures len { length now.new ≡ length now.old }
     ensures behind_len { length behind.new ≡ length behind.old }
+    ensures places_len { length places.new ≡ length places.old }
 {
     let mut moves = Moves {
         moved: ResourceSet::empty(),
@@ -173,6 +189,7 @@ pub(crate) fn turn_heads(
         if !touched.has(moment[i].claim.seat) {
             continue;
         }
+        note_place(places, i, &moment[i]);
         turn_head(
             now,
             behind,

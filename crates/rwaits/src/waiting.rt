@@ -5,10 +5,11 @@ ghost use Rattle.std.specs.List.{list_any};
 ghost use Rattle.rset.specs.declared.TheConstants.{SEATS};
 ghost use Rattle.rmodel.specs.Claims.{is_satisfied};
 ghost use Rattle.rcover.specs.Told.{waits_first};
-ghost use Rattle.rwaits.specs.Waiting.{waits_by, seat_waits, with_seat, TellRising, risen_by, asked_by, has_end, first_of, ends_none};
+ghost use Rattle.rwaits.specs.Waiting.{waits_by, seat_waits, with_seat, TellRising, risen_by, asked_by, reading_by, has_end, first_of, ends_none};
 ghost use Rattle.rclaim.specs.Events.{seat_of};
 
 use crate::noted::is_issue;
+use crate::reading::note_reading;
 use rclaim::Event;
 use rcover::{WaitEnd, waits_first};
 use rmodel::Claimed;
@@ -96,19 +97,35 @@ pub(crate) fn note_seat(
     };
 }
 
-/// Notes by an event which upgrades rose: that of a rise, and none of a request that comes or is over; and of which requests an ask
-/// may be pending: of one that asks, and of none that comes or is over.
-pub(crate) fn note_event(rising: &mut ResourceSet, asking: &mut ResourceSet, event: &Event)
+/// Notes by an event which upgrades rose: that of a rise, and none of a request that comes or is over; of which requests an ask
+/// may be pending: of one that asks, and of none that comes or is over; and which requests have a claim that reads: one that comes
+/// and reads, and none that rises or is over.
+pub(crate) fn note_event(
+    rising: &mut ResourceSet,
+    asking: &mut ResourceSet,
+    reading: &mut ResourceSet,
+    event: &Event,
+)
     requires { seat_of event.now < SEATS }
     ensures rising { rising.new ≡ risen_by rising.old event.now }
     ensures asking { asking.new ≡ asked_by asking.old event.now }
+    ensures reading { reading.new ≡ reading_by reading.old event.now }
 {
     match event {
-        Event::Issue { seat, .. } | Event::Finish { seat } => {
+        Event::Issue { seat, request } => {
             *rising = rising.without(*seat);
             *asking = asking.without(*seat);
+            note_reading(reading, *seat, request);
         }
-        Event::Rise { seat } => *rising = rising.with(*seat),
+        Event::Finish { seat } => {
+            *rising = rising.without(*seat);
+            *asking = asking.without(*seat);
+            *reading = reading.without(*seat);
+        }
+        Event::Rise { seat } => {
+            *rising = rising.with(*seat);
+            *reading = reading.without(*seat);
+        }
         Event::Ask { seat, .. } => *asking = asking.with(*seat),
     }
 }

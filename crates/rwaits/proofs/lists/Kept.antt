@@ -1,6 +1,8 @@
 -- Sections that are kept, and their claims.
 use Rattle.std.proofs.Common.{true, false, not, None, Option, drop, add-one, drop-cons, ◌≡◌, ℕ, zero, suc, ◌<◌, ◌+◌, ◌++◌, get_or, arith, Bool, ◌||◌, ◌&&◌, cond, Some, List, [], ◌∷◌, length, find, refl, sym, ap, subst, ◌∙◌, inl, inr}
+use Rattle.std.specs.Prelude.{slice_get}
 use Rattle.std.specs.Option.{IfSome, option_map, unwrap_or}
+use Rattle.std.proofs.lemmas.Option.{none-some, same_Some}
 use Rattle.rmodel.specs.declared.claimed.Claimed.{Claimed}
 use Rattle.rmodel.specs.Claims.{is_satisfied}
 use Rattle.rmodel.proofs.settling.OneSettlement.{both_cases}
@@ -222,3 +224,9 @@ none_against c reads writes (x ∷ xs) =
         (λ i. not x.claim.write_half && ((meets (reads i) x.claim.writes || meets (writes i) x.claim.writes) || (meets x.claim.reads (writes i) || meets x.claim.writes (writes i))))
         ∙ (λ i. not x.claim.write_half && ((meets_empty_left x.claim.writes i || meets_empty_left x.claim.writes i) || (meets_empty_right x.claim.reads i || meets_empty_right x.claim.writes i)))
         ∙ at (not x.claim.write_half)
+
+-- what stands at a place is one of a list
+pub in_list : {X : Type 0} (xs : List X) (i : ℕ) (x : X) → slice_get xs i ≡ Some x → Among x xs
+in_list [] i x h = absurd (none-some x h)
+in_list (y ∷ xs) zero x h = inl (sym (same_Some y x h))
+in_list (y ∷ xs) (suc i) x h = inr (in_list xs i x h)

@@ -1,11 +1,11 @@
 -- What a follower knows of the events that it followed holds with one event more.
-use Rattle.std.proofs.Common.{◌≡◌, ℕ, zero, suc, ◌*◌, ◌≤◌, ◌<◌, true, false, not, ◌&&◌, List, [], ◌∷◌, ◌++◌, append_assoc, length, length-append, drop, refl, sym, ap, subst, ◌∙◌, arith}
+use Rattle.std.proofs.Common.{◌≡◌, ℕ, zero, suc, ◌*◌, ◌≤◌, ◌<◌, true, false, not, ◌&&◌, Some, List, [], ◌∷◌, ◌++◌, append_assoc, length, length-append, drop, refl, sym, ap, subst, ◌∙◌, arith}
 use Rattle.std.proofs.lemmas.List.{take-append-le, take_all}
 use Rattle.std.specs.Vec.{with_items}
 use Rattle.std.specs.declared.vec.Vec.{Vec}
 use Rattle.std.specs.declared.alloc.Global.{Global}
 use Rattle.std.specs.List.{AllByRecursion}
-use Rattle.std.specs.Prelude.{slice_index}
+use Rattle.std.specs.Prelude.{slice_get, slice_index}
 use Rattle.rset.specs.declared.TheConstants.{SEATS}
 use Rattle.rexpand.specs.Groups.{ReadGroups}
 use Rattle.rclaim.specs.Events.{seat_of}
@@ -40,9 +40,11 @@ use Rattle.rwaits.specs.Lines.{TellAt, TellHeads, GoesBy, IsLost, IsTouched, Hol
 use Rattle.rwaits.specs.Follows.{HaveRoom, Follows}
 use Rattle.rwaits.specs.Past.{Past, begun, with_event, start_of, state_of, noted, is_issue, StoodBy}
 use Rattle.rwaits.specs.Tracked.{shown, told}
-use Rattle.rwaits.specs.Waiting.{HoldAsking, HoldWaiting, TellRising, has_end, with_seat}
+use Rattle.rwaits.specs.Waiting.{HoldAsking, HoldReading, TellWanted, HoldWaiting, TellRising, has_end, with_seat}
 use Rattle.rcover.specs.declared.wait_end.WaitEnd.{WaitEnd}
-use Rattle.rwaits.specs.Heads.{IsMoment, TellsNow}
+use Rattle.rwaits.specs.Heads.{IsMoment, TellsNow, TellsWrites}
+use Rattle.rwaits.specs.declared.shares.Share.{Share}
+use Rattle.rwaits.specs.Shares.{share_of, AreLeft, TellShares, TellWrites}
 use Rattle.rwaits.proofs.lists.Kept.{length_claims}
 use Rattle.rwaits.proofs.told.Noted.{lengths_next, lengths_stay, asks_more}
 use Rattle.rwaits.proofs.told.Rooms.{waits_apart, kept_each, all_next_few}
@@ -50,8 +52,9 @@ use Rattle.rmodel.specs.Changes.{changes_between}
 use Rattle.rwaits.specs.Quiet.{GoesOn, tells_write_of}
 use Rattle.rclaim.specs.declared.changes.StatusChange.{StatusChange}
 use Rattle.rset.specs.Sets.{Set}
-use Rattle.std.specs.FinSet.{contains}
-use Rattle.rwaits.proofs.told.Lost.{behind_before, goes_by, read_stays, told_before}
+use Rattle.std.specs.FinSet.{contains, is_subset}
+use Rattle.rwaits.proofs.told.Lost.{behind_before, goes_by, read_stays, shares_before, told_before}
+use Rattle.rwaits.proofs.told.Writers.{writers_next}
 use Rattle.rwaits.proofs.told.Gone.{waiting_over}
 use Rattle.rwaits.proofs.told.Grants.{goes_on}
 use Rattle.rwaits.proofs.told.Stood.{stood_by}
@@ -92,6 +95,11 @@ refilled_sets v ss same = refill v ss same
 renamed : (by by' len : Claim → ℕ) → ((c : Claim) → by' c ≡ by c) → (m : Moment) → AreOf by len m → AreOf by' len m
 renamed by by' len is [] are = tt
 renamed by by' len is (x ∷ xs) are = (is x.claim ∙ are.0, renamed by by' len is xs are.1)
+
+-- what is told to be written by the shares of all writes is all that those write
+pub all_written : (written : Set) (statuses : List StatusChange) (ss : List Share) → ((seat : ℕ) (share : Share) → tells_write_of statuses seat ≡ true → slice_get ss seat ≡ Some share → is_subset share.writes written ≡ true) → (m : Moment) → TellShares ss m → HoldWritten written statuses m
+all_written written statuses ss by [] tell = tt
+all_written written statuses ss by (x ∷ xs) tell = ((λ write on. by x.claim.seat (share_of x.claim) on (tell.0 write)), all_written written statuses ss by xs tell.1)
 
 module _ (a : Following) (p : Past) (k : Follows a p) where
   abbrev o : LockState
@@ -256,14 +264,20 @@ module _ (a : Following) (p : Past) (k : Follows a p) where
     pub behind_turn : is_issue e ≡ false → (ss : List Set) (last n' : Moment) → last ≡ m → n' ≡ n → HoldBehind ss last last → HoldBehind ss m n'
     behind_turn old ss last n' is_m is_n hold = subst (HoldBehind ss m) (sym is_n) (behind_before (state_of p) e reached comes old ss (subst (λ (z : Moment). HoldBehind ss z z) is_m hold))
 
+    -- the seats that have a write before the event, but for that of which it takes one away, have one behind it, which takes the same
+    pub writes_turn : is_issue e ≡ false → (writers writers' : Set) (ss : List Share) (last n' : Moment) → last ≡ m → n' ≡ n → AreLeft e writers writers' → TellWrites writers ss last → TellWrites writers' ss n'
+    writes_turn old writers writers' ss last n' is_m is_n left tell =
+        let told = subst (TellWrites writers ss) is_m tell in
+        subst (TellWrites writers' ss) (sym is_n)
+        (record { seats = writers_next (state_of p) e reached comes old writers writers' told.seats left; shares = shares_before (state_of p) e reached comes old ss told.shares })
+
     -- a read is kept waiting as before where it reads nothing of what came to be held
-    pub reads_next : is_issue e ≡ false → (came written : Set) (last n' : Moment) (statuses : List StatusChange) → last ≡ m → n' ≡ n → statuses ≡ (changes_between (state_of p) (next (state_of p) e)).statuses
-        → ((seat : ℕ) → seat < SEATS → contains came seat ≡ tells_write_of statuses seat) → HoldWritten written came n' → AllByRecursion (ReadStays written last n') n'
-    reads_next old came written last n' statuses is_m is_n are_told are hold =
+    pub reads_next : is_issue e ≡ false → (written : Set) (last n' : Moment) (statuses : List StatusChange) → last ≡ m → n' ≡ n → statuses ≡ (changes_between (state_of p) (next (state_of p) e)).statuses
+        → HoldWritten written statuses n' → AllByRecursion (ReadStays written last n') n'
+    reads_next old written last n' statuses is_m is_n are_told hold =
         subst (λ (z : Moment × Moment). AllByRecursion (ReadStays written z.0 z.1) z.1) (λ i. (sym is_m i, sym is_n i))
         (all_from (ReadStays written m n) n
-        (λ x there. read_stays (state_of p) e reached comes old came (λ seat low. are seat low ∙ ap (λ cs. tells_write_of cs seat) are_told)
-        (all_from (λ y. y.claim.seat < SEATS) m (λ y in_m. seat_in y in_m)) written (subst (HoldWritten written came) is_n hold) (seats_next_at SEATS refl) x there))
+        (λ x there. read_stays (state_of p) e reached comes old written (subst (λ (z : List StatusChange × Moment). HoldWritten written z.0 z.1) (λ i. (are_told i, is_n i)) hold) x there))
 
     pub apart_next : EachPair (WaitApart n) n
     apart_next = waits_apart n n (λ x there. there) reached_on.sound.one_each
@@ -292,8 +306,8 @@ module _ (a : Following) (p : Past) (k : Follows a p) where
         → ((rest : List Event) → AllByRecursion (AreLong (length_in (es ++ e ∷ rest))) b.runs.items)
         → ((c : Claim) → length_by b.lengths c ≡ noted e (length_by a.lengths) c)
         → ((seat : ℕ) → seat < SEATS → slice_index b.asks seat ≡ count_ask seat (slice_index a.asks seat) e)
-        → HoldWaiting b.waiting n → TellRising b.rising n → HoldAsking b.asking n → TellsNow b.heads n → b.ended.items ≡ told es m n table → Follows b (with_event p e)
-    known b room kept long lengths asks waiting rising asking heads ended = record {
+        → HoldWaiting b.waiting n → TellRising b.rising n → HoldAsking b.asking n → HoldReading b.reading n → TellWanted b.wanted n → TellsNow b.heads n → TellsWrites b.heads n → b.ended.items ≡ told es m n table → Follows b (with_event p e)
+    known b room kept long lengths asks waiting rising asking reading wanted heads writes ended = record {
       accepted = accepted_push o es e k.accepted comes;
       seats = k.seats;
       some_cap = k.some_cap;
@@ -307,7 +321,10 @@ module _ (a : Following) (p : Past) (k : Follows a p) where
       waiting = subst (λ (s : LockState). HoldWaiting b.waiting s.claims) (sym at_next) waiting;
       rising = subst (λ (s : LockState). TellRising b.rising s.claims) (sym at_next) rising;
       asking = subst (λ (s : LockState). HoldAsking b.asking s.claims) (sym at_next) asking;
+      reading = subst (λ (s : LockState). HoldReading b.reading s.claims) (sym at_next) reading;
+      wanted = subst (λ (s : LockState). TellWanted b.wanted s.claims) (sym at_next) wanted;
       heads = subst (λ (s : LockState). TellsNow b.heads s.claims) (sym at_next) heads;
+      writes = subst (λ (s : LockState). TellsWrites b.heads s.claims) (sym at_next) writes;
       room = room;
       none = λ none. absurd (never_none none);
       ended = λ before last is.
@@ -326,9 +343,9 @@ empty_long [] none len = tt
 empty_long (r ∷ rs) none len =
     (record { reads = empty_claims len r.reads.items (ap (λ (b : Sections). b.reads) none.0); writes = empty_claims len r.writes.items (ap (λ (b : Sections). b.writes) none.0) }, empty_long rs none.1 len)
 
-pub known_first : (groups : ReadGroups) (seats cap : ℕ) (a : Following) → seats ≤ SEATS → 1 ≤ cap → cap ≤ SEATS → HaveRoom a → TellsNow a.heads []
+pub known_first : (groups : ReadGroups) (seats cap : ℕ) (a : Following) → seats ≤ SEATS → 1 ≤ cap → cap ≤ SEATS → HaveRoom a → TellsNow a.heads [] → TellsWrites a.heads []
     → ((len : Claim → ℕ) → AllByRecursion (AreLong len) a.runs.items) → ((seat : ℕ) → seat < SEATS → slice_index a.asks seat ≡ 0) → a.ended.items ≡ [] → Follows a (begun groups seats cap)
-known_first groups seats cap a most some few room heads long asks none = record {
+known_first groups seats cap a most some few room heads writes long asks none = record {
   accepted = tt;
   seats = most;
   some_cap = some;
@@ -340,7 +357,10 @@ known_first groups seats cap a most some few room heads long asks none = record 
   waiting = tt;
   rising = tt;
   asking = tt;
+  reading = tt;
+  wanted = tt;
   heads = heads;
+  writes = writes;
   room = room;
   none = λ _. none;
   ended = λ before last is. absurd (some_event before last is);

@@ -24,8 +24,9 @@ use Rattle.rcover.specs.Told.{waits_to_rise, waits_for_ask}
 use Rattle.rwaits.specs.Follow.{may_wait, kept_of, with_entry}
 use Rattle.rwaits.specs.Past.{noted}
 use Rattle.rwaits.specs.Tracked.{no_sections}
-use Rattle.rwaits.specs.Waiting.{some_wait, HoldWaiting, is_rising, TellRising, HoldAsking, is_finish}
+use Rattle.rwaits.specs.Waiting.{some_wait, HoldWaiting, is_rising, TellRising, HoldAsking, HoldReading, is_finish}
 use Rattle.rwaits.proofs.told.Asking.{asking_next}
+use Rattle.rwaits.proofs.told.Reading.{reading_next}
 use Rattle.rwaits.proofs.told.Rising.{risen_next}
 use Rattle.rwaits.proofs.told.Waiting.{none_left, waited_before}
 
@@ -58,6 +59,12 @@ module _ (s : LockState) (seat : ℕ) (reached : IsReached s) (comes : Comes s (
       all_from (λ x. waits_for_ask n x ≡ true → contains seats x.claim.seat ≡ true) n
       (λ x there on. sym (without seats x there)
       ∙ all_at (λ y. waits_for_ask n y ≡ true → contains (remove seats seat) y.claim.seat ≡ true) n x (asking_next s (Finish seat) reached comes seats hold) there on)
+
+  reading_left : (seats : Set) → HoldReading seats m → HoldReading seats n
+  reading_left seats hold =
+      all_from (λ x. x.claim.write_half ≡ false → contains seats x.claim.seat ≡ true) n
+      (λ x there read. sym (without seats x there)
+      ∙ all_at (λ y. y.claim.write_half ≡ false → contains (remove seats seat) y.claim.seat ≡ true) n x (reading_next s (Finish seat) reached comes seats hold) there read)
 
   kept_left : (table : ℕ → Sections) → AllByRecursion (λ x. may_wait n x ≡ true → with_entry table seat no_sections x.claim.seat ≡ kept_of m n (table x.claim.seat) x) n
       → AllByRecursion (λ x. may_wait n x ≡ true → table x.claim.seat ≡ kept_of m n (table x.claim.seat) x) n
@@ -92,6 +99,15 @@ module _ (s : LockState) (e : Event) (reached : IsReached s) (comes : Comes s e)
       at : (d : Event) → Comes s d → is_finish d ≡ true → (seats : Set) → HoldAsking seats s.claims → HoldAsking seats (next s d).claims
       at (Issue t r) c is = contrary false is refl
       at (Finish t) c is = asking_left s t reached c
+      at (event.Rise t) c is = contrary false is refl
+      at (event.Ask t part) c is = contrary false is refl
+
+  pub reading_stays : is_finish e ≡ true → (seats : Set) → HoldReading seats s.claims → HoldReading seats (next s e).claims
+  reading_stays = at e comes
+    where
+      at : (d : Event) → Comes s d → is_finish d ≡ true → (seats : Set) → HoldReading seats s.claims → HoldReading seats (next s d).claims
+      at (Issue t r) c is = contrary false is refl
+      at (Finish t) c is = reading_left s t reached c
       at (event.Rise t) c is = contrary false is refl
       at (event.Ask t part) c is = contrary false is refl
 

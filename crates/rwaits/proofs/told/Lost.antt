@@ -33,6 +33,8 @@ use Rattle.rcover.proofs.states.LeastOfLine.{IsWriteThere, write_by_stamp, of_li
 use Rattle.rcover.proofs.states.Lines.{IsOfLine, earlier_of, least_is, least_below}
 use Rattle.rwaits.specs.declared.lines.Head.{Head}
 use Rattle.rwaits.specs.Lines.{head_of, takes_seat, set_at, IsBehind, HoldBehind, IsLost, IsTouched, with_told, TellAt, TellHeads, IsNoted, GoesBy, HoldWritten, ReadStays}
+use Rattle.rwaits.specs.declared.shares.Share.{Share}
+use Rattle.rwaits.specs.Shares.{share_of, TellShares}
 use Rattle.rwaits.specs.Past.{is_issue}
 use Rattle.rwaits.specs.Quiet.{tells_write_of}
 use Rattle.rwaits.proofs.lists.Kept.{keeper_there}
@@ -100,7 +102,7 @@ module _ (s : LockState) (e : Event) (reached : IsReached s) (comes : Comes s e)
   on = reached_next s e reached comes
 
   -- a write that the event does not take away stands behind it
-  stands : (x : Claimed) → Among x m → x.claim.write_half ≡ true → takes_seat e x.claim.seat ≡ false → There x.claim n
+  pub stands : (x : Claimed) → Among x m → x.claim.write_half ≡ true → takes_seat e x.claim.seat ≡ false → There x.claim n
   stands x there write still =
       let at = left_by e old still in
       let y = goes s e reached comes at.0 at.1 in
@@ -344,32 +346,40 @@ module _ (s : LockState) (e : Event) (reached : IsReached s) (comes : Comes s e)
             (least_stays lost gone is_lost (suc z.0.claim.stamp) z.0 z.1 (half write) (record { at = x; among = there; is = is }) (omega arith)
             (λ h. apart (ap (λ (d : Claim). (least_of d m).seat) is ∙ h))))
 
-    -- a read that reads nothing of what came to be held is kept waiting as before
-    pub read_stays : (written : Set) → HoldWritten written came n → AllByRecursion (λ y. y.claim.seat < SEATS) n → (x : Claimed) → Among x n → ReadStays written m n x
-    read_stays written hold low x there read apart v keeper before_off =
-        false_from (holds_at v n) (λ h.
-        let y = passing (λ z. is_satisfied z && is_claim v z.claim) n h in
-        let parts = and_parts (is_satisfied y.0) (is_claim v y.0.claim) y.2 in
-        let z = before s e reached comes old y.0 y.1 in
-        let k = keeper_there x.claim m v keeper in
-        let one = are_one v y.0.claim parts.1 in
-        let v_write : v.write_half ≡ true = ap (λ (d : Claim). d.write_half) (sym k.2) ∙ first_of_three k.0.claim.write_half (is_active k.0) (conflicts k.0.claim x.claim) k.3 in
-        let y_write : y.0.claim.write_half ≡ true = sym one.half ∙ v_write in
-        let k_write : k.0.claim.write_half ≡ true = ap (λ (d : Claim). d.write_half) k.2 ∙ v_write in
-        let z_write : z.0.claim.write_half ≡ true = ap (λ (d : Claim). d.write_half) (sym z.2.claim) ∙ y_write in
-        let stamp : k.0.claim.stamp ≡ z.0.claim.stamp = ap (λ (d : Claim). d.stamp) k.2 ∙ one.stamp ∙ ap (λ (d : Claim). d.stamp) z.2.claim in
-        let same : k.0 ≡ z.0 = one_of_stamp m reached.sound.well_formed.rising k.0 z.0 k.1 z.1 k_write z_write stamp in
-        let is : k.0.claim ≡ y.0.claim = ap (λ (w : Claimed). w.claim) same ∙ sym z.2.claim in
-        let unsat : is_satisfied z.0 ≡ false
-        = false_from (is_satisfied z.0) (λ sat.
-        contrary (holds_at v m)
-        (any_among (λ w. is_satisfied w && is_claim v w.claim) m z.0 z.1 (and_from (is_satisfied z.0) (is_claim v z.0.claim) sat (ap (is_claim v) (sym z.2.claim) ∙ parts.1))) before_off) in
-        let held : contains came y.0.claim.seat ≡ true
-        = are y.0.claim.seat (all_at (λ w. w.claim.seat < SEATS) n y.0 low y.1) ∙ is_told s e reached comes old y.0 z.0 y.1 z.1 z.2.claim y_write parts.0 unsat in
-        let within : is_subset y.0.claim.writes written ≡ true
-        = all_at (λ w. w.claim.write_half ≡ true → contains came w.claim.seat ≡ true → is_subset w.claim.writes written ≡ true) n y.0 hold y.1 y_write held in
-        let none : x.claim.writes ≡ empty = (all_at (λ w. IsClaim w.claim) n x on.sound.well_formed.claims there).read_only read in
-        let met : meets x.claim.reads y.0.claim.writes ≡ true
-        = ap (λ (d : Claim). meets x.claim.reads d.writes) (sym is)
-        ∙ read_meets x.claim k.0.claim none (third_of_three k.0.claim.write_half (is_active k.0) (conflicts k.0.claim x.claim) k.3) in
-        contrary (meets x.claim.reads written) (meets_within_right x.claim.reads y.0.claim.writes written within met) apart)
+  -- what the writes before the event take, those behind it do
+  pub shares_before : (ss : List Share) → TellShares ss m → TellShares ss n
+  shares_before ss tell =
+      all_from (λ z. z.claim.write_half ≡ true → slice_get ss z.claim.seat ≡ Some (share_of z.claim)) n
+      (λ x there write.
+      let z = before s e reached comes old x there in
+      subst (λ (d : Claim). slice_get ss d.seat ≡ Some (share_of d)) (sym z.2.claim)
+      (all_at (λ y. y.claim.write_half ≡ true → slice_get ss y.claim.seat ≡ Some (share_of y.claim)) m z.0 tell z.1 (ap (λ (d : Claim). d.write_half) (sym z.2.claim) ∙ write)))
+
+  -- a read that reads nothing of what came to be held is kept waiting as before
+  pub read_stays : (written : Set) → HoldWritten written told n → (x : Claimed) → Among x n → ReadStays written m n x
+  read_stays written hold x there read apart v keeper before_off =
+      false_from (holds_at v n) (λ h.
+      let y = passing (λ z. is_satisfied z && is_claim v z.claim) n h in
+      let parts = and_parts (is_satisfied y.0) (is_claim v y.0.claim) y.2 in
+      let z = before s e reached comes old y.0 y.1 in
+      let k = keeper_there x.claim m v keeper in
+      let one = are_one v y.0.claim parts.1 in
+      let v_write : v.write_half ≡ true = ap (λ (d : Claim). d.write_half) (sym k.2) ∙ first_of_three k.0.claim.write_half (is_active k.0) (conflicts k.0.claim x.claim) k.3 in
+      let y_write : y.0.claim.write_half ≡ true = sym one.half ∙ v_write in
+      let k_write : k.0.claim.write_half ≡ true = ap (λ (d : Claim). d.write_half) k.2 ∙ v_write in
+      let z_write : z.0.claim.write_half ≡ true = ap (λ (d : Claim). d.write_half) (sym z.2.claim) ∙ y_write in
+      let stamp : k.0.claim.stamp ≡ z.0.claim.stamp = ap (λ (d : Claim). d.stamp) k.2 ∙ one.stamp ∙ ap (λ (d : Claim). d.stamp) z.2.claim in
+      let same : k.0 ≡ z.0 = one_of_stamp m reached.sound.well_formed.rising k.0 z.0 k.1 z.1 k_write z_write stamp in
+      let is : k.0.claim ≡ y.0.claim = ap (λ (w : Claimed). w.claim) same ∙ sym z.2.claim in
+      let unsat : is_satisfied z.0 ≡ false
+      = false_from (is_satisfied z.0) (λ sat.
+      contrary (holds_at v m)
+      (any_among (λ w. is_satisfied w && is_claim v w.claim) m z.0 z.1 (and_from (is_satisfied z.0) (is_claim v z.0.claim) sat (ap (is_claim v) (sym z.2.claim) ∙ parts.1))) before_off) in
+      let held : tells_write_of told y.0.claim.seat ≡ true = is_told s e reached comes old y.0 z.0 y.1 z.1 z.2.claim y_write parts.0 unsat in
+      let within : is_subset y.0.claim.writes written ≡ true
+      = all_at (λ w. w.claim.write_half ≡ true → tells_write_of told w.claim.seat ≡ true → is_subset w.claim.writes written ≡ true) n y.0 hold y.1 y_write held in
+      let none : x.claim.writes ≡ empty = (all_at (λ w. IsClaim w.claim) n x on.sound.well_formed.claims there).read_only read in
+      let met : meets x.claim.reads y.0.claim.writes ≡ true
+      = ap (λ (d : Claim). meets x.claim.reads d.writes) (sym is)
+      ∙ read_meets x.claim k.0.claim none (third_of_three k.0.claim.write_half (is_active k.0) (conflicts k.0.claim x.claim) k.3) in
+      contrary (meets x.claim.reads written) (meets_within_right x.claim.reads y.0.claim.writes written within met) apart)

@@ -1,9 +1,8 @@
 -- The write that an event takes away, and the head that is lost with it.
-use Rattle.std.proofs.Common.{◌≡◌, ◌≤◌, ◌<◌, ℕ, Bool, true, false, cond, find, Option, Some, None, [], ◌∷◌, refl, sym, ap, ◌∙◌, arith, inl, inr}
-use Rattle.std.proofs.lemmas.Bool.{and_parts, and_from, eqb-true}
+use Rattle.std.proofs.Common.{◌≡◌, ◌≤◌, ◌<◌, ℕ, true, false, refl, sym, ap, ◌∙◌, arith}
+use Rattle.std.proofs.lemmas.Bool.{and_parts, eqb-true}
 use Rattle.std.specs.List.{AllByRecursion}
 use Rattle.std.specs.FinSet.{is_subset}
-use Rattle.std.specs.Option.{option_map}
 use Rattle.rset.specs.Sets.{Set}
 use Rattle.rset.specs.declared.TheConstants.{SEATS}
 use Rattle.rset.proofs.SetsWithin.{within_reflexive}
@@ -14,12 +13,11 @@ use Rattle.rclaim.specs.declared.event.Event.TheVariants.{Issue, Finish}
 use Rattle.rclaim.specs.declared.event.Event.TheVariants as event
 use Rattle.rmodel.specs.declared.claimed.Claimed.{Claimed}
 use Rattle.rmodel.specs.WellFormed.{Among, EachPair, Rises, Distinct}
-use Rattle.rmodel.proofs.ListFacts.{contrary, false_from, all_at, all_from, any_among}
-use Rattle.rcover.proofs.lists.Found.{first_of}
+use Rattle.rmodel.proofs.ListFacts.{contrary, all_at, all_from}
 use Rattle.rcover.specs.Line.{least_of}
 use Rattle.rcover.specs.Moments.{Moment, holds_at}
 use Rattle.rwaits.specs.declared.lines.Head.{Head}
-use Rattle.rwaits.specs.Lines.{head_of, is_taken, places_taken, takes_seat, IsLost}
+use Rattle.rwaits.specs.Lines.{head_of, is_taken, takes_seat, IsLost}
 use Rattle.rwaits.proofs.told.Grants.{one_write}
 use Rattle.rwaits.proofs.told.Leasts.{least_in}
 use Rattle.rwaits.proofs.told.Quiet.{least_all}
@@ -35,32 +33,6 @@ lost_none lost gone e m high low none =
           let least = least_all (λ d. d.seat < SEATS) x.claim (all_at (λ y. y.claim.seat < SEATS) m x low there) m low in
           absurd (omega arith);
     })
-
--- the write that goes, by its places
-pub taken_at : (e : Event) (m : Moment) (places : Set) → places_taken e m ≡ Some places → (w : Claimed) × Among w m × (is_taken e w ≡ true) × (w.claim.places ≡ places)
-taken_at e [] places is = absurd (no_one places is)
-  where
-    no_one : (s : Set) → None ≡ Some s → ⊥
-    no_one s h = cc
-taken_at e (x ∷ xs) places is = at (taken_at e xs places) (is_taken e x) refl is
-  where
-    one : (s t : Set) → Some s ≡ Some t → s ≡ t
-    one s t h = cc
-
-    at : (places_taken e xs ≡ Some places → (w : Claimed) × Among w xs × (is_taken e w ≡ true) × (w.claim.places ≡ places)) → (b : Bool) → is_taken e x ≡ b → option_map (λ (y : Claimed). y.claim.places) (cond b (Some x) (find (is_taken e) xs)) ≡ Some places
-        → (w : Claimed) × Among w (x ∷ xs) × (is_taken e w ≡ true) × (w.claim.places ≡ places)
-    at later true taken h = (x, inl refl, taken, one x.claim.places places h)
-    at later false not_taken h = let w = later h in (w.0, inr w.1, w.2, w.3)
-
--- none goes where there are none
-pub none_taken : (e : Event) (m : Moment) → places_taken e m ≡ None → (x : Claimed) → Among x m → x.claim.write_half ≡ true → takes_seat e x.claim.seat ≡ false
-none_taken e m none x there write =
-    false_from (takes_seat e x.claim.seat) (λ takes.
-    let w = first_of (is_taken e) m (any_among (is_taken e) m x there (and_from (takes_seat e x.claim.seat) x.claim.write_half takes write)) in
-    absurd (not_none w.one.claim.places (sym (ap (λ (o : Option Claimed). option_map (λ (y : Claimed). y.claim.places) o) w.is) ∙ none)))
-  where
-    not_none : (s : Set) → Some s ≡ None → ⊥
-    not_none s h = cc
 
 -- a seat that is taken is that of the event
 pub seat_taken : (e : Event) (seat : ℕ) → takes_seat e seat ≡ true → seat_of e ≡ seat

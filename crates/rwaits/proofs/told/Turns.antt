@@ -1,6 +1,6 @@
 -- Heads are gone on with, one claim after another.
-use Rattle.std.proofs.Common.{◌≡◌, ◌≢◌, ℕ, ◌==◌, Bool, true, false, ◌||◌, cond, Some, List, [], ◌∷◌, ◌++◌, refl, sym, ap, ◌∙◌, inl, inr}
-use Rattle.std.proofs.lemmas.Bool.{eq-eqb, eqb-true}
+use Rattle.std.proofs.Common.{◌≡◌, ◌≢◌, ℕ, ◌==◌, Bool, true, false, ◌&&◌, ◌||◌, cond, Some, List, [], ◌∷◌, ◌++◌, refl, sym, ap, ◌∙◌, inl, inr}
+use Rattle.std.proofs.lemmas.Bool.{and_parts, eq-eqb, eqb-true}
 use Rattle.std.specs.List.{AllByRecursion}
 use Rattle.std.specs.Prelude.{slice_get}
 use Rattle.std.specs.FinSet.{contains, empty, insert, is_subset, union}
@@ -17,7 +17,7 @@ use Rattle.rwaits.specs.declared.turns.Moves.{Moves}
 use Rattle.rclaim.specs.declared.changes.StatusChange.{StatusChange}
 use Rattle.rcover.specs.Line.{least_of}
 use Rattle.rwaits.specs.Quiet.{tells_write_of}
-use Rattle.rwaits.specs.Lines.{head_of, set_at, IsTouched, IsBehind, HoldBehind, HoldBehindBut, HoldMore, GoesBy, TellAt, HeadsTell, IsNew, IsNoted, IsTurned, with_told}
+use Rattle.rwaits.specs.Lines.{head_of, set_at, ArePlaced, IsTouched, IsBehind, HoldBehind, HoldBehindBut, HoldMore, GoesBy, TellAt, HeadsTell, IsNew, IsNoted, IsTurned, with_told}
 use Rattle.rwaits.proofs.lists.Kept.{pairs_before, pairs_after}
 use Rattle.rwaits.proofs.told.Heads.{behind_more, behind_same, but_more, other_seat}
 
@@ -106,6 +106,24 @@ module _ (now now' : List Head) (moves moves' : Moves) (lost : Head) (m n : Mome
         rest = heads_stay m ys behind are.rest.1;
         untold = new_stay ys behind are.untold.1;
       }
+
+  -- the writes of the seats that moved or rose stand at their places, once that of the claim is noted
+  pub placed_push : (places places' : List ℕ) (i : ℕ) → ((seat : ℕ) → slice_get places' seat ≡ cond (x.claim.write_half && (seat == x.claim.seat)) (Some i) (slice_get places seat)) → slice_get n i ≡ Some x
+      → ArePlaced places moves.moved moves.risen n → ArePlaced places' moves'.moved moves'.risen n
+  placed_push places places' i is there placed = λ seat on.
+      both_cases (x.claim.write_half && (seat == x.claim.seat))
+      (λ own.
+      let parts = and_parts x.claim.write_half (seat == x.claim.seat) own in
+      record { place = i; noted = is seat ∙ ap (λ b. cond b (Some i) (slice_get places seat)) own; at = x; there = there; write = parts.0; own = sym (eqb-true seat x.claim.seat parts.1) })
+      (λ other.
+      let apart : x.claim.write_half ≡ true → seat ≢ x.claim.seat
+      = λ write same. contrary (x.claim.write_half && (seat == x.claim.seat)) ((λ k. write k && eq-eqb seat x.claim.seat same k)) other in
+      let was = placed seat ((λ k. sym (turned.moved_stays seat apart) k || sym (turned.risen_stays seat apart) k) ∙ on) in
+      record { place = was.place; noted = is seat ∙ ap (λ b. cond b (Some i) (slice_get places seat)) other ∙ was.noted; at = was.at; there = was.there; write = was.write; own = was.own })
+
+-- before the first of them nothing need be noted
+pub none_placed : (places : List ℕ) (moved risen : Set) → moved ≡ empty → risen ≡ empty → (n : Moment) → ArePlaced places moved risen n
+none_placed places moved risen no_moved no_risen n = λ seat on. contrary (contains moved seat || contains risen seat) on (λ k. none_in moved no_moved seat k || none_in risen no_risen seat k)
 
 -- ---- the ways of one claim
 

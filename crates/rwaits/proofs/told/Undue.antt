@@ -1,7 +1,7 @@
 -- What is kept of a wait stays where nothing is due.
 use Rattle.std.proofs.Common.{◌≡◌, ℕ, ◌==◌, Bool, true, false, not, ◌&&◌, ◌||◌, cond, Some, List, sym, ap, refl, ◌∙◌}
 use Rattle.std.specs.Prelude.{if◌then◌else◌, nat_lt}
-use Rattle.std.proofs.lemmas.Bool.{or_left, eq-eqb, eqb-true}
+use Rattle.std.proofs.lemmas.Bool.{or_left, and_parts, eq-eqb, eqb-true}
 use Rattle.std.specs.FinSet.{contains, empty, insert, intersection, len, union}
 use Rattle.rset.proofs.SetMembers.{same_test, contains_empty, contains_insert, contains_intersection, contains_union}
 use Rattle.rset.proofs.SetsMeet.{meets_empty_right}
@@ -19,7 +19,7 @@ use Rattle.rcover.specs.Sections.{Sections}
 use Rattle.rcover.specs.Told.{waits_first, waits_to_rise}
 use Rattle.rwaits.specs.declared.lines.Head.{Head}
 use Rattle.rwaits.specs.Follow.{may_wait, kept_of}
-use Rattle.rwaits.specs.Lines.{head_of, HeadsTell, ReadStays, is_looked_at, is_due}
+use Rattle.rwaits.specs.Lines.{head_of, HeadsTell, ReadStays, is_looked_at, is_write_of, is_due}
 use Rattle.rwaits.specs.Past.{rises_at, StoodBy}
 use Rattle.rwaits.specs.Shown.{write_closed, closed_by}
 use Rattle.rwaits.proofs.told.Closed.{same_closed}
@@ -144,3 +144,20 @@ rises_same (event.Issue t r) on other = contrary false on refl
 rises_same (event.Finish t) on other = contrary false on refl
 rises_same (event.Rise t) on other = refl
 rises_same (event.Ask t part) on other = contrary false on refl
+
+-- without a rise no claim is due but the writes that are looked at, and the reads that read some of what came to be held
+pub calm_due : (e : Event) (looked written : Set) → rises_at e (seat_of e) ≡ false → (x : Claimed) → (x.claim.write_half ≡ false → meets x.claim.reads written ≡ false) → is_write_of looked x ≡ false → is_due e looked written x ≡ false
+calm_due e looked written calm x unmet off =
+    both_cases x.claim.write_half
+    (λ write.
+    ap (λ b. cond b (contains looked x.claim.seat) (rises_at e x.claim.seat || meets x.claim.reads written)) write
+    ∙ sym (ap (λ b. b && contains looked x.claim.seat) write) ∙ off)
+    (λ read.
+    ap (λ b. cond b (contains looked x.claim.seat) (rises_at e x.claim.seat || meets x.claim.reads written)) read
+    ∙ (λ i. rises_else e calm x.claim.seat i || unmet read i))
+
+-- without a rise the seats that are looked at are some of those that moved or rose
+pub looked_changed : (e : Event) (waiting moved risen looked : Set) → ((other : ℕ) → contains looked other ≡ is_looked_at e waiting moved risen other) → rises_at e (seat_of e) ≡ false → (other : ℕ) → contains looked other ≡ true → (contains moved other || contains risen other) ≡ true
+looked_changed e waiting moved risen looked looks calm other on =
+    (and_parts (contains waiting other) (contains moved other || contains risen other)
+    (ap (λ b. b || (contains waiting other && (contains moved other || contains risen other))) (sym (rises_else e calm other)) ∙ sym (looks other) ∙ on)).1

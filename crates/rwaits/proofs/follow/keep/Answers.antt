@@ -1,12 +1,14 @@
-use Rattle.std.proofs.Common.{◌≡◌, true, false, sym}
-use Rattle.std.specs.FinSet.{contains}
+use Rattle.std.proofs.Common.{◌≡◌, nat_lt, true, false, sym, ap, ◌∙◌}
+use Rattle.std.proofs.lemmas.Bool.{or_left}
+use Rattle.std.specs.FinSet.{contains, len}
+use Rattle.rset.specs.Sets.{meets}
 use Rattle.rmodel.proofs.ListFacts.{all_at, all_from}
 use Rattle.rcover.specs.Sections.{Sections}
-use Rattle.rwaits.specs.Follow.{table_of, may_wait, kept_of}
-use Rattle.rwaits.specs.Lines.{HeadsTell, ReadStays, is_due}
+use Rattle.rwaits.specs.Follow.{may_wait, kept_of}
+use Rattle.rwaits.specs.Lines.{HeadsTell, ReadStays, set_at, is_write_of, is_due}
 use Rattle.rwaits.specs.Past.{StoodBy}
 use Rattle.rwaits.specs.Waiting.{some_wait}
-use Rattle.rwaits.proofs.told.Undue.{undue_kept, none_due}
+use Rattle.rwaits.proofs.told.Undue.{calm_due, looked_changed, undue_kept}
 use Rattle.rwaits.proofs.follow.keep.Goals as goal
 
 pub keep_looked-requires-clause-undue : goal.keep_looked-requires-clause-undue
@@ -23,18 +25,26 @@ keep_looked-requires-clause-undue c =
     (all_at (λ y. some_wait n y ≡ true → contains c.args.waiting y.claim.seat ≡ true) n x c.requires.waiting there) undue
     (all_at (StoodBy e m n) n x c.requires.stood there) (all_at (ReadStays c.args.written m n) n x c.requires.reads there) a on)
 
-pub returns-then-is_empty-2-clause-kept : goal.returns-then-is_empty-2-clause-kept
-returns-then-is_empty-2-clause-kept c =
+pub keep_writes-requires-clause-undue : goal.keep_writes-requires-clause-undue
+keep_writes-requires-clause-undue c =
     let e = c.args.event.now in
     let m = c.args.last.now in
     let n = c.args.next.now in
     let looked = c.looked_at-looked.result in
     let hs = c.args.heads.now in
     let lost = c.args.lost.now in
-    let table = table_of c.args.runs.now in
-    all_from (λ x. may_wait n x ≡ true → table x.claim.seat ≡ kept_of m n (table x.claim.seat) x) n
-    (λ x there on.
-    sym (undue_kept e c.args.waiting c.args.moved c.args.risen looked c.args.written m n x hs lost (all_at (HeadsTell hs lost c.args.moved c.args.risen m n) n x c.requires.heads there) c.looked_at-looked.ensures
+    all_from (λ x. is_write_of looked x ≡ false → may_wait n x ≡ true → (a : Sections) → kept_of m n a x ≡ a) n
+    (λ x there off on a.
+    undue_kept e c.args.waiting c.args.moved c.args.risen looked c.args.written m n x hs lost (all_at (HeadsTell hs lost c.args.moved c.args.risen m n) n x c.requires.heads there) c.looked_at-looked.ensures
     (all_at (λ y. some_wait n y ≡ true → contains c.args.waiting y.claim.seat ≡ true) n x c.requires.waiting there)
-    (none_due e c.args.waiting c.args.moved c.args.risen looked c.args.written c.looked_at-looked.ensures (c.is_empty.ensures.0 c.if-is_empty.true) (c.is_empty-then-is_empty.ensures.0 c.if-is_empty-2.true) x)
-    (all_at (StoodBy e m n) n x c.requires.stood there) (all_at (ReadStays c.args.written m n) n x c.requires.reads there) (table x.claim.seat) on))
+    (calm_due e looked c.args.written (c.reads_stay.ensures.calm c.if-reads_stay.true) x
+    (λ read.
+    ap (λ s. meets s c.args.written) (sym (all_at (λ y. y.claim.write_half ≡ false → set_at c.args.wanted.now y.claim.seat ≡ y.claim.reads) n x c.requires.wanted there read))
+    ∙ c.reads_stay.ensures.none c.if-reads_stay.true x.claim.seat (all_at (λ y. y.claim.write_half ≡ false → contains c.args.reading y.claim.seat ≡ true) n x c.requires.reading there read)
+    (all_at (λ y. some_wait n y ≡ true → contains c.args.waiting y.claim.seat ≡ true) n x c.requires.waiting there (or_left (may_wait n x) (nat_lt 0 (len x.asked)) on))) off)
+    (all_at (StoodBy e m n) n x c.requires.stood there) (all_at (ReadStays c.args.written m n) n x c.requires.reads there) a on)
+
+pub keep_writes-requires-clause-placed : goal.keep_writes-requires-clause-placed
+keep_writes-requires-clause-placed c = λ seat on.
+    c.requires.placed seat (looked_changed c.args.event.now c.args.waiting c.args.moved c.args.risen c.looked_at-looked.result c.looked_at-looked.ensures
+    (c.reads_stay.ensures.calm c.if-reads_stay.true) seat on)

@@ -1,5 +1,6 @@
-use Rattle.std.proofs.Common.{◌≡◌, ◌<◌, ◌≤◌, ℕ, false, length, ◌+◌, ◌++◌, ◌∷◌, [], List, refl, take, drop, sym, ap, subst, arith, ◌∙◌}
-use Rattle.std.proofs.lemmas.List.{take_all, take_more, take-append-drop}
+use Rattle.std.proofs.Common.{◌≡◌, ◌==◌, ◌&&◌, ◌<◌, ◌≤◌, ℕ, Some, cond, slice_get, false, length, ◌+◌, ◌++◌, ◌∷◌, [], List, refl, take, drop, sym, ap, subst, arith, ◌∙◌}
+use Rattle.std.proofs.lemmas.List.{get_or_default, take_all, take_more, take-append-drop}
+use Rattle.std.proofs.lemmas.Option.{slice_get_read}
 use Rattle.std.specs.List.{AllByRecursion}
 use Rattle.std.specs.FinSet.{contains}
 use Rattle.rmodel.specs.declared.claimed.Claimed.{Claimed}
@@ -13,7 +14,7 @@ use Rattle.rcover.specs.Line.{least_of}
 use Rattle.rwaits.specs.Lines.{IsBehind, HoldBehind, TellAt, GoesBy, HeadsTell, IsNext, IsNoted, IsTurned}
 use Rattle.rwaits.proofs.lists.Kept.{all_get, drop_more}
 use Rattle.rwaits.proofs.told.Quiet.{least_all}
-use Rattle.rwaits.proofs.told.Turns.{AreHeld, AreTurned, heads_same, held_push, held_same, none_told, tells_same, turned_push, turned_still}
+use Rattle.rwaits.proofs.told.Turns.{AreHeld, AreTurned, heads_same, held_push, held_same, none_placed, none_told, placed_push, tells_same, turned_push, turned_still}
 use Rattle.rwaits.proofs.turns.turn_heads.Goals as goal
 
 front : (P : Claimed → Type 0) (xs ys : List Claimed) → AllByRecursion P (xs ++ ys) → AllByRecursion P xs
@@ -37,6 +38,8 @@ pub loop-i-init : goal.loop-i-init
 loop-i-init c = record {
   len = refl;
   behind_len = refl;
+  places_len = refl;
+  placed = λ m tell by. none_placed c.args.places.now c.empty.result c.empty-2.result c.empty.ensures c.empty-2.ensures c.args.moment.now;
   told = λ m tell by. record {
     within = within_reflexive c.args.gone;
     heads = tt;
@@ -64,6 +67,8 @@ loop-i-preserved-then-not-has c =
     record {
       len = c.loop-i.invariant.len;
       behind_len = c.loop-i.invariant.behind_len;
+      places_len = c.loop-i.invariant.places_len;
+      placed = c.loop-i.invariant.placed;
       held = λ m tell by but.
           let are = subst (λ (ys : List Claimed). AreHeld lost.claim.seat c.loop-i.behind m n (take i n) ys) behind (c.loop-i.invariant.held m tell by but) in
           let goes : GoesBy lost gone c.args.came c.args.touched m n x = subst (GoesBy lost gone c.args.came c.args.touched m n) (sym c.index-moment-i.is) (all_get (GoesBy lost gone c.args.came c.args.touched m n) n i x by (omega arith)) in
@@ -81,8 +86,8 @@ pub loop-i-preserved : goal.loop-i-preserved
 loop-i-preserved c =
     let n = c.args.moment.now in
     let i = c.loop-i.i in
-    let x = c.index-moment-i-in-loop-i.result in
-    let is = c.index-moment-i-in-loop-i.is in
+    let x = c.index-moment-i-in-loop-i-2.result in
+    let is = c.index-moment-i-in-loop-i-2.is in
     let now = c.loop-i.now in
     let moves = c.loop-i.moves in
     let now' = c.turn_head.new.now in
@@ -102,9 +107,20 @@ loop-i-preserved c =
     } in
     let noted : (m : Moment) → AreTurned now moves lost gone m n (take i n) (x ∷ drop (i + 1) n) → AllByRecursion (IsNoted moves.dirty m (take i n ++ x ∷ drop (i + 1) n)) (take i n)
     = λ m so. subst (λ (k : Moment). AllByRecursion (IsNoted moves.dirty m k) (take i n)) (sym whole) so.noted in
+    let turned : (m : Moment) → TellAt c.args.now.now m n → AllByRecursion (GoesBy lost gone c.args.came touched m n) n → IsTurned now moves lost now' moves' m n x
+    = λ m tell by.
+    let so = subst (λ (ys : List Claimed). AreTurned now moves lost gone m n (take i n) ys) behind (c.loop-i.invariant.told m tell by) in
+    let goes : GoesBy lost gone c.args.came touched m n x = subst (GoesBy lost gone c.args.came touched m n) (sym is) (all_get (GoesBy lost gone c.args.came touched m n) n i x by (omega arith)) in
+    subst (λ (k : Moment). IsTurned now moves lost now' moves' m k x) whole
+    (c.turn_head.ensures.turned gone touched m (drop (i + 1) n) (next m so) (subst (λ (k : Moment). GoesBy lost gone c.args.came touched m k x) (sym whole) goes) so.untold.0 so.within (noted m so)) in
     record {
       len = c.turn_head.ensures.len ∙ c.loop-i.invariant.len;
       behind_len = c.turn_head.ensures.behind_len ∙ c.loop-i.invariant.behind_len;
+      places_len = c.note_place.ensures.len ∙ c.loop-i.invariant.places_len;
+      placed = λ m tell by.
+          placed_push now now' moves moves' lost m n x (turned m tell by) c.loop-i.places c.note_place.new.places i
+          (λ seat. c.note_place.ensures.places seat ∙ ap (λ (y : Claimed). cond (y.claim.write_half && (seat == y.claim.seat)) (Some i) (slice_get c.loop-i.places seat)) (c.index-moment-i-in-loop-i.is ∙ get_or_default n i c.index-moment-i-in-loop-i.result x (omega arith) ∙ sym is))
+          (slice_get_read n (length n) i x refl (omega arith) is) (c.loop-i.invariant.placed m tell by);
       held = λ m tell by but.
           let so = subst (λ (ys : List Claimed). AreTurned now moves lost gone m n (take i n) ys) behind (c.loop-i.invariant.told m tell by) in
           let are = subst (λ (ys : List Claimed). AreHeld lost.claim.seat c.loop-i.behind m n (take i n) ys) behind (c.loop-i.invariant.held m tell by but) in
@@ -120,12 +136,8 @@ loop-i-preserved c =
           (subst (λ (k : Moment). (least_of x.claim k).seat < length c.loop-i.behind) (sym whole) low) so.within (noted m so) write was)) are);
       told = λ m tell by.
           let so = subst (λ (ys : List Claimed). AreTurned now moves lost gone m n (take i n) ys) behind (c.loop-i.invariant.told m tell by) in
-          let goes : GoesBy lost gone c.args.came touched m n x = subst (GoesBy lost gone c.args.came touched m n) (sym is) (all_get (GoesBy lost gone c.args.came touched m n) n i x by (omega arith)) in
-          let turned : IsTurned now moves lost now' moves' m n x
-          = subst (λ (k : Moment). IsTurned now moves lost now' moves' m k x) whole
-          (c.turn_head.ensures.turned gone touched m (drop (i + 1) n) (next m so) (subst (λ (k : Moment). GoesBy lost gone c.args.came touched m k x) (sym whole) goes) so.untold.0 so.within (noted m so)) in
           subst (λ (zs : List Claimed). AreTurned now' moves' lost gone m n zs (drop (i + 1) n)) (sym front)
-          (turned_push now now' moves moves' lost m n x turned gone (take i n) (drop (i + 1) n) (subst (EachPair Distinct) (sym whole) c.requires.one_each) so);
+          (turned_push now now' moves moves' lost m n x (turned m tell by) gone (take i n) (drop (i + 1) n) (subst (EachPair Distinct) (sym whole) c.requires.one_each) so);
     }
 
 pub returns-clause-told : goal.returns-clause-told
@@ -149,6 +161,12 @@ returns-then-is_empty-clause-told c = λ m tell by but.
       heads = heads_same c.args.lost.now c.args.gone c.args.came c.args.touched none m n c.args.now.now n tell by;
       behind = held_same c.args.lost.now c.args.gone c.args.came c.args.touched none m n c.args.now.now c.args.behind.now n by but;
     }
+
+pub returns-then-is_empty-clause-placed : goal.returns-then-is_empty-clause-placed
+returns-then-is_empty-clause-placed c = λ m tell by. none_placed c.args.places.now c.empty.result c.empty-2.result c.empty.ensures c.empty-2.ensures c.args.moment.now
+
+pub returns-clause-placed : goal.returns-clause-placed
+returns-clause-placed c = c.loop-i.invariant.placed
 
 pub returns-then-is_empty-clause-tell : goal.returns-then-is_empty-clause-tell
 returns-then-is_empty-clause-tell c = λ m tell by.

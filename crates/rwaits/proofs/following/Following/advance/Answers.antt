@@ -1,4 +1,4 @@
-use Rattle.std.proofs.Common.{◌≡◌, ℕ, ◌<◌, ◌≤◌, ◌==◌, true, false, List, ◌∷◌, ◌++◌, length, take, sym, ap, subst, ◌∙◌, arith}
+use Rattle.std.proofs.Common.{◌≡◌, ℕ, ◌<◌, ◌≤◌, ◌==◌, true, false, List, ◌∷◌, ◌++◌, length, take, refl, sym, ap, subst, ◌∙◌, arith}
 use Rattle.std.specs.List.{list_any, AllByRecursion}
 use Rattle.rset.specs.declared.TheConstants.{SEATS}
 use Rattle.rclaim.specs.Events.{seat_of}
@@ -19,7 +19,9 @@ use Rattle.rwaits.specs.Follow.{table_of, length_by, HasRoom, AreLong, AreOf, ma
 use Rattle.rwaits.specs.declared.lines.Head.{Head}
 use Rattle.rclaim.specs.declared.changes.StatusChange.{StatusChange}
 use Rattle.rwaits.proofs.told.Turns.{touched_all}
-use Rattle.rwaits.specs.Lines.{HoldBehind, IsTouched, IsLost, HoldWritten, TellHeads, HeadsTell}
+use Rattle.rwaits.specs.Lines.{HoldBehind, IsTouched, TellHeads, HeadsTell, ArePlaced}
+use Rattle.rwaits.specs.declared.shares.Share.{Share}
+use Rattle.rwaits.specs.Shares.{AreLeft, TellWrites}
 use Rattle.rclaim.specs.Changes.{ChangeLists}
 use Rattle.rclaim.specs.declared.changes.GrantChange.{GrantChange}
 use Rattle.rmodel.specs.Changes.{changes_between}
@@ -27,12 +29,13 @@ use Rattle.rwaits.specs.Past.{state_of, StoodBy}
 use Rattle.rwaits.specs.Quiet.{GoesOn, OneWaits}
 use Rattle.rwaits.proofs.told.Looked.{one_waits}
 use Rattle.rwaits.specs.Tracked.{shown}
-use Rattle.rwaits.proofs.told.Knowing.{reached, claims_few, seats_now, shown_few, event_seat, seats_next, apart_next, few_next, lengths_stay_on, lengths_come, refilled, is_moment_now, is_moment_next, known, rising_now, seats_next_at, rising_next, behind_turn, heads_turn, reads_next, stood_next, quiet_now, ends_next, waits_next}
+use Rattle.rwaits.proofs.told.Knowing.{all_written, reached, claims_few, seats_now, shown_few, event_seat, seats_next, apart_next, few_next, lengths_stay_on, lengths_come, refilled, is_moment_now, is_moment_next, known, rising_now, seats_next_at, rising_next, behind_turn, heads_turn, reads_next, stood_next, quiet_now, ends_next, waits_next, writes_turn}
 use Rattle.rwaits.proofs.told.Noted.{asks_at_most}
 use Rattle.rset.specs.Sets.{Set}
-use Rattle.rwaits.specs.Heads.{IsMoment, TellsNow}
-use Rattle.rwaits.specs.Waiting.{HoldAsking, HoldWaiting, TellRising, first_of}
+use Rattle.rwaits.specs.Heads.{IsMoment, TellsNow, TellsWrites}
+use Rattle.rwaits.specs.Waiting.{HoldAsking, HoldWaiting, TellRising, first_of, HoldReading, TellWanted}
 use Rattle.rwaits.proofs.told.Asking.{asking_next}
+use Rattle.rwaits.proofs.told.Reading.{reading_next, wanted_next, wanted_still}
 use Rattle.rwaits.proofs.told.Rising.{risen_next}
 use Rattle.rwaits.proofs.told.Waiting.{none_before, plain_of}
 use Rattle.rwaits.proofs.following.Following.advance.Goals as goal
@@ -88,16 +91,24 @@ tell_now-requires-clause-room c = c.requires.ahead.1.follows.room.heads
 pub tell_now-requires-clause-told : goal.tell_now-requires-clause-told
 tell_now-requires-clause-told c = subst (TellsNow c.args.self.now.heads) (sym (c.deref.ensures.value ∙ c.requires.ahead.1.noted c.requires.other)) c.requires.ahead.1.follows.heads
 
+pub tell_now-requires-clause-writes : goal.tell_now-requires-clause-writes
+tell_now-requires-clause-writes c =
+    subst (TellsWrites c.args.self.now.heads) (sym (c.deref.ensures.value ∙ c.requires.ahead.1.noted c.requires.other)) c.requires.ahead.1.follows.writes
+
 pub turn-requires-clause-moment : goal.turn-requires-clause-moment
 turn-requires-clause-moment c =
     let p = c.requires.ahead.0 in
     let k = c.requires.ahead.1.follows in
     subst IsMoment (sym (c.claims-4.ensures ∙ ap (λ (s : LockState). s.claims) c.requires.ahead.1.state)) (is_moment_next c.args.self.now p k c.args.event.now c.requires.ahead.1.comes)
 
+pub turn-requires-clause-places : goal.turn-requires-clause-places
+turn-requires-clause-places c = c.requires.ahead.1.follows.room.places
+
 pub turn-requires-clause-room : goal.turn-requires-clause-room
 turn-requires-clause-room c = record {
   now = ap (λ (v : Vec Head Global). length v.items) c.lose-gone.ensures.now ∙ c.tell_now.ensures.room.now;
   behind = ap (λ (v : Vec Set Global). length v.items) c.lose-gone.ensures.behind ∙ c.tell_now.ensures.room.behind;
+  shares = ap (λ (ss : List Share). length ss) c.lose-gone.ensures.shares ∙ c.tell_now.ensures.room.shares;
 }
 
 pub keep-requires-clause-event : goal.keep-requires-clause-event
@@ -108,7 +119,7 @@ keep-requires-clause-head c =
     let p = c.requires.ahead.0 in
     let k = c.requires.ahead.1.follows in
     let e = c.args.event.now in
-    let at_n = c.claims-6.ensures ∙ ap (λ (s : LockState). s.claims) c.requires.ahead.1.state in
+    let at_n = c.claims-5.ensures ∙ ap (λ (s : LockState). s.claims) c.requires.ahead.1.state in
     subst (λ (n : Moment). AllByRecursion (λ x. x.claim.seat < length c.deref-11.result.now) n) (sym at_n)
     (seats_next_at c.args.self.now p k e c.requires.ahead.1.comes (length c.deref-11.result.now) (ap (λ (l : List Head). length l) c.deref-11.ensures.value ∙ c.turn.ensures.room.now))
 
@@ -122,26 +133,53 @@ keep-requires-clause-heads c =
     let m = (state_of p).claims in
     let lost = c.lose-gone.new.self.lost in
     let statuses = c.deref-7.ensures.value ∙ ap (λ (l : ChangeLists). l.statuses) (c.behind-machine-2.view_is ∙ c.changes-2.ensures ∙ g.changes) in
-    let statuses_2 = c.deref-10.ensures.value ∙ ap (λ (l : ChangeLists). l.statuses) (c.behind-machine-3.view_is ∙ c.changes-3.ensures ∙ g.changes) in
+    let statuses_2 = c.deref-9.ensures.value ∙ ap (λ (l : ChangeLists). l.statuses) (c.behind-machine-3.view_is ∙ c.changes-3.ensures ∙ g.changes) in
     let touch : AllByRecursion (IsTouched lost.claim.seat c.deref-7.result.now c.touched_by-touched.result c.deref.result.now) c.deref.result.now
     = subst (λ (cs : List StatusChange). AllByRecursion (IsTouched lost.claim.seat cs c.touched_by-touched.result c.deref.result.now) c.deref.result.now) (statuses_2 ∙ sym statuses)
-    (touched_all c.deref-9.result.now lost.claim.seat c.deref-10.result.now c.touched_by-touched.result c.touched_by-touched.ensures.lost c.touched_by-touched.ensures.told c.deref.result.now c.deref.result.now
-    (subst (λ (ss : List Set). HoldBehind ss c.deref.result.now c.deref.result.now) (sym (c.deref-9.ensures.value ∙ ap (λ (v : Vec Set Global). v.items) c.lose-gone.ensures.behind)) c.tell_now.ensures.told.behind)) in
+    (touched_all c.deref-8.result.now lost.claim.seat c.deref-9.result.now c.touched_by-touched.result c.touched_by-touched.ensures.lost c.touched_by-touched.ensures.told c.deref.result.now c.deref.result.now
+    (subst (λ (ss : List Set). HoldBehind ss c.deref.result.now c.deref.result.now) (sym (c.deref-8.ensures.value ∙ ap (λ (v : Vec Set Global). v.items) c.lose-gone.ensures.behind)) c.tell_now.ensures.told.behind)) in
     let both =
     heads_turn a p k e g.comes (plain_of a.waiting e c.requires.other) c.lose-gone.new.self.now.items lost c.lose-gone.result c.seats_told-came.result c.touched_by-touched.result c.deref.result.now c.claims-4.result.now c.deref-7.result.now
     (c.deref.ensures.value ∙ g.noted c.requires.other) (c.claims-4.ensures ∙ ap (λ (t : LockState). t.claims) g.state)
-    (subst (λ (z : Moment). AllByRecursion (IsLost lost c.lose-gone.result e z) z) (c.deref-8.ensures.value ∙ sym c.deref.ensures.value) c.lose-gone.ensures.lost) statuses c.seats_told-came.ensures touch
+    (c.lose-gone.ensures.lost c.deref.result.now (subst IsMoment (sym (c.deref.ensures.value ∙ g.noted c.requires.other)) (is_moment_now a p k)) c.tell_now.ensures.told.heads c.tell_now.ensures.writes) statuses c.seats_told-came.ensures touch
     (subst (λ (v : Vec Head Global). TellHeads v.items c.deref.result.now) (sym c.lose-gone.ensures.now) c.tell_now.ensures.told.heads) in
     let tell = c.turn.ensures.tell m both.0 both.1 in
     subst (λ (z : List Head × Moment × Moment). AllByRecursion (HeadsTell z.0 c.turn.new.self.lost c.turn.new.self.moved c.turn.new.self.risen z.1 z.2) z.2)
-    (λ i. (sym c.deref-11.ensures.value i, sym (c.deref-12.ensures.value ∙ g.noted c.requires.other) i, (c.claims-4.ensures ∙ sym c.claims-6.ensures) i)) tell
+    (λ i. (sym c.deref-11.ensures.value i, sym (c.deref-12.ensures.value ∙ g.noted c.requires.other) i, (c.claims-4.ensures ∙ sym c.claims-5.ensures) i)) tell
+
+pub keep-requires-clause-placed : goal.keep-requires-clause-placed
+keep-requires-clause-placed c =
+    let a = c.args.self.now in
+    let p = c.requires.ahead.0 in
+    let g = c.requires.ahead.1 in
+    let k = g.follows in
+    let e = c.args.event.now in
+    let m = (state_of p).claims in
+    let lost = c.lose-gone.new.self.lost in
+    let statuses = c.deref-7.ensures.value ∙ ap (λ (l : ChangeLists). l.statuses) (c.behind-machine-2.view_is ∙ c.changes-2.ensures ∙ g.changes) in
+    let statuses_2 = c.deref-9.ensures.value ∙ ap (λ (l : ChangeLists). l.statuses) (c.behind-machine-3.view_is ∙ c.changes-3.ensures ∙ g.changes) in
+    let touch : AllByRecursion (IsTouched lost.claim.seat c.deref-7.result.now c.touched_by-touched.result c.deref.result.now) c.deref.result.now
+    = subst (λ (cs : List StatusChange). AllByRecursion (IsTouched lost.claim.seat cs c.touched_by-touched.result c.deref.result.now) c.deref.result.now) (statuses_2 ∙ sym statuses)
+    (touched_all c.deref-8.result.now lost.claim.seat c.deref-9.result.now c.touched_by-touched.result c.touched_by-touched.ensures.lost c.touched_by-touched.ensures.told c.deref.result.now c.deref.result.now
+    (subst (λ (ss : List Set). HoldBehind ss c.deref.result.now c.deref.result.now) (sym (c.deref-8.ensures.value ∙ ap (λ (v : Vec Set Global). v.items) c.lose-gone.ensures.behind)) c.tell_now.ensures.told.behind)) in
+    let both =
+    heads_turn a p k e g.comes (plain_of a.waiting e c.requires.other) c.lose-gone.new.self.now.items lost c.lose-gone.result c.seats_told-came.result c.touched_by-touched.result c.deref.result.now c.claims-4.result.now c.deref-7.result.now
+    (c.deref.ensures.value ∙ g.noted c.requires.other) (c.claims-4.ensures ∙ ap (λ (t : LockState). t.claims) g.state)
+    (c.lose-gone.ensures.lost c.deref.result.now (subst IsMoment (sym (c.deref.ensures.value ∙ g.noted c.requires.other)) (is_moment_now a p k)) c.tell_now.ensures.told.heads c.tell_now.ensures.writes) statuses c.seats_told-came.ensures touch
+    (subst (λ (v : Vec Head Global). TellHeads v.items c.deref.result.now) (sym c.lose-gone.ensures.now) c.tell_now.ensures.told.heads) in
+    subst (λ (n : Moment). ArePlaced c.turn.new.places c.turn.new.self.moved c.turn.new.self.risen n) (c.claims-4.ensures ∙ sym c.claims-5.ensures) (c.turn.ensures.placed m both.0 both.1)
+
+pub keep-requires-clause-one_each : goal.keep-requires-clause-one_each
+keep-requires-clause-one_each c =
+    subst (λ (m : Moment). EachPair Distinct m) (sym (c.claims-5.ensures ∙ ap (λ (s : LockState). s.claims) c.requires.ahead.1.state))
+    (is_moment_next c.args.self.now c.requires.ahead.0 c.requires.ahead.1.follows c.args.event.now c.requires.ahead.1.comes).one_each
 
 pub keep-requires-clause-seats : goal.keep-requires-clause-seats
 keep-requires-clause-seats c =
     let p = c.requires.ahead.0 in
     let k = c.requires.ahead.1.follows in
     let e = c.args.event.now in
-    let at_n = c.claims-6.ensures ∙ ap (λ (s : LockState). s.claims) c.requires.ahead.1.state in
+    let at_n = c.claims-5.ensures ∙ ap (λ (s : LockState). s.claims) c.requires.ahead.1.state in
     subst (λ (z : List Run × Moment). AllByRecursion (λ x. x.claim.seat < length z.0) z.1) (λ i. (sym c.deref_mut.ensures.value i, sym at_n i)) (seats_next c.args.self.now p k e c.requires.ahead.1.comes)
 
 pub keep-requires-clause-apart : goal.keep-requires-clause-apart
@@ -149,7 +187,7 @@ keep-requires-clause-apart c =
     let p = c.requires.ahead.0 in
     let k = c.requires.ahead.1.follows in
     let e = c.args.event.now in
-    let at_n = c.claims-6.ensures ∙ ap (λ (s : LockState). s.claims) c.requires.ahead.1.state in
+    let at_n = c.claims-5.ensures ∙ ap (λ (s : LockState). s.claims) c.requires.ahead.1.state in
     subst (λ (n : Moment). EachPair (WaitApart n) n) (sym at_n) (apart_next c.args.self.now p k e c.requires.ahead.1.comes)
 
 pub keep-requires-clause-few : goal.keep-requires-clause-few
@@ -158,7 +196,7 @@ keep-requires-clause-few c =
     let k = c.requires.ahead.1.follows in
     let e = c.args.event.now in
     let at_m = c.deref-12.ensures.value ∙ c.requires.ahead.1.noted c.requires.other in
-    let at_n = c.claims-6.ensures ∙ ap (λ (s : LockState). s.claims) c.requires.ahead.1.state in
+    let at_n = c.claims-5.ensures ∙ ap (λ (s : LockState). s.claims) c.requires.ahead.1.state in
     subst (λ (z : List Run × Moment × Moment). AllByRecursion (λ x. may_wait z.2 x ≡ true → AreAtMost SEATS (kept_of z.1 z.2 (table_of z.0 x.claim.seat) x)) z.2)
     (λ i. (sym c.deref_mut.ensures.value i, sym at_m i, sym at_n i)) (few_next c.args.self.now p k e c.requires.ahead.1.comes)
 
@@ -170,24 +208,24 @@ returns c = λ p g.
     let e = c.args.event.now in
     let es = p.events in
     let at_m = c.deref-12.ensures.value ∙ g.noted c.requires.other in
-    let at_n = c.claims-6.ensures ∙ ap (λ (s : LockState). s.claims) g.state in
+    let at_n = c.claims-5.ensures ∙ ap (λ (s : LockState). s.claims) g.state in
     let lost = c.lose-gone.new.self.lost in
     let statuses = c.deref-7.ensures.value ∙ ap (λ (l : ChangeLists). l.statuses) (c.behind-machine-2.view_is ∙ c.changes-2.ensures ∙ g.changes) in
-    let statuses_2 = c.deref-10.ensures.value ∙ ap (λ (l : ChangeLists). l.statuses) (c.behind-machine-3.view_is ∙ c.changes-3.ensures ∙ g.changes) in
+    let statuses_2 = c.deref-9.ensures.value ∙ ap (λ (l : ChangeLists). l.statuses) (c.behind-machine-3.view_is ∙ c.changes-3.ensures ∙ g.changes) in
     let touch : AllByRecursion (IsTouched lost.claim.seat c.deref-7.result.now c.touched_by-touched.result c.deref.result.now) c.deref.result.now
     = subst (λ (cs : List StatusChange). AllByRecursion (IsTouched lost.claim.seat cs c.touched_by-touched.result c.deref.result.now) c.deref.result.now) (statuses_2 ∙ sym statuses)
-    (touched_all c.deref-9.result.now lost.claim.seat c.deref-10.result.now c.touched_by-touched.result c.touched_by-touched.ensures.lost c.touched_by-touched.ensures.told c.deref.result.now c.deref.result.now
-    (subst (λ (ss : List Set). HoldBehind ss c.deref.result.now c.deref.result.now) (sym (c.deref-9.ensures.value ∙ ap (λ (v : Vec Set Global). v.items) c.lose-gone.ensures.behind)) c.tell_now.ensures.told.behind)) in
+    (touched_all c.deref-8.result.now lost.claim.seat c.deref-9.result.now c.touched_by-touched.result c.touched_by-touched.ensures.lost c.touched_by-touched.ensures.told c.deref.result.now c.deref.result.now
+    (subst (λ (ss : List Set). HoldBehind ss c.deref.result.now c.deref.result.now) (sym (c.deref-8.ensures.value ∙ ap (λ (v : Vec Set Global). v.items) c.lose-gone.ensures.behind)) c.tell_now.ensures.told.behind)) in
     let both =
     heads_turn a p k e g.comes (plain_of a.waiting e c.requires.other) c.lose-gone.new.self.now.items lost c.lose-gone.result c.seats_told-came.result c.touched_by-touched.result c.deref.result.now c.claims-4.result.now c.deref-7.result.now
     (c.deref.ensures.value ∙ g.noted c.requires.other) (c.claims-4.ensures ∙ ap (λ (t : LockState). t.claims) g.state)
-    (subst (λ (z : Moment). AllByRecursion (IsLost lost c.lose-gone.result e z) z) (c.deref-8.ensures.value ∙ sym c.deref.ensures.value) c.lose-gone.ensures.lost) statuses c.seats_told-came.ensures touch
+    (c.lose-gone.ensures.lost c.deref.result.now (subst IsMoment (sym (c.deref.ensures.value ∙ g.noted c.requires.other)) (is_moment_now a p k)) c.tell_now.ensures.told.heads c.tell_now.ensures.writes) statuses c.seats_told-came.ensures touch
     (subst (λ (v : Vec Head Global). TellHeads v.items c.deref.result.now) (sym c.lose-gone.ensures.now) c.tell_now.ensures.told.heads) in
     let lengths = c.note_lengths.new.lengths in
     let runs = c.keep.new.runs in
     let same : length runs ≡ length a.runs.items = c.keep.ensures.len ∙ ap (λ (rs : List Run). length rs) c.deref_mut.ensures.value in
     let kept_runs : (with_items a.runs runs).items ≡ runs = refilled a.runs runs same in
-    let b : Following = record { waiting = c.note_seat.new.waiting; rising = c.note_event.new.rising; asking = c.note_event.new.asking; last = a.last; there = a.there; runs = with_items a.runs runs; lengths = lengths; asks = c.note_ask.new.asks; heads = c.turn.new.self; scratch = c.tell.new.scratch; ended = c.tell.new.ended } in
+    let b : Following = record { waiting = c.note_seat.new.waiting; rising = c.note_event.new.rising; asking = c.note_event.new.asking; reading = c.note_event.new.reading; wanted = a.wanted; last = a.last; there = a.there; runs = with_items a.runs runs; lengths = lengths; asks = c.note_ask.new.asks; heads = c.turn.new.self; places = c.turn.new.places; scratch = c.tell.new.scratch; ended = c.tell.new.ended } in
     let ends = ends_next a p k e comes c.deref-5.result.now c.claims.result.now c.deref-2.result.now c.tell.new.ended.items (c.deref-5.ensures.value ∙ g.noted c.requires.other) (c.claims.ensures ∙ ap (λ (t : LockState). t.claims) g.state) c.deref-2.ensures.value c.tell.ensures.told in
     known a p k e comes b
     (record {
@@ -199,6 +237,8 @@ returns c = λ p g.
       lengths = c.note_lengths.ensures.len ∙ k.room.lengths;
       asks = c.note_ask.ensures.len ∙ k.room.asks;
       heads = c.turn.ensures.room;
+      places = c.turn.ensures.places_len ∙ k.room.places;
+      wanted = k.room.wanted;
     })
     (subst (λ (z : List Run × Moment × Moment × List Run). AllByRecursion (λ x. may_wait z.2 x ≡ true → table_of z.3 x.claim.seat ≡ kept_of z.1 z.2 (table_of z.0 x.claim.seat) x) z.2)
     (λ i. (c.deref_mut.ensures.value i, at_m i, at_n i, sym kept_runs i)) c.keep.ensures.kept)
@@ -214,10 +254,33 @@ returns c = λ p g.
     (c.deref-6.ensures.value ∙ ends) c.note_ended.ensures c.note_seat.ensures)
     (subst (λ (w : Set). TellRising w (next (state_of p) e).claims) (sym c.note_event.ensures.rising) (risen_next (state_of p) e (reached a p k) comes a.rising k.rising))
     (subst (λ (w : Set). HoldAsking w (next (state_of p) e).claims) (sym c.note_event.ensures.asking) (asking_next (state_of p) e (reached a p k) comes a.asking k.asking))
+    (subst (λ (w : Set). HoldReading w (next (state_of p) e).claims) (sym c.note_event.ensures.reading) (reading_next (state_of p) e (reached a p k) comes a.reading k.reading))
+    (wanted_next (state_of p) e (reached a p k) comes a.wanted a.wanted (wanted_still e (plain_of a.waiting e c.requires.other) a.wanted) k.wanted)
     (subst (TellsNow c.turn.new.self) (c.claims-4.ensures ∙ ap (λ (t : LockState). t.claims) g.state) (c.turn.ensures.told (state_of p).claims both.0
     (behind_turn a p k e comes (plain_of a.waiting e c.requires.other) c.lose-gone.new.self.behind.items c.deref.result.now c.claims-4.result.now (c.deref.ensures.value ∙ g.noted c.requires.other) (c.claims-4.ensures ∙ ap (λ (t : LockState). t.claims) g.state)
     (subst (λ (v : Vec Set Global). HoldBehind v.items c.deref.result.now c.deref.result.now) (sym c.lose-gone.ensures.behind) c.tell_now.ensures.told.behind)) both.1))
+    (λ _. writes_turn a p k e comes (plain_of a.waiting e c.requires.other) c.tell_now.new.self.writers c.turn.new.self.writers c.turn.new.self.shares c.deref.result.now (next (state_of p) e).claims (c.deref.ensures.value ∙ g.noted c.requires.other) refl
+    (subst (AreLeft e c.tell_now.new.self.writers) (sym c.turn.ensures.writers) c.lose-gone.ensures.left)
+    (subst (λ (ss : List Share). TellWrites c.tell_now.new.self.writers ss c.deref.result.now) (sym (c.turn.ensures.shares ∙ c.lose-gone.ensures.shares)) c.tell_now.ensures.writes))
     ends
+
+pub keep-requires-clause-reading : goal.keep-requires-clause-reading
+keep-requires-clause-reading c =
+    let p = c.requires.ahead.0 in
+    let g = c.requires.ahead.1 in
+    let e = c.args.event.now in
+    let a = c.args.self.now in
+    subst (λ (z : Set × Moment). HoldReading z.0 z.1) (λ i. (sym c.note_event.ensures.reading i, sym (c.claims-5.ensures ∙ ap (λ (s : LockState). s.claims) g.state) i))
+    (reading_next (state_of p) e (reached a p g.follows) g.comes a.reading g.follows.reading)
+
+pub keep-requires-clause-wanted : goal.keep-requires-clause-wanted
+keep-requires-clause-wanted c =
+    let p = c.requires.ahead.0 in
+    let g = c.requires.ahead.1 in
+    let e = c.args.event.now in
+    let a = c.args.self.now in
+    subst (λ (n : Moment). TellWanted a.wanted n) (sym (c.claims-5.ensures ∙ ap (λ (s : LockState). s.claims) g.state))
+    (wanted_next (state_of p) e (reached a p g.follows) g.comes a.wanted a.wanted (wanted_still e (plain_of a.waiting e c.requires.other) a.wanted) g.follows.wanted)
 
 pub keep-requires-clause-stood : goal.keep-requires-clause-stood
 keep-requires-clause-stood c =
@@ -225,7 +288,7 @@ keep-requires-clause-stood c =
     let k = c.requires.ahead.1.follows in
     let e = c.args.event.now in
     let at_m = c.deref-12.ensures.value ∙ c.requires.ahead.1.noted c.requires.other in
-    let at_n = c.claims-6.ensures ∙ ap (λ (s : LockState). s.claims) c.requires.ahead.1.state in
+    let at_n = c.claims-5.ensures ∙ ap (λ (s : LockState). s.claims) c.requires.ahead.1.state in
     subst (λ (z : Moment × Moment). AllByRecursion (StoodBy e z.0 z.1) z.1) (λ i. (sym at_m i, sym at_n i)) (stood_next c.args.self.now p k e c.requires.ahead.1.comes (plain_of c.args.self.now.waiting c.args.event.now c.requires.other))
 
 pub tell-requires-clause-quiet : goal.tell-requires-clause-quiet
@@ -252,7 +315,7 @@ keep-requires-clause-next_rises c =
     let p = c.requires.ahead.0 in
     let k = c.requires.ahead.1.follows in
     let e = c.args.event.now in
-    let at_n = c.claims-6.ensures ∙ ap (λ (s : LockState). s.claims) c.requires.ahead.1.state in
+    let at_n = c.claims-5.ensures ∙ ap (λ (s : LockState). s.claims) c.requires.ahead.1.state in
     subst (EachPair Rises) (sym at_n) (rising_next c.args.self.now p k e c.requires.ahead.1.comes)
 
 pub note_seat-requires-clause-low : goal.note_seat-requires-clause-low
@@ -317,7 +380,7 @@ tell-requires-clause-waiting c =
 
 pub keep-requires-clause-low : goal.keep-requires-clause-low
 keep-requires-clause-low c =
-    subst (λ (m : Moment). AllByRecursion (λ x. x.claim.seat < SEATS) m) (sym (c.claims-6.ensures ∙ ap (λ (s : LockState). s.claims) c.requires.ahead.1.state))
+    subst (λ (m : Moment). AllByRecursion (λ x. x.claim.seat < SEATS) m) (sym (c.claims-5.ensures ∙ ap (λ (s : LockState). s.claims) c.requires.ahead.1.state))
     (is_moment_next c.args.self.now c.requires.ahead.0 c.requires.ahead.1.follows c.args.event.now c.requires.ahead.1.comes).seats
 
 pub keep-requires-clause-waiting : goal.keep-requires-clause-waiting
@@ -328,7 +391,7 @@ keep-requires-clause-waiting c =
     let e = c.args.event.now in
     let a = c.args.self.now in
     let ends = ends_next a p k e g.comes c.deref-5.result.now c.claims.result.now c.deref-2.result.now c.tell.new.ended.items (c.deref-5.ensures.value ∙ g.noted c.requires.other) (c.claims.ensures ∙ ap (λ (t : LockState). t.claims) g.state) c.deref-2.ensures.value c.tell.ensures.told in
-    subst (λ (n : Moment). HoldWaiting c.note_seat.new.waiting n) (sym (c.claims-6.ensures ∙ ap (λ (s : LockState). s.claims) g.state))
+    subst (λ (n : Moment). HoldWaiting c.note_seat.new.waiting n) (sym (c.claims-5.ensures ∙ ap (λ (s : LockState). s.claims) g.state))
     (waits_next a p k e g.comes (plain_of a.waiting e c.requires.other) c.note_ended.new.waiting c.note_seat.new.waiting c.claims-3.result.now c.deref-6.result.now c.seat-2.result (c.claims-3.ensures ∙ ap (λ (t : LockState). t.claims) g.state) c.seat-2.ensures
     (c.deref-6.ensures.value ∙ ends) c.note_ended.ensures c.note_seat.ensures)
 
@@ -338,18 +401,8 @@ keep-requires-clause-rising c =
     let g = c.requires.ahead.1 in
     let e = c.args.event.now in
     let a = c.args.self.now in
-    subst (λ (z : Set × Moment). TellRising z.0 z.1) (λ i. (sym c.note_event.ensures.rising i, sym (c.claims-6.ensures ∙ ap (λ (s : LockState). s.claims) g.state) i))
+    subst (λ (z : Set × Moment). TellRising z.0 z.1) (λ i. (sym c.note_event.ensures.rising i, sym (c.claims-5.ensures ∙ ap (λ (s : LockState). s.claims) g.state) i))
     (risen_next (state_of p) e (reached a p g.follows) g.comes a.rising g.follows.rising)
-
-pub written_by-requires-clause-low : goal.written_by-requires-clause-low
-written_by-requires-clause-low c =
-    subst (λ (m : Moment). AllByRecursion (λ x. x.claim.seat < SEATS) m) (sym (c.claims-5.ensures ∙ ap (λ (s : LockState). s.claims) c.requires.ahead.1.state))
-    (is_moment_next c.args.self.now c.requires.ahead.0 c.requires.ahead.1.follows c.args.event.now c.requires.ahead.1.comes).seats
-
-pub written_by-requires-clause-one_each : goal.written_by-requires-clause-one_each
-written_by-requires-clause-one_each c =
-    subst (λ (m : Moment). EachPair Distinct m) (sym (c.claims-5.ensures ∙ ap (λ (s : LockState). s.claims) c.requires.ahead.1.state))
-    (is_moment_next c.args.self.now c.requires.ahead.0 c.requires.ahead.1.follows c.args.event.now c.requires.ahead.1.comes).one_each
 
 pub keep-requires-clause-reads : goal.keep-requires-clause-reads
 keep-requires-clause-reads c =
@@ -357,22 +410,20 @@ keep-requires-clause-reads c =
     let g = c.requires.ahead.1 in
     let e = c.args.event.now in
     let a = c.args.self.now in
-    let statuses = c.deref-7.ensures.value ∙ ap (λ (l : ChangeLists). l.statuses) (c.behind-machine-2.view_is ∙ c.changes-2.ensures ∙ g.changes) in
-    reads_next a p g.follows e g.comes (plain_of a.waiting e c.requires.other) c.seats_told-came.result c.written_by.result c.deref-12.result.now c.claims-6.result.now c.deref-7.result.now
-    (c.deref-12.ensures.value ∙ g.noted c.requires.other) (c.claims-6.ensures ∙ ap (λ (s : LockState). s.claims) g.state) statuses c.seats_told-came.ensures
-    (subst (λ (n : Moment). HoldWritten c.written_by.result c.seats_told-came.result n) (c.claims-5.ensures ∙ sym c.claims-6.ensures) c.written_by.ensures)
+    let plain = plain_of a.waiting e c.requires.other in
+    let is_n = c.claims-5.ensures ∙ ap (λ (s : LockState). s.claims) g.state in
+    let statuses = c.deref-10.ensures.value ∙ ap (λ (l : ChangeLists). l.statuses) (c.behind-machine-4.view_is ∙ c.changes-4.ensures ∙ g.changes) in
+    let told = writes_turn a p g.follows e g.comes plain c.tell_now.new.self.writers c.turn.new.self.writers c.turn.new.self.shares c.deref.result.now c.claims-5.result.now (c.deref.ensures.value ∙ g.noted c.requires.other) is_n
+    (subst (AreLeft e c.tell_now.new.self.writers) (sym c.turn.ensures.writers) c.lose-gone.ensures.left)
+    (subst (λ (ss : List Share). TellWrites c.tell_now.new.self.writers ss c.deref.result.now) (sym (c.turn.ensures.shares ∙ c.lose-gone.ensures.shares)) c.tell_now.ensures.writes) in
+    reads_next a p g.follows e g.comes plain c.written_by.result c.deref-12.result.now c.claims-5.result.now c.deref-10.result.now (c.deref-12.ensures.value ∙ g.noted c.requires.other) is_n statuses
+    (all_written c.written_by.result c.deref-10.result.now c.turn.new.self.shares c.written_by.ensures c.claims-5.result.now told.shares)
 
 pub lose-gone-requires-clause-low : goal.lose-gone-requires-clause-low
 lose-gone-requires-clause-low c = event_seat c.args.self.now c.requires.ahead.0 c.requires.ahead.1.follows c.args.event.now c.requires.ahead.1.comes
 
-pub lose-gone-requires-clause-moment : goal.lose-gone-requires-clause-moment
-lose-gone-requires-clause-moment c = subst IsMoment (sym (c.deref-8.ensures.value ∙ c.requires.ahead.1.noted c.requires.other)) (is_moment_now c.args.self.now c.requires.ahead.0 c.requires.ahead.1.follows)
-
 pub lose-gone-requires-clause-room : goal.lose-gone-requires-clause-room
 lose-gone-requires-clause-room c = c.tell_now.ensures.room
-
-pub lose-gone-requires-clause-told : goal.lose-gone-requires-clause-told
-lose-gone-requires-clause-told c = subst (λ (m : Moment). TellHeads c.tell_now.new.self.now.items m) (c.deref.ensures.value ∙ sym c.deref-8.ensures.value) c.tell_now.ensures.told.heads
 
 pub tell-requires-clause-head : goal.tell-requires-clause-head
 tell-requires-clause-head c =

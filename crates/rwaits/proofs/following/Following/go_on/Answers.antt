@@ -11,14 +11,15 @@ use Rattle.rwaits.specs.declared.following.Following.{Following}
 use Rattle.rwaits.specs.declared.run.Run.{Run}
 use Rattle.rwaits.specs.Follow.{table_of, HasRoom, AreLong, with_entry}
 use Rattle.rwaits.specs.Past.{state_of}
-use Rattle.rwaits.specs.Heads.{IsMoment, TellsNow}
-use Rattle.rwaits.specs.Waiting.{HoldAsking, HoldWaiting, TellRising, with_seat, first_of}
+use Rattle.rwaits.specs.Heads.{IsMoment, TellsNow, TellsWrites}
+use Rattle.rwaits.specs.Waiting.{HoldAsking, HoldWaiting, TellRising, with_seat, first_of, HoldReading}
 use Rattle.rwaits.proofs.told.Quiet.{there_before}
 use Rattle.rset.specs.Sets.{Set}
 use Rattle.rwaits.specs.Tracked.{no_sections}
 use Rattle.rwaits.proofs.told.Knowing.{reached, event_seat, is_moment_next, refilled, known}
 use Rattle.rwaits.proofs.told.Noted.{asks_at_most}
 use Rattle.rwaits.proofs.told.Asking.{asking_next}
+use Rattle.rwaits.proofs.told.Reading.{reading_next, wanted_next}
 use Rattle.rwaits.proofs.told.Rising.{risen_next}
 use Rattle.rwaits.proofs.told.Waiting.{calm_all, calm_none, none_before, waiting_next}
 use Rattle.rwaits.proofs.following.Following.go_on.Goals as goal
@@ -37,6 +38,10 @@ note_lengths-requires c =
 pub note_ask-requires-clause-seat : goal.note_ask-requires-clause-seat
 note_ask-requires-clause-seat c =
     subst (λ l. seat_of c.args.event.now < l) (sym c.requires.ahead.1.follows.room.asks) (event_seat c.args.self.now c.requires.ahead.0 c.requires.ahead.1.follows c.args.event.now c.requires.ahead.1.comes)
+
+pub note_wanted-requires : goal.note_wanted-requires
+note_wanted-requires c =
+    subst (λ l. seat_of c.args.event.now < l) (sym c.requires.ahead.1.follows.room.wanted) (event_seat c.args.self.now c.requires.ahead.0 c.requires.ahead.1.follows c.args.event.now c.requires.ahead.1.comes)
 
 pub note_ask-requires-clause-few : goal.note_ask-requires-clause-few
 note_ask-requires-clause-few c =
@@ -59,7 +64,7 @@ returns c = λ p g.
     let runs = c.clear_run.new.runs in
     let same : length runs ≡ length a.runs.items = c.clear_run.ensures.len ∙ ap (λ (rs : List Run). length rs) c.deref_mut.ensures.value in
     let kept_runs : (with_items a.runs runs).items ≡ runs = refilled a.runs runs same in
-    let b : Following = record { waiting = c.note_seat.new.waiting; rising = c.note_event.new.rising; asking = c.note_event.new.asking; last = a.last; there = a.there; runs = with_items a.runs runs; lengths = c.note_lengths.new.lengths; asks = c.note_ask.new.asks; heads = c.pass.new.self; scratch = a.scratch; ended = c.clear.new.self } in
+    let b : Following = record { waiting = c.note_seat.new.waiting; rising = c.note_event.new.rising; asking = c.note_event.new.asking; reading = c.note_event.new.reading; wanted = c.note_wanted.new.wanted; last = a.last; there = a.there; runs = with_items a.runs runs; lengths = c.note_lengths.new.lengths; asks = c.note_ask.new.asks; heads = c.pass.new.self; places = a.places; scratch = a.scratch; ended = c.clear.new.self } in
     let cleared : (other : ℕ) → table_of b.runs.items other ≡ with_entry table (seat_of e) no_sections other
     = λ other.
     ap (λ (rs : List Run). table_of rs other) kept_runs ∙ c.clear_run.ensures.kept other
@@ -74,6 +79,8 @@ returns c = λ p g.
       lengths = c.note_lengths.ensures.len ∙ k.room.lengths;
       asks = c.note_ask.ensures.len ∙ k.room.asks;
       heads = c.pass.ensures.room;
+      places = k.room.places;
+      wanted = c.note_wanted.ensures.len ∙ k.room.wanted;
     })
     (calm_all (state_of p) e (reached a p k) comes a.waiting k.waiting c.requires.calm table (table_of b.runs.items) cleared)
     (λ rest.
@@ -86,7 +93,10 @@ returns c = λ p g.
     (waiting_next (state_of p) e (reached a p k) comes a.waiting k.waiting))
     (subst (λ (w : Set). TellRising w (next (state_of p) e).claims) (sym c.note_event.ensures.rising) (risen_next (state_of p) e (reached a p k) comes a.rising k.rising))
     (subst (λ (w : Set). HoldAsking w (next (state_of p) e).claims) (sym c.note_event.ensures.asking) (asking_next (state_of p) e (reached a p k) comes a.asking k.asking))
+    (subst (λ (w : Set). HoldReading w (next (state_of p) e).claims) (sym c.note_event.ensures.reading) (reading_next (state_of p) e (reached a p k) comes a.reading k.reading))
+    (wanted_next (state_of p) e (reached a p k) comes a.wanted c.note_wanted.new.wanted c.note_wanted.ensures.value k.wanted)
     (subst (TellsNow c.pass.new.self) (c.claims-3.ensures ∙ ap (λ (t : LockState). t.claims) g.state) c.pass.ensures.told)
+    (subst (TellsWrites c.pass.new.self) (c.claims-3.ensures ∙ ap (λ (t : LockState). t.claims) g.state) c.pass.ensures.writes)
     (c.clear.ensures.items ∙ sym (calm_none (state_of p) e (reached a p k) comes a.waiting k.waiting c.requires.calm es table))
 
 pub note_seat-requires-clause-low : goal.note_seat-requires-clause-low
@@ -132,6 +142,15 @@ pass-requires-clause-told c = λ brought.
       subst (λ (z : ℕ × Moment). z.0 ≤ length z.1) (λ i. (sym g.there i, sym at_n i)) was.1,
       subst (TellsNow c.args.self.now.heads) (sym ((λ i. take (g.there i) (at_n i)) ∙ was.0)) k.heads,
     )
+
+pub pass-requires-clause-writes : goal.pass-requires-clause-writes
+pass-requires-clause-writes c = λ brought.
+    let p = c.requires.ahead.0 in
+    let g = c.requires.ahead.1 in
+    let k = g.follows in
+    let was = there_before (state_of p) c.args.event.now (reached c.args.self.now p k) g.comes (sym c.is_issue.ensures ∙ brought) in
+    let at_n = c.claims-3.ensures ∙ ap (λ (s : LockState). s.claims) g.state in
+    subst (TellsWrites c.args.self.now.heads) (sym ((λ i. take (g.there i) (at_n i)) ∙ was.0)) k.writes
 
 pub note_event-requires : goal.note_event-requires
 note_event-requires c = event_seat c.args.self.now c.requires.ahead.0 c.requires.ahead.1.follows c.args.event.now c.requires.ahead.1.comes

@@ -39,3 +39,6 @@ returns-clause-tell c = λ m tell by.
     let now = refilled_heads c.args.self.now.now c.turn_heads-moves.new.now (c.turn_heads-moves.ensures.len ∙ ap (λ (hs : List Head). length hs) c.deref_mut-2.ensures.value) in
     subst (λ (hs : List Head). AllByRecursion (HeadsTell hs c.args.self.now.lost c.turn_heads-moves.result.moved c.turn_heads-moves.result.risen m n) n) (sym now)
     (c.turn_heads-moves.ensures.tell m (subst (λ (hs : List Head). TellAt hs m n) (sym c.deref_mut-2.ensures.value) tell) by)
+
+pub returns-clause-placed : goal.returns-clause-placed
+returns-clause-placed c = λ m tell by. c.turn_heads-moves.ensures.placed m (subst (λ (hs : List Head). TellAt hs m c.args.moment.now) (sym c.deref_mut-2.ensures.value) tell) by
