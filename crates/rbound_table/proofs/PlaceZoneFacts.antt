@@ -1,18 +1,18 @@
 -- Zones of places: each place of a zone has the same zone, and the zone of a claim is that of any of its places.
-use Rattle.std.proofs.Common.{◌≡◌, ◌<◌, ◌+◌, ◌==◌, not, ℕ, true, List, [], ◌∷◌, ◌++◌, map, length, get_or, refl, sym, ap, ◌∙◌, arith}
+use Rattle.std.proofs.Common.{◌≡◌, ◌<◌, ◌+◌, ◌==◌, not, ℕ, true, false, fold, List, [], ◌∷◌, ◌++◌, map, length, get_or, refl, sym, ap, subst, inl, inr, ◌∙◌, arith}
 use Rattle.std.specs.List.{range_with_len}
-use Rattle.std.specs.FinSet.{empty, insert, contains, difference, is_subset}
-use Rattle.std.proofs.lemmas.Bool.{and_parts, and_from, eq-eqb, or_left}
+use Rattle.std.specs.FinSet.{empty, insert, union, contains, difference, is_subset}
+use Rattle.std.proofs.lemmas.Bool.{and_parts, and_from, eq-eqb, eqb-true, or_cases, or_left, or_right}
 use Rattle.std.specs.Ordering.{nat_cmp}
 use Rattle.std.proofs.lemmas.List.FromFn.{map-range_with_len_more, get_or-map-range_with_len, length-map-range_with_len}
 use Rattle.rset.specs.Sets.{Set}
-use Rattle.rset.proofs.SetLemmas.{within_at, within_from, within_both, within_empty, insert_within, contains_insert, contains_difference, meets_from, meets_common}
+use Rattle.rset.proofs.SetLemmas.{within_at, within_from, within_both, within_empty, insert_within, contains_empty, contains_insert, contains_union, contains_difference, meets_from, meets_common}
 use Rattle.rmodel.specs.WellFormed.{Among}
 use Rattle.rmodel.proofs.ListFacts.{contrary}
 use Rattle.rmodel.proofs.settling.OneSettlement.{both_cases}
 use Rattle.rbound.specs.Needs.{Needed}
 use Rattle.rbound.specs.Zones.{zone_of, IsClosed}
-use Rattle.rbound_table.specs.PlaceZones.{zone_at}
+use Rattle.rbound_table.specs.PlaceZones.{zone_at, places_in}
 use Rattle.rbound.proofs.ClosedZones.{zones_are_closed}
 use Rattle.rbound.proofs.SweptZones.{zone_within}
 
@@ -21,6 +21,24 @@ one_within s l h = insert_within empty s l (within_empty s) h
 
 one_has : (l : ℕ) → contains {R = nat_cmp} (insert empty l) l ≡ true
 one_has l = contains_insert empty l l ∙ or_left (l == l) _ (eq-eqb l l refl)
+
+-- each place of a claim is among those of all claims
+places_kept : (ns : List Needed) (s : Set) (l : ℕ) → contains s l ≡ true → contains (fold (λ all (n : Needed). union all n.claim.places) s ns) l ≡ true
+places_kept [] s l h = h
+places_kept (n ∷ ns) s l h = places_kept ns (union s n.claim.places) l (contains_union s n.claim.places l ∙ or_left (contains s l) (contains n.claim.places l) h)
+
+places_there : (ns : List Needed) (s : Set) (n : Needed) (l : ℕ) → Among n ns → contains n.claim.places l ≡ true → contains (fold (λ all (m : Needed). union all m.claim.places) s ns) l ≡ true
+places_there [] s n l there h = absurd there
+places_there (m ∷ ns) s n l (inl same) h =
+    places_kept ns (union s m.claim.places) l (contains_union s m.claim.places l ∙ or_right (contains s l) (contains m.claim.places l) (ap (λ (x : Needed). contains x.claim.places l) (sym same) ∙ h))
+places_there (m ∷ ns) s n l (inr later) h = places_there ns (union s m.claim.places) n l later h
+
+-- the one member of a set of one
+one_is : (l m : ℕ) → contains {R = nat_cmp} (insert empty l) m ≡ true → m ≡ l
+one_is l m h = elim (or_cases (m == l) (contains {R = nat_cmp} empty m) (sym (contains_insert empty l m) ∙ h)) [
+  | inl same ↦ eqb-true m l same
+  | inr none ↦ contrary (contains {R = nat_cmp} empty m) none (contains_empty m)
+]
 
 module _ (ns : List Needed) where
   pub zone_has : (l : ℕ) → contains (zone_at ns l) l ≡ true
@@ -31,6 +49,15 @@ module _ (ns : List Needed) where
 
   least : (l : ℕ) (s : Set) → IsClosed ns s → contains s l ≡ true → is_subset (zone_at ns l) s ≡ true
   least l s closed h = zone_within ns (insert empty l) s closed (one_within s l h)
+
+  -- *The zone of a place that no claim has is that place alone*
+  pub lone_zone : (places : Set) (l : ℕ) → places ≡ places_in ns → contains places l ≡ false → insert empty l ≡ zone_at ns l
+  lone_zone places l are none =
+      within_both (insert empty l) (zone_at ns l) (one_within (zone_at ns l) l (zone_has l))
+      (least l (insert empty l) (λ n there near.
+      let shared = meets_common n.claim.places (insert empty l) near in
+      let has : contains n.claim.places l ≡ true = subst (λ m. contains n.claim.places m ≡ true) (one_is l shared.0 shared.2) shared.1 in
+      contrary (contains places l) (ap (λ s. contains s l) are ∙ places_there ns empty n l there has) none) (one_has l))
 
   -- what is in a zone and not in another is closed
   apart_closed : (k m : ℕ) → IsClosed ns (difference (zone_at ns k) (zone_at ns m))

@@ -1,7 +1,8 @@
 -- What tasks need, as shapes are put there one after another.
-use Rattle.std.proofs.Common.{◌≡◌, ◌<◌, ◌≤◌, ◌+◌, ◌-◌, ◌==◌, ◌||◌, ℕ, zero, suc, Bool, true, false, cond, List, [], ◌∷◌, ◌++◌, map, length, take, replicate, get_or, IsTrue, refl, sym, ap, subst, ◌∙◌, arith, append_assoc, length-append, eq-eqb, ne_eqb, Result, Ok, Err, OnOk}
+use Rattle.std.proofs.Common.{◌≡◌, ◌<◌, ◌≤◌, ◌+◌, ◌-◌, ◌||◌, ℕ, zero, suc, true, false, cond, List, [], ◌∷◌, ◌++◌, map, length, take, replicate, get_or, IsTrue, refl, sym, ap, subst, ◌∙◌, arith, append_assoc, length-append, eq-eqb, slice_get, Some, Result, Ok, Err, OnOk}
 use Rattle.std.specs.List.{AllByRecursion}
 use Rattle.std.proofs.lemmas.List.{append-nil, take_more, take_all, length-replicate}
+use Rattle.std.proofs.lemmas.Option.{get_or_from_slice_get}
 use Rattle.rset.specs.Sets.{Set, all_below}
 use Rattle.rclaim.specs.Requests.{RequestFields}
 use Rattle.rmodel.specs.Claims.{is_nested}
@@ -111,14 +112,6 @@ shape_put needs task r parts = ap (λ ns. with_asks ns task parts) (request_is n
 pub one_of_task : (s : Shape) → requests_of_shapes (s ∷ []) s.task ≡ request_of s ∷ []
 one_of_task s = ap (λ b. cond b (request_of s ∷ []) []) (eq-eqb s.task s.task refl)
 
-pub nothing_put : (needs : Needs) (task : ℕ) → with_requests needs task [] ≡ needs
-nothing_put [] task = refl
-nothing_put (ns ∷ rest) zero = ap (λ xs. xs ∷ rest) (append-nil ns)
-nothing_put (ns ∷ rest) (suc task) = ap (λ xs. ns ∷ xs) (nothing_put rest task)
-
-pub other_none : (s : Shape) (task : ℕ) → (s.task ≡ task → ⊥) → requests_of_shapes (s ∷ []) task ≡ []
-other_none s task other = ap (λ b. cond b (request_of s ∷ []) []) (ne_eqb s.task task other)
-
 pub request_nested : (needs : Needs) (task : ℕ) (r : RequestFields) → task < length needs → last_is_nested (requests_of (with_request needs task r) task) ≡ is_nested r.kind
 request_nested [] task r h = absurd (omega arith)
 request_nested (ns ∷ rest) zero r h = last ns
@@ -164,40 +157,40 @@ put_long [] task xs = refl
 put_long (ns ∷ rest) zero xs = refl
 put_long (ns ∷ rest) (suc task) xs = ap suc (put_long rest task xs)
 
-of_more : (ss ts : List Shape) (task : ℕ) → requests_of_shapes (ss ++ ts) task ≡ requests_of_shapes ss task ++ requests_of_shapes ts task
-of_more [] ts task = refl
-of_more (s ∷ ss) ts task = at (s.task == task) (of_more ss ts task)
-  where
-    at : (b : Bool) → requests_of_shapes (ss ++ ts) task ≡ requests_of_shapes ss task ++ requests_of_shapes ts task
-        → cond b (request_of s ∷ requests_of_shapes (ss ++ ts) task) (requests_of_shapes (ss ++ ts) task) ≡ cond b (request_of s ∷ requests_of_shapes ss task) (requests_of_shapes ss task) ++ requests_of_shapes ts task
-    at true h = ap (λ xs. request_of s ∷ xs) h
-    at false h = h
+-- the first of these requests are put behind what a task needs
+pub record HasPut (first now : TaskNeeds) (task : ℕ) (rs : List RequestNeeds) (i : ℕ) : Type 0 where
+  pub is : now ≡ record first { tasks = with_requests first.tasks task (take i rs) }
 
--- the first shapes of a task are put behind what it needs
-pub record HasPut (first now : TaskNeeds) (task : ℕ) (es : List Entry) (i : ℕ) : Type 0 where
-  pub is : now ≡ record first { tasks = with_requests first.tasks task (requests_of_shapes (shapes_in (take i es)) task) }
+nothing_put : (needs : Needs) (task : ℕ) → with_requests needs task [] ≡ needs
+nothing_put [] task = refl
+nothing_put (ns ∷ rest) zero = ap (λ xs. xs ∷ rest) (append-nil ns)
+nothing_put (ns ∷ rest) (suc task) = ap (λ xs. ns ∷ xs) (nothing_put rest task)
 
-pub puts_none : (first : TaskNeeds) (task : ℕ) (es : List Entry) → HasPut first first task es 0
-puts_none first task es = record { is = λ k. record first { tasks = sym (nothing_put first.tasks task) k } }
+pub puts_none : (first : TaskNeeds) (task : ℕ) (rs : List RequestNeeds) → HasPut first first task rs 0
+puts_none first task rs = record { is = λ k. record first { tasks = sym (nothing_put first.tasks task) k } }
 
-pub puts_more : (first now then : TaskNeeds) (task : ℕ) (es : List Entry) (i : ℕ) (x : Entry) → i < length es → x ≡ get_or es i x → HasPut first now task es i
-    → then ≡ record now { tasks = with_requests now.tasks task (requests_of_shapes (shape_in x ∷ []) task) } → HasPut first then task es (i + 1)
-puts_more first now then task es i x less at so is = record {
+pub puts_more : (first now then : TaskNeeds) (task : ℕ) (rs : List RequestNeeds) (i : ℕ) (x : RequestNeeds) → i < length rs → slice_get rs i ≡ Some x → HasPut first now task rs i
+    → then ≡ record now { tasks = with_requests now.tasks task (x ∷ []) } → HasPut first then task rs (i + 1)
+puts_more first now then task rs i x less at so is = record {
   is =
-      is ∙ ap (λ (n : TaskNeeds). record n { tasks = with_requests n.tasks task (requests_of_shapes (shape_in x ∷ []) task) }) so.is
+      is ∙ ap (λ (n : TaskNeeds). record n { tasks = with_requests n.tasks task (x ∷ []) }) so.is
       ∙ ap (λ (ts : Needs). record first { tasks = ts })
-      (put_more first.tasks task (requests_of_shapes (shapes_in (take i es)) task) (requests_of_shapes (shape_in x ∷ []) task)
-      ∙ ap (with_requests first.tasks task)
-      (sym (of_more (shapes_in (take i es)) (shape_in x ∷ []) task)
-      ∙ ap (λ ss. requests_of_shapes ss task) (sym (map_push shape_in (take i es) x) ∙ ap shapes_in (ap (λ y. take i es ++ y ∷ []) at ∙ sym (take_more es i x less)))));
+      (put_more first.tasks task (take i rs) (x ∷ [])
+      ∙ ap (with_requests first.tasks task) (ap (λ y. take i rs ++ y ∷ []) (sym (get_or_from_slice_get rs i x x at)) ∙ sym (take_more rs i x less)));
 }
 
-pub puts_all : (first now : TaskNeeds) (task : ℕ) (es : List Entry) (i : ℕ) → length es ≤ i → HasPut first now task es i → now ≡ record first { tasks = with_requests first.tasks task (requests_of_shapes (shapes_in es) task) }
-puts_all first now task es i all so = so.is ∙ ap (λ xs. record first { tasks = with_requests first.tasks task (requests_of_shapes (shapes_in xs) task) }) (take_all i es all)
+-- what is put of an entry is what is put of its shape
+pub shape_is : (now : TaskNeeds) (task : ℕ) (x s : Shape) → x ≡ s → s.task ≡ task
+    → record now { tasks = with_requests now.tasks x.task (requests_of_shapes (x ∷ []) x.task) } ≡ record now { tasks = with_requests now.tasks task (request_of s ∷ []) }
+shape_is now task x s is of =
+    ap (λ (y : Shape). record now { tasks = with_requests now.tasks y.task (requests_of_shapes (y ∷ []) y.task) }) is
+    ∙ (λ i. record now { tasks = with_requests now.tasks (of i) (one_of_task s i) })
 
-pub puts_within : (first now : TaskNeeds) (task : ℕ) (es : List Entry) (i : ℕ) → task < length first.tasks → HasPut first now task es i → task < length now.tasks
-puts_within first now task es i within so =
-    subst (λ (n : TaskNeeds). task < length n.tasks) (sym so.is) (omega (arith, within, put_long first.tasks task (requests_of_shapes (shapes_in (take i es)) task)))
+pub puts_all : (first now : TaskNeeds) (task : ℕ) (rs : List RequestNeeds) (i : ℕ) → length rs ≤ i → HasPut first now task rs i → now ≡ record first { tasks = with_requests first.tasks task rs }
+puts_all first now task rs i all so = so.is ∙ ap (λ xs. record first { tasks = with_requests first.tasks task xs }) (take_all i rs all)
+
+pub puts_within : (first now : TaskNeeds) (task : ℕ) (rs : List RequestNeeds) (i : ℕ) → task < length first.tasks → HasPut first now task rs i → task < length now.tasks
+puts_within first now task rs i within so = subst (λ (n : TaskNeeds). task < length n.tasks) (sym so.is) (omega (arith, within, put_long first.tasks task (take i rs)))
 
 -- what holds of each shape holds of that of an entry
 pub of_entry : (P : Shape → Type 0) (es : List Entry) (i : ℕ) (x : Entry) → AllByRecursion P (shapes_in es) → i < length es → x ≡ get_or es i x → P (shape_in x)
@@ -205,11 +198,11 @@ of_entry P [] i x all less at = absurd (omega arith)
 of_entry P (e ∷ es) zero x all less at = subst (λ (y : Entry). P (shape_in y)) (sym at) all.0
 of_entry P (e ∷ es) (suc i) x all less at = of_entry P es i x all.1 (omega arith) at
 
-pub below_entry : (first now : TaskNeeds) (task : ℕ) (es : List Entry) (i : ℕ) (x : Entry) → AreBelow first.groups.q (shapes_in es) → i < length es → x ≡ get_or es i x → HasPut first now task es i
+pub below_entry : (first now : TaskNeeds) (task : ℕ) (rs : List RequestNeeds) (i : ℕ) (es : List Entry) (p : ℕ) (x : Entry) → AreBelow first.groups.q (shapes_in es) → p < length es → x ≡ get_or es p x → HasPut first now task rs i
     → IsTrue (all_below now.groups.q x.request.reads) × IsTrue (all_below now.groups.q x.request.writes)
-below_entry first now task es i x below less at so =
+below_entry first now task rs i es p x below less at so =
     subst (λ (n : TaskNeeds). IsTrue (all_below n.groups.q x.request.reads) × IsTrue (all_below n.groups.q x.request.writes)) (sym so.is)
-    (of_entry (λ s. IsTrue (all_below first.groups.q s.request.reads) × IsTrue (all_below first.groups.q s.request.writes)) es i x below less at)
+    (of_entry (λ s. IsTrue (all_below first.groups.q s.request.reads) × IsTrue (all_below first.groups.q s.request.writes)) es p x below less at)
 
 -- ---- all tasks
 

@@ -10,3 +10,4 @@ pub mod TableGrows
 pub mod LongerRequests
 pub mod Gathering
 pub mod NextShapes
+pub mod TaskPlaces

@@ -6,3 +6,4 @@ pub mod Promises
 pub mod Keys
 pub mod KeyFacts
 pub mod Kept
+pub mod Places

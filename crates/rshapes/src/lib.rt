@@ -5,6 +5,7 @@ mod key;
 pub mod laws;
 mod lengths;
 mod needed;
+mod places;
 mod shapes;
 mod table;
 

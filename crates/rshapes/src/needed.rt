@@ -1,12 +1,14 @@
 // What tasks would need that issued each shape once.
-ghost use Rattle.std.specs.Prelude.{◌≡◌, ◌<◌, [], ◌∷◌, true, IfOk, OnOk, IsTrue, length, map, if◌then◌else◌, ◌==◌};
+ghost use Rattle.std.specs.Prelude.{◌≡◌, ◌<◌, [], ◌∷◌, true, IfOk, OnOk, IsTrue, length, map};
 ghost use Rattle.std.specs.List.{AllByRecursion};
 ghost use Rattle.rset.specs.Sets.{all_below};
-ghost use Rattle.rbound.specs.TaskNeeds.{requests_of, last_is_nested};
+ghost use Rattle.rbound.specs.TaskNeeds.{none_needed, requests_of, last_is_nested};
 ghost use Rattle.rshapes.specs.ShapeNeeds.{requests_of_shapes, needs_of_shapes, with_requests, with_asks, AreBelow};
 ghost use Rattle.rshapes.specs.Kept.{shape_in, shapes_in, may_ask};
+ghost use Rattle.rshapes.specs.Places.{places_of, ArePlaces};
 
 use crate::key::AskedSet;
+use crate::places::places_of;
 use crate::table::Entry;
 use rbound::Needs;
 use rexpand::Groups;
@@ -20,45 +22,55 @@ pub(crate) fn needs_of(
     entries: &[Entry],
     tasks: u8,
 ) -> Result<Needs, AllocError>
+    requires tasks { AllByRecursion (λ s. s.task < tasks) (shapes_in entries.now) }
     requires below { AreBelow groups.q (shapes_in entries.now) }
     requires asks { AllByRecursion (λ s. IsTrue (may_ask s)) (shapes_in entries.now) }
     ensures { IfOk result (λ needs. needs ≡ record { groups = groups; tasks = needs_of_shapes tasks (shapes_in entries.now) }) }
 {
+    let places = places_of(alloc, entries, tasks)?;
     let mut needs = Needs::new(alloc, groups, tasks)?;
-    for task in 0..tasks {
-        push_task(&mut needs, task, entries)?;
-    }
+    push_tasks(&mut needs, entries, &places, tasks)?;
     Ok(needs)
 }
 
-/// Puts the shapes of a task behind what it needs.
-fn push_task(needs: &mut Needs, task: u8, entries: &[Entry]) -> Result<(), AllocError>
+/// Puts the shapes of all tasks, of which none needs anything yet. Each task's places are gone through on their own, since
+/// needs that come in the order of the tasks are put behind all others.
+fn push_tasks(
+    needs: &mut Needs,
+    entries: &[Entry],
+    places: &[Vec<usize>],
+    tasks: u8,
+) -> Result<(), AllocError>
+    requires none { needs.old.tasks ≡ none_needed tasks }
+    requires places { ArePlaces (shapes_in entries.now) tasks places.now }
+    requires below { AreBelow needs.old.groups.q (shapes_in entries.now) }
+    requires asks { AllByRecursion (λ s. IsTrue (may_ask s)) (shapes_in entries.now) }
+    ensures { OnOk result (needs.new ≡ record needs.old { tasks = needs_of_shapes tasks (shapes_in entries.now) }) }
+{
+    for task in 0..tasks {
+        push_task(needs, task, entries, &places[usize::from(task)])?;
+    }
+    Ok(())
+}
+
+/// Puts the shapes of a task, which stand at these places, behind what it needs.
+fn push_task(
+    needs: &mut Needs,
+    task: u8,
+    entries: &[Entry],
+    places: &[usize],
+) -> Result<(), AllocError>
     requires task { task < length needs.old.tasks }
+    requires places { places.now ≡ places_of (shapes_in entries.now) task }
     requires below { AreBelow needs.old.groups.q (shapes_in entries.now) }
     requires asks { AllByRecursion (λ s. IsTrue (may_ask s)) (shapes_in entries.now) }
     ensures { OnOk result (needs.new
         ≡ record needs.old { tasks = with_requests needs.old.tasks task (requests_of_shapes (shapes_in entries.now) task) }) }
 {
-    for entry in entries {
-        push_entry(needs, task, entry)?;
+    for place in places {
+        push_shape(needs, &entries[*place])?;
     }
     Ok(())
-}
-
-/// Puts a shape behind what a task needs, where it is of this task.
-fn push_entry(needs: &mut Needs, task: u8, entry: &Entry) -> Result<(), AllocError>
-    requires task { task < length needs.old.tasks }
-    requires reads { IsTrue (all_below needs.old.groups.q entry.now.request.reads) }
-    requires writes { IsTrue (all_below needs.old.groups.q entry.now.request.writes) }
-    requires asks { IsTrue (may_ask (shape_in entry.now)) }
-    ensures { OnOk result (needs.new
-        ≡ record needs.old { tasks = with_requests needs.old.tasks task (requests_of_shapes (shape_in entry.now ∷ []) task) }) }
-{
-    if entry.task == task {
-        push_shape(needs, entry)
-    } else {
-        Ok(())
-    }
 }
 
 /// Puts a shape behind what its task needs, as one request with its asks.

@@ -1,10 +1,13 @@
-use Rattle.std.proofs.Common.{◌≡◌, length, ap, ◌∙◌, arith}
+use Rattle.std.proofs.Common.{◌≡◌, length, ap, sym, ◌∙◌, arith}
 use Rattle.rbound.specs.Needs.{Needs}
 use Rattle.rbound.specs.TaskNeeds.{TaskNeeds}
 use Rattle.rshapes.specs.ShapeNeeds.{requests_of_shapes, with_requests}
 use Rattle.rshapes.specs.Kept.{shapes_in, gathered}
-use Rattle.rshapes.proofs.Gathering.{gathered_more, gathered_all, gathered_long}
-use Rattle.rshapes.proofs.needed.needs_of.Goals as goal
+use Rattle.rshapes.proofs.Gathering.{gathered_none, gathered_more, gathered_all, gathered_long}
+use Rattle.rshapes.proofs.needed.push_tasks.Goals as goal
+
+pub loop-task-init : goal.loop-task-init
+loop-task-init c = ap (λ (ts : Needs). record c.args.needs.now { tasks = ts }) (c.requires.none ∙ sym (gathered_none (shapes_in c.args.entries.now) c.args.tasks))
 
 pub push_task-requires-clause-task : goal.push_task-requires-clause-task
 push_task-requires-clause-task c =
@@ -18,10 +21,10 @@ loop-task-preserved c =
     let task = c.loop-task.task in
     c.in_ok-push_task.ensures
     ∙ ap (λ (n : TaskNeeds). record n { tasks = with_requests n.tasks task (requests_of_shapes shapes task) }) c.loop-task.invariant
-    ∙ ap (λ (ts : Needs). record { groups = c.args.groups; tasks = ts }) (gathered_more shapes c.args.tasks task c.loop-task-test.true)
+    ∙ ap (λ (ts : Needs). record c.args.needs.now { tasks = ts }) (gathered_more shapes c.args.tasks task c.loop-task-test.true)
 
 pub returns : goal.returns
 returns c =
     let shapes = shapes_in c.args.entries.now in
     let done : c.loop-task.task ≡ c.args.tasks = omega (arith, c.loop-task.auto.task-end, c.loop-task-test.false) in
-    c.loop-task.invariant ∙ ap (λ (ts : Needs). record { groups = c.args.groups; tasks = ts }) (ap (gathered shapes c.args.tasks) done ∙ gathered_all shapes c.args.tasks)
+    c.loop-task.invariant ∙ ap (λ (ts : Needs). record c.args.needs.now { tasks = ts }) (ap (gathered shapes c.args.tasks) done ∙ gathered_all shapes c.args.tasks)
