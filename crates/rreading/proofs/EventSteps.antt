@@ -49,7 +49,7 @@ use Rattle.rforms.proofs.facts.Choices.{some_is}
 use Rattle.rreading.specs.declared.reading.Reading.{Reading}
 use Rattle.rdue.specs.Due.{due_list}
 use Rattle.rreading.specs.Knows.{Knows, may_do, due_left, past_in}
-use Rattle.rreading.specs.Takes.{place_code, FitsTold, event_admitted, stepped, shown_by, edited_by, noted}
+use Rattle.rreading.specs.Takes.{place_code, FitsTold, event_admitted, stepped, shown_by, edited_by, Allows, noted}
 use Rattle.rreading.proofs.Codes.{plain_causes, place_code_is, placed, refused_code, no_plain_code, follows_both, event_is}
 use Rattle.rreading.proofs.Steps.{groups_on, events_push}
 
@@ -157,9 +157,10 @@ module _ (whole : Bool) (old : Reading) (s : SoFar) (h : Knows whole old s) (e :
   pub happen_refused : (cause : Refusal) → refusal_in (lock_in s) e ≡ Some cause → line_code whole s (Happens e) ≡ Some (Refused cause)
   happen_refused cause is = code_by (Some cause) is ∙ refused_code (is_change_due s) (nat_le 4 s.last && nat_le s.last 7) false cause here
 
-  pub happen_taken : (state : LockState) (held : Granted) (follower : Following) → Follows follower (with_event (past_in s) e) → state ≡ lock_in s → refusal_in state e ≡ None → AreActive (changes_between state (next state e)).statuses → (whole ≡ true → held ≡ holds_of state.claims (seat_of e))
-      → (line_code whole s (Happens e) ≡ None) × Knows whole (noted (record old { machine = Some (stepped state e); following = Some follower }) e held) (with_line whole s (Happens e))
-  happen_taken state held follower follows is free active holds =
+  pub happen_taken : (state : LockState) (shown edited : Set) (follower : Following) → Follows follower (with_event (past_in s) e) → state ≡ lock_in s → refusal_in state e ≡ None → AreActive (changes_between state (next state e)).statuses
+      → (whole ≡ true → Allows (record old { shown = shown; edited = edited }) e (holds_of state.claims (seat_of e)))
+      → (line_code whole s (Happens e) ≡ None) × Knows whole (noted (record old { machine = Some (stepped state e); following = Some follower; shown = shown; edited = edited }) e) (with_line whole s (Happens e))
+  happen_taken state shown edited follower follows is free active allows =
       let both = follows_both 4 s.last 7 at.1 in
       let low = event_low e in
       let high = event_high e in
@@ -187,8 +188,9 @@ module _ (whole : Bool) (old : Reading) (s : SoFar) (h : Knows whole old s) (e :
           acts = λ report six. record {
             entry = bare e;
             is = refl;
-            allowed = λ act. allowed_by held e act six
-                ∙ ap (λ (g : Granted). stands_with e act && is_held g.reads g.writes act) (holds report ∙ ap (λ (l : LockState). holds_of l.claims (seat_of e)) is);
+            allowed = λ act. (λ i. may_do ((allows report).0 i) ((allows report).1 i) act)
+                ∙ allowed_by (holds_of state.claims (seat_of e)) e act six
+                ∙ ap (λ (l : LockState). stands_with e act && is_held (holds_of l.claims (seat_of e)).reads (holds_of l.claims (seat_of e)).writes act) is;
             within = λ l. sym (bare_within (entries_in s) e l);
           };
           left = λ eight. absurd (omega (arith, eight, high));

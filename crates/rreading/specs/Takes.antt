@@ -104,9 +104,13 @@ event_admitted groups _ = true
 abbrev pub IsPlaced : Reading → Type 0
 IsPlaced reading = (whole : Bool) (s : SoFar) → Knows whole reading s → place_code s at_tasks at_changes ≡ None
 
--- the reader behind an accepted event, whose seat held this before
-abbrev pub noted : Reading → Event → Granted → Reading
-noted reading e held = record reading { last = event_place e; shown = shown_by held; edited = edited_by held e; told = 0 }
+-- a reader lets acts be behind an event, whose seat held this before, just as they may be
+abbrev pub Allows : Reading → Event → Granted → Type 0
+Allows reading e held = (reading.shown ≡ shown_by held) × (reading.edited ≡ edited_by held e)
+
+-- the reader behind an accepted event, of which nothing was told yet
+abbrev pub noted : Reading → Event → Reading
+noted reading e = record reading { last = event_place e; told = 0 }
 
 -- ---- ledgers
 

@@ -7,10 +7,10 @@ ghost use Rattle.rwaits.specs.Follows.{Follows};
 ghost use Rattle.rwaits.specs.Past.{Past, state_of, with_event};
 ghost use Rattle.rforms.specs.Events.{refusal_in};
 ghost use Rattle.rforms.specs.Lines.{Happens};
-ghost use Rattle.rforms.specs.SoFar.{SoFar, lock_in, entries_in};
+ghost use Rattle.rforms.specs.SoFar.{SoFar, lock_in, entries_in, event_place};
 ghost use Rattle.rforms.specs.declared.fault.Code.{Code};
 ghost use Rattle.rreading.specs.Knows.{Knows, state_in, changes_in, past_in};
-ghost use Rattle.rreading.specs.Takes.{Takes, Refuses, IsReady, IsPlaced, FitsTold, event_admitted, stepped, noted};
+ghost use Rattle.rreading.specs.Takes.{Takes, Refuses, IsReady, IsPlaced, FitsTold, Allows, event_admitted, edited_by, stepped};
 
 use crate::place::{AT_ACTS, AT_CHANGES};
 use crate::reading::Reading;
@@ -50,20 +50,6 @@ fn is_admitted(groups: &Groups, event: &Event) -> bool
     }
 }
 
-// What the seat of an event holds before it, where acts may be told with it.
-fn held_before(whole: bool, machine: &Plain, event: &Event) -> Granted
-    ensures { whole ≡ true → result ≡ holds_of machine.now.state.claims (seat_of event.now) }
-{
-    if whole {
-        machine.granted(event.seat())
-    } else {
-        Granted {
-            reads: ResourceSet::empty(),
-            writes: ResourceSet::empty(),
-        }
-    }
-}
-
 impl Reading {
     /// Takes an event in its place, whose request is right by itself.
     ///
@@ -80,17 +66,17 @@ impl Reading {
         let Ok(()) = self.make_machine(alloc) else {
             return Err(RowErr::Memory);
         };
-        let whole = self.whole;
+        self.allow(event);
         let Some(machine) = &mut self.machine else {
             return Err(RowErr::Memory);
         };
         let Some(following) = &mut self.following else {
             return Err(RowErr::Memory);
         };
-        let held = held_before(whole, machine, event);
         match apply(machine, following, event) {
             Ok(()) => {
-                self.note(event, held);
+                self.told = 0;
+                self.last = place_behind(event);
                 Ok(())
             }
             Err(cause) => Err(RowErr::Bad(Code::Refused(cause))),
@@ -135,20 +121,39 @@ impl Reading {
         Ok(())
     }
 
-    // Notes where an event that was accepted stands, and what acts may follow it.
-    fn note(&mut self, event: &Event, held: Granted)
-        ensures { self.new ≡ noted self.old event.now held }
+    // Notes what acts may follow an event, where acts are told: by what its seat holds before it.
+    fn allow(&mut self, event: &Event)
+        ensures others { self.new ≡ record self.old { shown = self.new.shown; edited = self.new.edited } }
+        ensures allowed { self.old.whole ≡ true → IfSome self.old.machine (λ machine. Allows self.new event.now (holds_of machine.state.claims (seat_of event.now))) }
     {
-        self.told = 0;
-        self.shown = held.reads.union(held.writes);
-        self.edited = ResourceSet::empty();
-        self.last = match event {
-            Event::Issue { .. } | Event::Ask { .. } => AT_CHANGES,
-            Event::Rise { .. } => AT_ACTS,
-            Event::Finish { .. } => {
-                self.edited = held.writes;
-                AT_ACTS
-            }
+        if !self.whole {
+            return;
+        }
+        let Some(machine) = &self.machine else {
+            return;
         };
+        let held = machine.granted(event.seat());
+        self.shown = held.reads.union(held.writes);
+        self.edited = edited_by(held, event);
+    }
+}
+
+// What acts behind an event may edit, whose seat held this before it.
+fn edited_by(held: Granted, event: &Event) -> ResourceSet
+    ensures { result ≡ edited_by held event.now }
+{
+    match event {
+        Event::Finish { .. } => held.writes,
+        Event::Issue { .. } | Event::Rise { .. } | Event::Ask { .. } => ResourceSet::empty(),
+    }
+}
+
+// The place of an event.
+fn place_behind(event: &Event) -> u8
+    ensures { result ≡ event_place event.now }
+{
+    match event {
+        Event::Issue { .. } | Event::Ask { .. } => AT_CHANGES,
+        Event::Finish { .. } | Event::Rise { .. } => AT_ACTS,
     }
 }

@@ -13,6 +13,7 @@ use crate::place::{AT_CHANGES, AT_TASKS};
 use crate::reading::Reading;
 use crate::taken::{BoundTold, Taken};
 use csv::ByteRecord;
+use rclaim::Event;
 use rexpand::GROUPS;
 use rforms::{Code, Refusal, RowErr, Stage, Word, field_of, word_in};
 use rrecords::{
@@ -137,13 +138,13 @@ impl Reading {
             return Err(RowErr::Bad(code));
         }
         match told {
-            EventTold::Event(event) => match self.happen(alloc, &event) {
-                Ok(()) => {
-                    *taken = Taken::Event(event);
-                    Ok(())
+            EventTold::Event(event) => {
+                keep(taken, event);
+                match &*taken {
+                    Taken::Event(event) => self.happen(alloc, event),
+                    _ => unreachable!(),
                 }
-                Err(e) => Err(e),
-            },
+            }
             EventTold::Refused(cause) => {
                 Err(RowErr::Bad(Code::Refused(Refusal::Request(cause))))
             }
@@ -333,5 +334,16 @@ impl Reading {
             Some(groups) => groups.len() == GROUPS,
             None => false,
         }
+    }
+}
+
+// Keeps an event as what was taken. Where another one is kept it is written over, and nothing else is moved.
+#[inline]
+fn keep(taken: &mut Taken, event: Event)
+    ensures { taken.new ≡ Taken.Event event }
+{
+    match taken {
+        Taken::Event(place) => *place = event,
+        _ => *taken = Taken::Event(event),
     }
 }

@@ -60,6 +60,21 @@ keys_more p e [] (key ∷ keys) ended had all = absurd had
 keys_more p e (w ∷ ws) [] ended had all = absurd had
 keys_more p e (w ∷ ws) (key ∷ keys) ended had all = (had_later p e w key had.0, keys_more p e ws keys ended had.1 all)
 
+-- a list without a wait
+pub none_of : (ended : List WaitEnd) → length ended ≡ 0 → ended ≡ []
+none_of [] is = refl
+none_of (w ∷ ws) is = absurd (omega (arith, is))
+
+-- and where an event ended none, the keys stay those of the waits so far
+pub keys_same : (p : Past) (e : Event) (ws ended : List WaitEnd) (keys : List BoundKey) → ended ≡ [] → AllZip (HadKey p) ws keys → AllZip (HadKey (with_event p e)) (ws ++ ended) keys
+keys_same p e ws ended keys none had = subst (λ (es : List WaitEnd). AllZip (HadKey (with_event p e)) (ws ++ es) keys) (sym none) (all_later ws keys had)
+  where
+    all_later : (ws : List WaitEnd) (keys : List BoundKey) → AllZip (HadKey p) ws keys → AllZip (HadKey (with_event p e)) (ws ++ []) keys
+    all_later [] [] had = tt
+    all_later [] (key ∷ keys) had = absurd had
+    all_later (w ∷ ws) [] had = absurd had
+    all_later (w ∷ ws) (key ∷ keys) had = (had_later p e w key had.0, all_later ws keys had.1)
+
 -- ---- the waits that an event ended, one after another
 
 -- what holds of all holds of the one at a place

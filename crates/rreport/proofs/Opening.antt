@@ -79,3 +79,12 @@ module _ (names : Names) where
       ∙ ap (λ (lines : List Line). old ++ open_told names (flat_map g (take i items) ++ lines)) (sym (append-nil (g x)))
       ∙ ap (λ (lines : List Line). old ++ open_told names lines) (sym (flat_map-append g (take i items) (x ∷ [])))
       ∙ ap (λ some. old ++ open_told names (flat_map g some)) (sym (take_more items i x within ∙ ap (λ y. take i items ++ y ∷ []) at))
+
+-- ---- a step
+
+-- where there is nothing else to tell, the line of an event is all
+pub line_alone : (names : Names) (line : Line) (rest : List Line) (old now : List (Option ℕ)) → now ≡ old ++ open_line names line → rest ≡ [] → now ≡ old ++ open_told names (line ∷ rest)
+line_alone names line rest old now is none =
+    is
+    ∙ ap (λ (text : List (Option ℕ)). old ++ text) (sym (append-nil (open_line names line)))
+    ∙ ap (λ (lines : List Line). old ++ open_told names (line ∷ lines)) (sym none)

@@ -1,5 +1,5 @@
 // The lines of a step: an event, what its section did, and what it changes.
-ghost use Rattle.std.specs.Prelude.{◌≡◌, ◌++◌, ◌∷◌, map, OnOk, flat_map};
+ghost use Rattle.std.specs.Prelude.{◌≡◌, ◌++◌, ◌∷◌, [], map, OnOk, IsTrue, flat_map};
 ghost use Rattle.rclaim.specs.declared.changes.StatusChange.{StatusChange};
 ghost use Rattle.rforms.specs.Lines.{Happens, Does};
 ghost use Rattle.rforms.specs.Reports.{status_lines, grant_line, wait_line};
@@ -30,6 +30,9 @@ pub fn push_step(
     ensures { OnOk result (text.new ≡ text.old ++ open_told names.now (Happens event.now ∷ step_told changes.now ended.now)) }
 {
     text.push_event(names, event)?;
+    if is_untold(changes, ended) {
+        return Ok(());
+    }
     push_told(text, names, changes, ended)
 }
 
@@ -51,6 +54,14 @@ pub fn push_entry(
     text.push_event(names, &entry.event)?;
     push_acts(text, names, &entry.acts)?;
     push_told(text, names, changes, ended)
+}
+
+// Whether a step has no line but that of its event.
+#[inline]
+fn is_untold(changes: &Changes, ended: &[WaitEnd]) -> bool
+    ensures { IsTrue result → step_told changes.now ended.now ≡ [] }
+{
+    changes.statuses.is_empty() && changes.grants.is_empty() && ended.is_empty()
 }
 
 // Appends the lines of what a step changed, and then those of the waits that it ended.

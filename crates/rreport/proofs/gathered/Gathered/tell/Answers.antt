@@ -1,11 +1,8 @@
-use Rattle.std.proofs.Common.{◌++◌, List, sym, subst}
-use Rattle.std.specs.List.{AllZip}
+use Rattle.std.proofs.Common.{length, sym}
+use Rattle.std.proofs.lemmas.Bool.{eqb-true}
 use Rattle.std.proofs.lemmas.Result.{on_ok_weaker}
-use Rattle.rcover.specs.declared.wait_end.WaitEnd.{WaitEnd}
-use Rattle.rneeds.specs.declared.key.BoundKey.{BoundKey}
-use Rattle.rwaits.specs.Past.{Past, with_event}
-use Rattle.rreport.specs.Gathered.{HadKey}
-use Rattle.rreport.proofs.Gathering.{accepted_next, ended_last, keys_more}
+use Rattle.rwaits.specs.Past.{Past}
+use Rattle.rreport.proofs.Gathering.{accepted_next, keys_same, none_of}
 use Rattle.rreport.proofs.gathered.Gathered.tell.Goals as goal
 
 pub told-requires : goal.told-requires
@@ -13,28 +10,14 @@ told-requires c =
     let p : Past = c.requires.0 in
     (p.groups, p.seats, p.cap, p.events, c.requires.2.needs, accepted_next p c.args.event.now c.args.ended.now c.requires.2.accepted c.requires.3)
 
-pub keep_keys-requires : goal.keep_keys-requires
-keep_keys-requires c =
-    let p : Past = c.requires.0 in
-    let known = c.requires.2 in
-    let coming = c.requires.3 in (
-      with_event p c.args.event.now,
-      c.in_ok-told.ensures.ok p.groups p.seats p.cap p.events known.needs (accepted_next p c.args.event.now c.args.ended.now known.accepted coming),
-      ended_last p c.args.event.now c.args.ended.now known.accepted coming,
-    )
-
-pub returns : goal.returns
-returns c =
-    on_ok_weaker c.keep_keys.result
-    (λ kept p ws known coming.
-    let e = c.args.event.now in
-    let ended : List WaitEnd = c.args.ended.now in
-    let accepted = accepted_next p e ended known.accepted coming in
-    let needs = c.in_ok-told.ensures.ok p.groups p.seats p.cap p.events known.needs accepted in
-    let last = ended_last p e ended known.accepted coming in
+pub returns-then-is_empty : goal.returns-then-is_empty
+returns-then-is_empty c =
+    on_ok_weaker c.told.result
+    (λ needs p ws known coming.
+    let accepted = accepted_next p c.args.event.now c.args.ended.now known.accepted coming in
     record {
       accepted = accepted;
-      needs = needs;
-      keys = subst (λ (keys : List BoundKey). AllZip (HadKey (with_event p e)) (ws ++ ended) keys) (sym (kept (with_event p e) needs last)) (keys_more p e ws c.args.self.now.keys.items ended known.keys last);
+      needs = needs p.groups p.seats p.cap p.events known.needs accepted;
+      keys = keys_same p c.args.event.now ws c.args.ended.now c.args.self.now.keys.items (none_of c.args.ended.now (eqb-true (length c.args.ended.now) 0 (sym c.if-is_empty.ensures))) known.keys;
     })
-    c.keep_keys.ensures
+    c.told.ensures.ok
