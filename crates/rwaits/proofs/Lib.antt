@@ -1,3 +1,2 @@
-pub mod lists
-pub mod over
+pub mod ending
 pub mod told

@@ -8,10 +8,11 @@ use Rattle.rmodel.specs.Steps.{AreAccepted, Comes, next}
 use Rattle.rplain.specs.Machine.{Standing}
 use Rattle.rcover.specs.History.{length_in, asks_since}
 use Rattle.rwaits.specs.declared.following.Following.{Following}
-use Rattle.rwaits.specs.Follow.{table_of, length_by, HasRoom, AreLong, AreOf}
-use Rattle.rwaits.specs.Heads.{HasPlaces, TellsNow, TellsWrites}
+use Rattle.rwaits.specs.Follow.{table_of}
+use Rattle.rstretch.specs.Kept.{length_by, HasRoom, AreLong, AreOf}
+use Rattle.rheads.specs.Heads.{HasPlaces, TellsNow, TellsWrites}
 use Rattle.rwaits.specs.Past.{Past, start_of, state_of, moments_of, AreLastEnded}
-use Rattle.rwaits.specs.Tracked.{AreTracked}
+use Rattle.rstretch.specs.Tracked.{AreTracked}
 use Rattle.rwaits.specs.Waiting.{HoldWaiting, TellRising, HoldAsking, HoldReading, TellWanted, ends_none}
 
 -- a follower has its room

@@ -1,13 +1,7 @@
-pub mod Last
-pub mod Shown
-pub mod Tracked
+pub mod Due
 pub mod Follow
-pub mod Found
-pub mod Lines
-pub mod Shares
-pub mod Heads
-pub mod Past
-pub mod Waiting
 pub mod Follows
 pub mod Knows
+pub mod Past
 pub mod Quiet
+pub mod Waiting

@@ -12,6 +12,7 @@ use Rattle.rcover.specs.Moments.{Moment, moments}
 use Rattle.rcover.specs.Told.{waits_first, waits_to_rise, stands}
 use Rattle.rmodel.specs.declared.claimed.Claimed.{Claimed}
 use Rattle.rcover.specs.declared.wait_end.WaitEnd.{WaitEnd}
+use Rattle.rstretch.specs.Begun.{rises_at}
 
 -- the groups, the number of seats, the cap, and the events one after another
 pub record Past : Type 0 where
@@ -54,13 +55,6 @@ is_issue (Issue seat r) = true
 is_issue (Finish seat) = false
 is_issue (Rise seat) = false
 is_issue (Ask seat part) = false
-
--- the upgrade of a seat rises by an event
-abbrev pub rises_at : Event → ℕ → Bool
-rises_at (Issue t r) seat = false
-rises_at (Finish t) seat = false
-rises_at (Rise t) seat = t == seat
-rises_at (Ask t part) seat = false
 
 -- a wait of a claim after an event stood before it, but for that of the upgrade that rises
 pub record StoodBy (e : Event) (m n : Moment) (x : Claimed) : Type 0 where

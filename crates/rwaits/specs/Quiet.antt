@@ -2,8 +2,6 @@
 use Rattle.std.specs.Prelude.{◌≡◌, ◌==◌, ℕ, Bool, true, false, not, ◌&&◌, List, []}
 use Rattle.std.specs.List.{list_any}
 use Rattle.rclaim.specs.declared.changes.GrantChange.{GrantChange}
-use Rattle.rclaim.specs.declared.changes.StatusChange.{StatusChange}
-use Rattle.rmodel.specs.Claims.{satisfied_by}
 use Rattle.rmodel.specs.declared.claimed.Claimed.{Claimed}
 use Rattle.rbound.specs.declared.which.Which.{Which}
 use Rattle.rcover.specs.Ended.{waits_in}
@@ -25,7 +23,3 @@ GoesOn seat gs m n x = is_quiet seat gs x ≡ true → (w : Which) → waits_in 
 -- of two claims of one seat, the later is in no wait
 abbrev pub OneWaits : Moment → Claimed → Claimed → Type 0
 OneWaits m x y = x.claim.seat ≡ y.claim.seat → (w : Which) → waits_in w m y ≡ false
-
--- the write of a seat is told to be satisfied
-abbrev pub tells_write_of : List StatusChange → ℕ → Bool
-tells_write_of cs seat = list_any (λ c. (c.seat == seat) && (c.write_half && satisfied_by c.status)) cs

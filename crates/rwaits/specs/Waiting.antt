@@ -12,8 +12,8 @@ use Rattle.rmodel.specs.Claims.{is_satisfied}
 use Rattle.rcover.specs.declared.wait_end.WaitEnd.{WaitEnd}
 use Rattle.rcover.specs.Moments.{Moment}
 use Rattle.rcover.specs.Told.{waits_first, waits_to_rise, waits_for_ask}
-use Rattle.rwaits.specs.Follow.{may_wait}
-use Rattle.rwaits.specs.Lines.{set_at}
+use Rattle.rstretch.specs.Kept.{may_wait}
+use Rattle.rheads.specs.Lines.{set_at}
 use Rattle.rwaits.specs.Past.{is_issue}
 
 -- a claim is in a wait, or asks for something
@@ -103,13 +103,6 @@ first_of (Issue seat r) there all = there
 first_of (Finish seat) there all = all
 first_of (Rise seat) there all = 0
 first_of (Ask seat part) there all = 0
-
--- an event is a finish
-abbrev pub is_finish : Event → Bool
-is_finish (Issue seat r) = false
-is_finish (Finish seat) = true
-is_finish (Rise seat) = false
-is_finish (Ask seat part) = false
 
 -- an event ends no wait: it is an issue, or no seat waits
 abbrev pub ends_none : Set → Event → Bool

@@ -5,27 +5,28 @@ ghost use Rattle.rclaim.specs.Events.{seat_of};
 ghost use Rattle.rclaim.specs.declared.claim.Claim.{Claim};
 ghost use Rattle.rset.specs.declared.TheConstants.{SEATS};
 ghost use Rattle.rmodel.specs.WellFormed.{Among, EachPair, Rises, Distinct};
-ghost use Rattle.rwaits.specs.Follow.{table_of, length_by, section_of, HasRoom, IsTaken, AreLong, AreOf, WaitApart, may_wait, kept_of, with_entry, kept_with};
+ghost use Rattle.rwaits.specs.Follow.{table_of, with_entry, kept_with};
+ghost use Rattle.rstretch.specs.Kept.{length_by, section_of, HasRoom, IsTaken, AreLong, AreOf, WaitApart, may_wait, kept_of};
 ghost use Rattle.rcover.specs.Lists.{AreAtMost};
 ghost use Rattle.std.specs.FinSet.{contains};
 ghost use Rattle.rcover.specs.Moments.{Moment};
 ghost use Rattle.rcover.specs.Told.{waits_to_rise};
 ghost use Rattle.rwaits.specs.Waiting.{HoldWaiting, HoldReading, TellWanted, is_rising, TellRising};
-ghost use Rattle.rwaits.specs.Lines.{HeadsTell, ReadStays, StandsAt, ArePlaced, is_looked_at, is_write_of, is_due};
-ghost use Rattle.rwaits.specs.Past.{rises_at, StoodBy};
+ghost use Rattle.rheads.specs.Lines.{HeadsTell, StandsAt, ArePlaced};
+ghost use Rattle.rwaits.specs.Due.{ReadStays, is_looked_at, is_write_of_these, is_due};
+ghost use Rattle.rstretch.specs.Begun.{rises_at};
+ghost use Rattle.rwaits.specs.Past.{StoodBy};
 ghost use Rattle.rcover.specs.Sections.{Sections};
-ghost use Rattle.rwaits.specs.Tracked.{no_sections, gone_on};
+ghost use Rattle.rstretch.specs.Tracked.{no_sections, gone_on};
 
-use crate::lines::Head;
-use crate::noted::has_stood;
 use crate::reading::reads_stay;
-use crate::run::{Run, Taken, clear, keep_by, none_taken};
-use crate::section::{Lengths, Section, section_of};
 use crate::waiting::still_rises;
 use rclaim::Event;
 use rcover::waits_first;
+use rheads::Head;
 use rmodel::Claimed;
 use rset::ResourceSet;
+use rstretch::{Lengths, Run, Section, Taken, clear, has_stood, keep_by, none_taken, section_of};
 
 /// The seats of the writes that are looked at: that of the upgrade that rises, and those that wait and whose heads changed.
 fn looked_at(
@@ -271,7 +272,7 @@ fn keep_writes(
 )
     requires low { AllByRecursion (λ x. x.claim.seat < SEATS) next.now }
     requires placed { (seat : ℕ) → contains looked seat ≡ true → StandsAt places.now next.now seat }
-    requires undue { AllByRecursion (λ x. is_write_of looked x ≡ false → may_wait next.now x ≡ true → (a : Sections) → kept_of last.now next.now a x ≡ a) next.now }
+    requires undue { AllByRecursion (λ x. is_write_of_these looked x ≡ false → may_wait next.now x ≡ true → (a : Sections) → kept_of last.now next.now a x ≡ a) next.now }
     requires rising { TellRising rising next.now }
     requires seats { AllByRecursion (λ x. x.claim.seat < length runs.old) next.now }
     requires head { AllByRecursion (λ x. x.claim.seat < length heads.now) next.now }
@@ -302,8 +303,8 @@ fn keep_writes(
     }
 }
 
-/// Keeps of all waits what is due at the next moment. No seats wait but these, no upgrades wait to rise but those that are told by those that rose, and
-/// no seats but these have a claim that reads, each what is noted of its seat.
+/// Keeps of all waits what is due at the next moment. No seats wait but these, no upgrades wait to rise but those that are told by
+/// those that rose, and no seats but these have a claim that reads, each what is noted of its seat.
 /// `moved` are the seats of the writes whose head was the one that is `lost` and is another now, and `risen` those of the writes whose
 /// least claim came to be satisfied; the writes of both stand at the `places` that are noted of their seats.
 pub(crate) fn keep(

@@ -7,27 +7,26 @@ ghost use Rattle.rclaim.specs.Events.{IsNormalEvent};
 ghost use Rattle.rclaim.specs.declared.event.Event.{Event};
 ghost use Rattle.rmodel.specs.Changes.{changes_between, AreActive};
 ghost use Rattle.rmodel.specs.Steps.{Fits, Accepts, Comes, Steps, next, refusal};
-ghost use Rattle.rwaits.specs.Follow.{HasRoom, IsEmpty};
+ghost use Rattle.rstretch.specs.Kept.{HasRoom};
+ghost use Rattle.rwaits.specs.Follow.{IsEmpty};
 ghost use Rattle.rwaits.specs.Past.{Past, begun, state_of, with_event, AreLastEnded};
 ghost use Rattle.rwaits.specs.Follows.{Follows, IsAhead};
-ghost use Rattle.rwaits.specs.Waiting.{ends_none, is_finish};
+ghost use Rattle.rwaits.specs.Waiting.{ends_none};
+ghost use Rattle.rheads.specs.Lines.{is_finish};
 ghost use Rattle.rplain.specs.Machine.{Standing};
 
 use crate::follow::{clear_run, keep};
-use crate::heads::Heads;
-use crate::lines::touched_by;
-use crate::noted::{is_finish, is_issue, note_ask, note_lengths, seats_told};
+use crate::noted::{is_issue, note_ask, note_lengths, seats_told};
 use crate::reading::note_wanted;
-use crate::run::Run;
-use crate::section::Lengths;
-use crate::shares::written_by;
 use crate::tell::tell;
 use crate::waiting::{ends_none, first_of, note_ended, note_event, note_seat};
 use rclaim::Event;
 use rcover::WaitEnd;
+use rheads::{Heads, is_finish, touched_by, written_by};
 use rmodel::{Claimed, Machine, Refused};
 use rplain::Plain;
 use rset::{ResourceSet, SEATS};
+use rstretch::{Lengths, Run};
 use std::alloc::{AllocError, Global};
 
 // A place for each seat.

@@ -7,16 +7,9 @@
 mod covers;
 mod follow;
 mod following;
-mod heads;
-mod lines;
 mod noted;
 mod reading;
-mod run;
-mod section;
-mod shares;
-mod show;
 mod tell;
-mod turns;
 mod waiting;
 
 pub use covers::Covers;

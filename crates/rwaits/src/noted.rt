@@ -4,39 +4,23 @@ ghost use Rattle.rmodel.specs.Claims.{satisfied_by};
 ghost use Rattle.rclaim.specs.Events.{seat_of};
 ghost use Rattle.rclaim.specs.declared.claim.Claim.{Claim};
 ghost use Rattle.rcover.specs.History.{count_ask};
-ghost use Rattle.rwaits.specs.Follow.{length_by};
+ghost use Rattle.rstretch.specs.Kept.{length_by};
 ghost use Rattle.std.specs.FinSet.{contains};
 ghost use Rattle.rset.specs.declared.TheConstants.{SEATS};
-ghost use Rattle.rwaits.specs.Quiet.{tells_write_of, has_grant};
-ghost use Rattle.rwaits.specs.Past.{is_issue, noted, rises_at};
-ghost use Rattle.rwaits.specs.Waiting.{is_finish};
+ghost use Rattle.rheads.specs.Lines.{tells_write_of};
+ghost use Rattle.rwaits.specs.Quiet.{has_grant};
+ghost use Rattle.rwaits.specs.Past.{is_issue, noted};
 
-use crate::section::Lengths;
 use rclaim::{Event, GrantChange, Status, StatusChange};
+use rheads::is_write_told;
 use rset::{ResourceSet, SEATS};
+use rstretch::Lengths;
 
 /// Whether an event is an issue.
 pub(crate) fn is_issue(event: &Event) -> bool
     ensures { result ≡ is_issue event.now }
 {
     matches!(event, Event::Issue { .. })
-}
-
-/// Whether an event is a finish.
-pub(crate) fn is_finish(event: &Event) -> bool
-    ensures { result ≡ is_finish event.now }
-{
-    matches!(event, Event::Finish { .. })
-}
-
-/// Whether the wait of a seat stood before an event that is no issue: only that of the upgrade that rises begins with it.
-pub(crate) fn has_stood(event: &Event, seat: u8) -> bool
-    ensures { result ≡ not (rises_at event.now seat) }
-{
-    match event {
-        Event::Rise { seat: other } => *other != seat,
-        _ => true,
-    }
 }
 
 /// Notes the lengths of a request that an event issues.
@@ -69,13 +53,6 @@ pub(crate) fn note_ask(asks: &mut [usize], event: &Event)
         }
         _ => {}
     }
-}
-
-/// Whether it is told that a write became satisfied.
-pub(crate) fn is_write_told(s: &StatusChange) -> bool
-    ensures { result ≡ (s.now.write_half && satisfied_by s.now.status) }
-{
-    s.write_half && matches!(s.status, Status::Satisfied)
 }
 
 /// The same seats with this one, if it is told that it `comes`.

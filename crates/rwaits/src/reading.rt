@@ -4,14 +4,14 @@ ghost use Rattle.std.specs.FinSet.{contains, insert, remove};
 ghost use Rattle.rset.specs.Sets.{meets};
 ghost use Rattle.rset.specs.declared.TheConstants.{SEATS};
 ghost use Rattle.rclaim.specs.Events.{seat_of};
-ghost use Rattle.rwaits.specs.Lines.{set_at};
-ghost use Rattle.rwaits.specs.Past.{rises_at};
+ghost use Rattle.rheads.specs.Lines.{set_at};
+ghost use Rattle.rstretch.specs.Begun.{rises_at};
 ghost use Rattle.rwaits.specs.Waiting.{has_read, wanted_by};
 
-use crate::lines::set_of;
-use crate::noted::has_stood;
 use rclaim::{Event, Kind, Request};
+use rheads::set_of;
 use rset::ResourceSet;
+use rstretch::has_stood;
 
 /// Whether a request of this kind has a claim that reads.
 fn has_read(kind: Kind) -> bool

@@ -8,29 +8,28 @@ ghost use Rattle.rset.specs.declared.TheConstants.{SEATS};
 ghost use Rattle.rbound.specs.declared.which.Which.{Which};
 ghost use Rattle.rcover.specs.Ended.{wait_of, waits_in};
 ghost use Rattle.rcover.specs.History.{asks_since, length_in};
-ghost use Rattle.rwaits.specs.Follow.{table_of, kept_in, length_by, HasRoom, AreLong, AreOf};
+ghost use Rattle.rwaits.specs.Follow.{table_of};
+ghost use Rattle.rstretch.specs.Kept.{kept_in, length_by, HasRoom, AreLong, AreOf};
 ghost use Rattle.rcover.specs.Lists.{AreAtMost};
 ghost use Rattle.std.specs.FinSet.{contains};
 ghost use Rattle.rcover.specs.Moments.{Moment, is_claim};
 ghost use Rattle.rcover.specs.Told.{waits_to_rise, stands};
 ghost use Rattle.rmodel.specs.Claims.{is_satisfied};
 ghost use Rattle.rwaits.specs.Waiting.{HoldWaiting, TellRising, HoldAsking};
-ghost use Rattle.rwaits.specs.Lines.{head_of, TellHeads};
+ghost use Rattle.rheads.specs.Lines.{head_of, TellHeads};
 ghost use Rattle.rmodel.specs.WellFormed.{EachPair, Rises};
 ghost use Rattle.rwaits.specs.Quiet.{has_grant, GoesOn, OneWaits};
-ghost use Rattle.rwaits.specs.Tracked.{shown, told_of, told_if, told};
+ghost use Rattle.rstretch.specs.Tracked.{shown, told_of, told};
 
-use crate::lines::Head;
 use crate::noted::busy_seats;
-use crate::run::Run;
-use crate::section::Lengths;
-use crate::show::{end_of, show};
 use crate::waiting::still_rises;
 use rbound::Which;
 use rclaim::{Claim, GrantChange};
 use rcover::{WaitEnd, is_claim, stands, waits_first, waits_for_ask, waits_to_rise};
+use rheads::Head;
 use rmodel::Claimed;
 use rset::ResourceSet;
+use rstretch::{Lengths, Run, end_of, show};
 
 /// The wait in which a claim is, if it is in one, where it is told whether the upgrade of its seat rose. So many asks of its seat
 /// came since its last issue.

@@ -37,10 +37,10 @@ use Rattle.rcover.proofs.lists.Different.{among_filter_map}
 use Rattle.rcover.proofs.runs.Moments.{is_itself}
 use Rattle.rcover.proofs.told.Few.{waits_told}
 use Rattle.rwaits.specs.Past.{is_issue}
-use Rattle.rwaits.specs.Tracked.{shown, told, told_if}
+use Rattle.rstretch.specs.Tracked.{shown, told, told_if}
 use Rattle.rwaits.specs.Waiting.{some_wait, HoldWaiting, with_seat, has_end}
 use Rattle.rwaits.proofs.told.Asking.{asks_nested, pending_from}
-use Rattle.rwaits.proofs.told.Grants.{one_write}
+use Rattle.rheads.proofs.told.Taken.{one_write}
 use Rattle.rwaits.proofs.told.Stood.{before, rise_was, rising_parts}
 use Rattle.rwaits.proofs.told.Waiting.{in_changed, noted_seat, rises_not, waited_before}
 

@@ -1,6 +1,5 @@
 -- What a follower knows of the events that it followed holds with one event more.
-use Rattle.std.proofs.Common.{◌≡◌, ℕ, zero, suc, ◌*◌, ◌≤◌, ◌<◌, true, false, not, ◌&&◌, Some, List, [], ◌∷◌, ◌++◌, append_assoc, length, length-append, drop, refl, sym, ap, subst, ◌∙◌, arith}
-use Rattle.std.proofs.lemmas.List.{take-append-le, take_all}
+use Rattle.std.proofs.Common.{◌≡◌, ℕ, zero, suc, ◌*◌, ◌≤◌, ◌<◌, true, false, not, ◌&&◌, Some, List, [], ◌∷◌, ◌++◌, append_assoc, length, length-append, refl, sym, ap, subst, ◌∙◌, arith}
 use Rattle.std.specs.Vec.{with_items}
 use Rattle.std.specs.declared.vec.Vec.{Vec}
 use Rattle.std.specs.declared.alloc.Global.{Global}
@@ -32,33 +31,37 @@ use Rattle.rcover.specs.Sections.{Sections}
 use Rattle.rcover.proofs.lists.Pushed.{same_ends}
 use Rattle.rcover.proofs.runs.Push.{append_none}
 use Rattle.rwaits.specs.declared.following.Following.{Following}
-use Rattle.rwaits.specs.declared.run.Run.{Run}
-use Rattle.rwaits.specs.declared.section.Section.{Section}
-use Rattle.rwaits.specs.Follow.{claims_of, kept_in, table_of, length_by, HasRoom, IsEmpty, AreLong, AreOf, may_wait, WaitApart, kept_of}
-use Rattle.rwaits.specs.declared.lines.Head.{Head}
-use Rattle.rwaits.specs.Lines.{TellAt, TellHeads, GoesBy, IsLost, IsTouched, HoldBehind, HoldWritten, ReadStays}
+use Rattle.rstretch.specs.declared.run.Run.{Run}
+use Rattle.rstretch.specs.declared.section.Section.{Section}
+use Rattle.rstretch.specs.Kept.{claims_of, kept_in, length_by, HasRoom, AreLong, AreOf, may_wait, WaitApart, kept_of}
+use Rattle.rwaits.specs.Follow.{table_of, IsEmpty}
+use Rattle.rheads.specs.declared.lines.Head.{Head}
+use Rattle.rheads.specs.Lines.{TellAt, TellHeads, GoesBy, IsLost, IsTouched, HoldBehind}
+use Rattle.rwaits.specs.Due.{HoldWritten, ReadStays}
 use Rattle.rwaits.specs.Follows.{HaveRoom, Follows}
 use Rattle.rwaits.specs.Past.{Past, begun, with_event, start_of, state_of, noted, is_issue, StoodBy}
-use Rattle.rwaits.specs.Tracked.{shown, told}
+use Rattle.rstretch.specs.Tracked.{shown, told}
 use Rattle.rwaits.specs.Waiting.{HoldAsking, HoldReading, TellWanted, HoldWaiting, TellRising, has_end, with_seat}
 use Rattle.rcover.specs.declared.wait_end.WaitEnd.{WaitEnd}
-use Rattle.rwaits.specs.Heads.{IsMoment, TellsNow, TellsWrites}
-use Rattle.rwaits.specs.declared.shares.Share.{Share}
-use Rattle.rwaits.specs.Shares.{share_of, AreLeft, TellShares, TellWrites}
-use Rattle.rwaits.proofs.lists.Kept.{length_claims}
+use Rattle.rheads.specs.Heads.{IsMoment, TellsNow, TellsWrites}
+use Rattle.rheads.specs.declared.shares.Share.{Share}
+use Rattle.rheads.specs.Shares.{share_of, AreLeft, TellShares, TellWrites}
+use Rattle.rstretch.proofs.Kept.{length_claims}
 use Rattle.rwaits.proofs.told.Noted.{lengths_next, lengths_stay, asks_more}
-use Rattle.rwaits.proofs.told.Rooms.{waits_apart, kept_each, all_next_few}
+use Rattle.rstretch.proofs.over.Rooms.{waits_apart, kept_each, all_next_few}
 use Rattle.rmodel.specs.Changes.{changes_between}
-use Rattle.rwaits.specs.Quiet.{GoesOn, tells_write_of}
+use Rattle.rwaits.specs.Quiet.{GoesOn}
+use Rattle.rheads.specs.Lines.{tells_write_of}
 use Rattle.rclaim.specs.declared.changes.StatusChange.{StatusChange}
 use Rattle.rset.specs.Sets.{Set}
 use Rattle.std.specs.FinSet.{contains, is_subset}
-use Rattle.rwaits.proofs.told.Lost.{behind_before, goes_by, read_stays, shares_before, told_before}
-use Rattle.rwaits.proofs.told.Writers.{writers_next}
+use Rattle.rwaits.proofs.ending.Lost.{behind_before, goes_by, read_stays, shares_before, told_before}
+use Rattle.rwaits.proofs.ending.Writers.{writers_next}
 use Rattle.rwaits.proofs.told.Gone.{waiting_over}
-use Rattle.rwaits.proofs.told.Grants.{goes_on}
+use Rattle.rwaits.proofs.ending.Grants.{goes_on}
 use Rattle.rwaits.proofs.told.Stood.{stood_by}
-use Rattle.rwaits.proofs.told.Tracking.{shown_at_most, told_are_ended, tracked_next, tracked_opening}
+use Rattle.rstretch.proofs.over.Tracking.{shown_at_most, told_are_ended, tracked_next, tracked_opening}
+use Rattle.rheads.proofs.told.Refilled.{refill}
 
 -- what runs with room keep is no more than there are seats
 run_few : (r : Run) → HasRoom r → AreAtMost SEATS (kept_in r)
@@ -76,20 +79,8 @@ runs_few [] rooms seat = record { reads = omega arith; writes = omega arith }
 runs_few (r ∷ rs) rooms zero = run_few r rooms.0
 runs_few (r ∷ rs) rooms (suc seat) = runs_few rs rooms.1 seat
 
--- elements that stand in the place of others, as many as they are
-refill : {X : Type 0} (v : Vec X Global) (xs : List X) → length xs ≡ length v.items → (with_items v xs).items ≡ xs
-refill v xs same =
-    let len = v.ok.0 in
-    take-append-le v.len xs (drop (length xs) v.items) (omega arith) ∙ take_all v.len xs (omega arith)
-
 pub refilled : (v : Vec Run Global) (rs : List Run) → length rs ≡ length v.items → (with_items v rs).items ≡ rs
 refilled v rs same = refill v rs same
-
-pub refilled_heads : (v : Vec Head Global) (hs : List Head) → length hs ≡ length v.items → (with_items v hs).items ≡ hs
-refilled_heads v hs same = refill v hs same
-
-pub refilled_sets : (v : Vec Set Global) (ss : List Set) → length ss ≡ length v.items → (with_items v ss).items ≡ ss
-refilled_sets v ss same = refill v ss same
 
 -- the same lengths by another name
 renamed : (by by' len : Claim → ℕ) → ((c : Claim) → by' c ≡ by c) → (m : Moment) → AreOf by len m → AreOf by' len m

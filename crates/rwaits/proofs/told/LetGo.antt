@@ -21,10 +21,12 @@ use Rattle.rcover.specs.History.{count_ask}
 use Rattle.rcover.specs.Moments.{Moment}
 use Rattle.rcover.specs.Sections.{Sections}
 use Rattle.rcover.specs.Told.{waits_to_rise, waits_for_ask}
-use Rattle.rwaits.specs.Follow.{may_wait, kept_of, with_entry}
+use Rattle.rstretch.specs.Kept.{may_wait, kept_of}
+use Rattle.rwaits.specs.Follow.{with_entry}
 use Rattle.rwaits.specs.Past.{noted}
-use Rattle.rwaits.specs.Tracked.{no_sections}
-use Rattle.rwaits.specs.Waiting.{some_wait, HoldWaiting, is_rising, TellRising, HoldAsking, HoldReading, is_finish}
+use Rattle.rstretch.specs.Tracked.{no_sections}
+use Rattle.rwaits.specs.Waiting.{some_wait, HoldWaiting, is_rising, TellRising, HoldAsking, HoldReading}
+use Rattle.rheads.specs.Lines.{is_finish}
 use Rattle.rwaits.proofs.told.Asking.{asking_next}
 use Rattle.rwaits.proofs.told.Reading.{reading_next}
 use Rattle.rwaits.proofs.told.Rising.{risen_next}

@@ -25,9 +25,10 @@ use Rattle.rmodel.proofs.settling.Keeping.{not_false}
 use Rattle.rmodel.proofs.settling.OneSettlement.{both_cases}
 use Rattle.rcover.specs.Moments.{Moment}
 use Rattle.rcover.specs.Told.{is_rising_half, waits_first, has_read_claim, waits_to_rise}
-use Rattle.rwaits.specs.Past.{is_issue, rises_at}
+use Rattle.rwaits.specs.Past.{is_issue}
+use Rattle.rstretch.specs.Begun.{rises_at}
 use Rattle.rwaits.specs.Waiting.{some_wait, seat_waits, is_rising, TellRising, risen_by, waits_by}
-use Rattle.rwaits.proofs.told.Quiet.{old_rises}
+use Rattle.rwaits.proofs.ending.Quiet.{old_rises}
 use Rattle.rwaits.proofs.told.Stood.{before, left_half, left_is_write, rise_was, rising_parts}
 use Rattle.rwaits.proofs.told.Waiting.{none_left}
 

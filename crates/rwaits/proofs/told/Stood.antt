@@ -29,8 +29,9 @@ use Rattle.rcover.specs.Ended.{waits_in}
 use Rattle.rcover.specs.Moments.{Moment, is_claim}
 use Rattle.rcover.specs.Told.{is_rising_half, waits_first, has_read_claim, waits_to_rise, stands}
 use Rattle.rcover.proofs.runs.Moments.{is_itself}
-use Rattle.rwaits.specs.Past.{is_issue, rises_at}
-use Rattle.rwaits.proofs.told.Tracking.{is_ask, was_before}
+use Rattle.rwaits.specs.Past.{is_issue}
+use Rattle.rstretch.specs.Begun.{rises_at}
+use Rattle.rstretch.proofs.over.Tracking.{is_ask, was_before}
 
 module _ (s : LockState) (e : Event) (reached : IsReached s) (comes : Comes s e) (old : is_issue e ≡ false) where
   abbrev m : Moment

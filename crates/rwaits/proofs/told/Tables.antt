@@ -10,12 +10,13 @@ use Rattle.rmodel.specs.declared.claimed.Claimed.{Claimed}
 use Rattle.rmodel.specs.WellFormed.{Among, Distinct, EachPair}
 use Rattle.rmodel.proofs.ListFacts.{contrary, false_from, all_append, all_at, all_from, pair_among}
 use Rattle.rmodel.proofs.settling.OneSettlement.{both_cases}
-use Rattle.rwaits.specs.Follow.{may_wait, WaitApart, kept_of, with_entry, kept_with}
-use Rattle.rwaits.specs.Lines.{is_write_of}
+use Rattle.rstretch.specs.Kept.{may_wait, WaitApart, kept_of}
+use Rattle.rwaits.specs.Follow.{with_entry, kept_with}
+use Rattle.rwaits.specs.Due.{is_write_of_these}
 use Rattle.rcover.specs.Moments.{Moment}
 use Rattle.rcover.specs.Sections.{Sections}
-use Rattle.rwaits.proofs.lists.Kept.{pairs_before, pairs_after}
-use Rattle.rwaits.proofs.told.Grants.{one_write}
+use Rattle.rheads.proofs.Pairs.{pairs_before, pairs_after}
+use Rattle.rheads.proofs.told.Taken.{one_write}
 
 module _ (m n : Moment) (table : ℕ → Sections) (x : Claimed) where
   abbrev made_of : Sections
@@ -101,7 +102,7 @@ comes_once s left rises = none_at s left (λ j h. AllPairs-from_increasing (s �
 
 -- a claim is the write of one of these seats, and its seat is not among those that are left
 abbrev pub is_over : Set → List ℕ → Claimed → Bool
-is_over looked left x = is_write_of looked x && not (list_any (λ l. l == x.claim.seat) left)
+is_over looked left x = is_write_of_these looked x && not (list_any (λ l. l == x.claim.seat) left)
 
 -- the writes that are over have what is due, and what was kept of others is there still
 abbrev pub Visited : Moment → Moment → Set → (ℕ → Sections) → (ℕ → Sections) → List ℕ → List Claimed → Type 0
@@ -114,16 +115,16 @@ visited_none m n looked table left all (x ∷ xs) = ((λ on. ap (λ b. cond b (k
   where
     still : is_over looked left x ≡ false
     still =
-        both_cases (is_write_of looked x)
+        both_cases (is_write_of_these looked x)
         (λ on. ap (λ b. b && not (list_any (λ l. l == x.claim.seat) left)) on ∙ ap not (all x.claim.seat (and_parts x.claim.write_half (contains looked x.claim.seat) on).1))
         (λ off. ap (λ b. b && not (list_any (λ l. l == x.claim.seat) left)) off)
 
 -- where none is left, all have what is due, as nothing is due of any other claim
-pub visited_all : (m n : Moment) (looked : Set) (old table : ℕ → Sections) (xs : List Claimed) → AllByRecursion (λ x. is_write_of looked x ≡ false → may_wait n x ≡ true → (a : Sections) → kept_of m n a x ≡ a) xs → Visited m n looked old table [] xs → Done m n old table xs
+pub visited_all : (m n : Moment) (looked : Set) (old table : ℕ → Sections) (xs : List Claimed) → AllByRecursion (λ x. is_write_of_these looked x ≡ false → may_wait n x ≡ true → (a : Sections) → kept_of m n a x ≡ a) xs → Visited m n looked old table [] xs → Done m n old table xs
 visited_all m n looked old table [] undue visited = tt
 visited_all m n looked old table (x ∷ xs) undue visited = (
   (λ on.
-      both_cases (is_write_of looked x)
+      both_cases (is_write_of_these looked x)
       (λ due. visited.0 on ∙ ap (λ b. cond (b && true) (kept_of m n (old x.claim.seat) x) (old x.claim.seat)) due)
       (λ off. visited.0 on ∙ ap (λ b. cond (b && true) (kept_of m n (old x.claim.seat) x) (old x.claim.seat)) off ∙ sym (undue.0 off on (old x.claim.seat)))),
   visited_all m n looked old table xs undue.1 visited.1,
@@ -135,7 +136,7 @@ module _ (m n : Moment) (looked : Set) (old table : ℕ → Sections) (left : Li
   pub first_kept : may_wait n x ≡ true → table x.claim.seat ≡ old x.claim.seat
   first_kept on =
       all_at (λ y. may_wait n y ≡ true → table y.claim.seat ≡ cond (is_over looked (x.claim.seat ∷ left) y) (kept_of m n (old y.claim.seat) y) (old y.claim.seat)) n x visited there on
-      ∙ ap (λ b. cond b (kept_of m n (old x.claim.seat) x) (old x.claim.seat)) (off (is_write_of looked x) (x.claim.seat == x.claim.seat) (list_any (λ l. l == x.claim.seat) left) (eq-eqb x.claim.seat x.claim.seat refl))
+      ∙ ap (λ b. cond b (kept_of m n (old x.claim.seat) x) (old x.claim.seat)) (off (is_write_of_these looked x) (x.claim.seat == x.claim.seat) (list_any (λ l. l == x.claim.seat) left) (eq-eqb x.claim.seat x.claim.seat refl))
     where
       off : (a b d : Bool) → b ≡ true → (a && not (b || d)) ≡ false
       off true b d on = ap (λ e. not (e || d)) on
@@ -174,7 +175,7 @@ module _ (m n : Moment) (looked : Set) (old table : ℕ → Sections) (left : Li
       of_other : (y : Claimed) → Among y n → (x.claim.seat == y.claim.seat) ≡ false → may_wait n y ≡ true → table' y.claim.seat ≡ cond (is_over looked left y) (kept_of m n (old y.claim.seat) y) (old y.claim.seat)
       of_other y in_n off on =
           other m n old table table' x is y.claim.seat (λ _ same. contrary (x.claim.seat == y.claim.seat) (eq-eqb x.claim.seat y.claim.seat (sym same)) off) ∙ was y in_n on
-          ∙ ap (λ b. cond (is_write_of looked y && not (b || list_any (λ l. l == y.claim.seat) left)) (kept_of m n (old y.claim.seat) y) (old y.claim.seat)) off
+          ∙ ap (λ b. cond (is_write_of_these looked y && not (b || list_any (λ l. l == y.claim.seat) left)) (kept_of m n (old y.claim.seat) y) (old y.claim.seat)) off
 
       here : (y : Claimed) → Among y n → may_wait n y ≡ true → table' y.claim.seat ≡ cond (is_over looked left y) (kept_of m n (old y.claim.seat) y) (old y.claim.seat)
       here y in_n on =

@@ -17,15 +17,17 @@ use Rattle.rcover.specs.Line.{least_of}
 use Rattle.rcover.specs.Moments.{Moment, holds_at}
 use Rattle.rcover.specs.Sections.{Sections}
 use Rattle.rcover.specs.Told.{waits_first, waits_to_rise}
-use Rattle.rwaits.specs.declared.lines.Head.{Head}
-use Rattle.rwaits.specs.Follow.{may_wait, kept_of}
-use Rattle.rwaits.specs.Lines.{head_of, HeadsTell, ReadStays, is_looked_at, is_write_of, is_due}
-use Rattle.rwaits.specs.Past.{rises_at, StoodBy}
-use Rattle.rwaits.specs.Shown.{write_closed, closed_by}
-use Rattle.rwaits.proofs.told.Closed.{same_closed}
-use Rattle.rwaits.specs.Tracked.{no_sections, keeper_at, read_closed_if, gone_on, kept_by}
+use Rattle.rheads.specs.declared.lines.Head.{Head}
+use Rattle.rstretch.specs.Kept.{may_wait, kept_of}
+use Rattle.rheads.specs.Lines.{head_of, HeadsTell}
+use Rattle.rwaits.specs.Due.{ReadStays, is_looked_at, is_write_of_these, is_due}
+use Rattle.rstretch.specs.Begun.{rises_at}
+use Rattle.rwaits.specs.Past.{StoodBy}
+use Rattle.rstretch.specs.Shown.{write_closed}
+use Rattle.rstretch.proofs.over.Closed.{same_closed, write_gone_on}
+use Rattle.rstretch.specs.Tracked.{no_sections, keeper_at, read_closed_if, gone_on, kept_by}
 use Rattle.rwaits.specs.Waiting.{some_wait}
-use Rattle.rwaits.proofs.lists.Kept.{read_not_closed}
+use Rattle.rstretch.proofs.Kept.{read_not_closed}
 
 first_off : (a b : Bool) → (a || b) ≡ false → a ≡ false
 first_off true b h = h
@@ -52,13 +54,9 @@ kept_by_event e m n x stood a on =
     turned false = refl
 
 module _ (m n : Moment) (c : Claim) (a : Sections) where
-  -- what goes on of a write is what is over by its heads
-  pub write_gone_on : c.write_half ≡ true → gone_on c a m n ≡ closed_by (head_of m c) a m (head_of n c)
-  write_gone_on write = ap (λ b. cond b (closed_by (head_of m c) a m (head_of n c)) (read_closed_if (keeper_at c m) a m n)) write
-
   -- of a write whose head is the same
   write_undue : c.write_half ≡ true → head_of n c ≡ head_of m c → gone_on c a m n ≡ a
-  write_undue write same = write_gone_on write ∙ same_closed (head_of m c) (head_of n c) a m same
+  write_undue write same = write_gone_on m n c a write ∙ same_closed (head_of m c) (head_of n c) a m same
 
   -- of a read, where the write that keeps it waiting does not become satisfied
   read_undue : c.write_half ≡ false → ((v : Claim) → keeper_at c m ≡ Some v → holds_at v m ≡ false → holds_at v n ≡ false) → gone_on c a m n ≡ a
@@ -146,7 +144,7 @@ rises_same (event.Rise t) on other = refl
 rises_same (event.Ask t part) on other = contrary false on refl
 
 -- without a rise no claim is due but the writes that are looked at, and the reads that read some of what came to be held
-pub calm_due : (e : Event) (looked written : Set) → rises_at e (seat_of e) ≡ false → (x : Claimed) → (x.claim.write_half ≡ false → meets x.claim.reads written ≡ false) → is_write_of looked x ≡ false → is_due e looked written x ≡ false
+pub calm_due : (e : Event) (looked written : Set) → rises_at e (seat_of e) ≡ false → (x : Claimed) → (x.claim.write_half ≡ false → meets x.claim.reads written ≡ false) → is_write_of_these looked x ≡ false → is_due e looked written x ≡ false
 calm_due e looked written calm x unmet off =
     both_cases x.claim.write_half
     (λ write.

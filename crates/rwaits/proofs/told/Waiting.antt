@@ -36,11 +36,13 @@ use Rattle.rcover.specs.Moments.{Moment, is_claim}
 use Rattle.rcover.specs.Sections.{Sections}
 use Rattle.rcover.specs.Told.{waits_first, waits_to_rise, stands}
 use Rattle.rcover.proofs.told.Few.{waits_told}
-use Rattle.rwaits.specs.Follow.{may_wait, kept_of, with_entry}
-use Rattle.rwaits.specs.Past.{is_issue, rises_at}
-use Rattle.rwaits.specs.Tracked.{gone_on, no_sections, told, told_if}
+use Rattle.rstretch.specs.Kept.{may_wait, kept_of}
+use Rattle.rwaits.specs.Follow.{with_entry}
+use Rattle.rwaits.specs.Past.{is_issue}
+use Rattle.rstretch.specs.Begun.{rises_at}
+use Rattle.rstretch.specs.Tracked.{gone_on, no_sections, told, told_if}
 use Rattle.rwaits.specs.Waiting.{some_wait, HoldWaiting, with_seat, first_of, ends_none}
-use Rattle.rwaits.proofs.told.Quiet.{begun_kept, begun_told, old_waits, there_before}
+use Rattle.rwaits.proofs.ending.Quiet.{begun_kept, begun_told, old_waits, there_before}
 use Rattle.rwaits.proofs.told.Stood.{before, first_was, rise_was}
 
 or_left : (a b : Bool) → a ≡ true → (a || b) ≡ true

@@ -4,8 +4,9 @@ use Rattle.std.specs.FinSet.{contains, len}
 use Rattle.rset.specs.Sets.{meets}
 use Rattle.rmodel.proofs.ListFacts.{all_at, all_from}
 use Rattle.rcover.specs.Sections.{Sections}
-use Rattle.rwaits.specs.Follow.{may_wait, kept_of}
-use Rattle.rwaits.specs.Lines.{HeadsTell, ReadStays, set_at, is_write_of, is_due}
+use Rattle.rstretch.specs.Kept.{may_wait, kept_of}
+use Rattle.rheads.specs.Lines.{HeadsTell, set_at}
+use Rattle.rwaits.specs.Due.{ReadStays, is_write_of_these, is_due}
 use Rattle.rwaits.specs.Past.{StoodBy}
 use Rattle.rwaits.specs.Waiting.{some_wait}
 use Rattle.rwaits.proofs.told.Undue.{calm_due, looked_changed, undue_kept}
@@ -33,7 +34,7 @@ keep_writes-requires-clause-undue c =
     let looked = c.looked_at-looked.result in
     let hs = c.args.heads.now in
     let lost = c.args.lost.now in
-    all_from (λ x. is_write_of looked x ≡ false → may_wait n x ≡ true → (a : Sections) → kept_of m n a x ≡ a) n
+    all_from (λ x. is_write_of_these looked x ≡ false → may_wait n x ≡ true → (a : Sections) → kept_of m n a x ≡ a) n
     (λ x there off on a.
     undue_kept e c.args.waiting c.args.moved c.args.risen looked c.args.written m n x hs lost (all_at (HeadsTell hs lost c.args.moved c.args.risen m n) n x c.requires.heads there) c.looked_at-looked.ensures
     (all_at (λ y. some_wait n y ≡ true → contains c.args.waiting y.claim.seat ≡ true) n x c.requires.waiting there)

@@ -1,7 +1,8 @@
 use Rattle.std.proofs.Common.{◌≡◌, true, sym, subst, ◌∙◌}
 use Rattle.rset.specs.declared.TheConstants.{SEATS}
 use Rattle.rcover.specs.Lists.{AreAtMost}
-use Rattle.rwaits.specs.Follow.{table_of, may_wait}
+use Rattle.rwaits.specs.Follow.{table_of}
+use Rattle.rstretch.specs.Kept.{may_wait}
 use Rattle.rwaits.proofs.told.Tables.{none_kept, some_kept}
 use Rattle.rwaits.proofs.told.Undue.{kept_by_event}
 use Rattle.rwaits.proofs.follow.keep_due.Goals as goal

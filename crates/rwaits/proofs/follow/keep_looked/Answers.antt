@@ -5,8 +5,9 @@ use Rattle.rmodel.specs.WellFormed.{EachPair}
 use Rattle.rmodel.proofs.ListFacts.{all_from}
 use Rattle.rcover.specs.Moments.{Moment}
 use Rattle.rcover.specs.Sections.{Sections}
-use Rattle.rwaits.specs.Follow.{table_of, length_by, WaitApart, may_wait, kept_with}
-use Rattle.rwaits.proofs.lists.Kept.{drop_more, all_get}
+use Rattle.rwaits.specs.Follow.{table_of, kept_with}
+use Rattle.rstretch.specs.Kept.{length_by, WaitApart, may_wait}
+use Rattle.rheads.proofs.Pairs.{drop_more, all_get}
 use Rattle.rwaits.proofs.told.Tables.{Done, Rest, kept_step}
 use Rattle.rwaits.proofs.follow.keep_looked.Goals as goal
 

@@ -1,7 +1,8 @@
 use Rattle.std.proofs.Common.{◌≡◌, ℕ, true, length, take, drop}
 use Rattle.std.specs.List.{AllByRecursion}
 use Rattle.rclaim.specs.declared.claim.Claim.{Claim}
-use Rattle.rwaits.specs.Follow.{table_of, length_by, HasRoom, IsTaken, AreLong, AreOf, may_wait, kept_of}
+use Rattle.rwaits.specs.Follow.{table_of}
+use Rattle.rstretch.specs.Kept.{length_by, HasRoom, IsTaken, AreLong, AreOf, may_wait, kept_of}
 use Rattle.rwaits.proofs.follow.keep_looked.Given as goal
 
 abbrev pub invariant-loop-x : goal.invariant-loop-x

@@ -1,5 +1,5 @@
-use Rattle.rwaits.specs.Follow.{AreLong}
-use Rattle.rwaits.proofs.lists.Kept.{all_set, all_get}
+use Rattle.rstretch.specs.Kept.{AreLong}
+use Rattle.rheads.proofs.Pairs.{all_set, all_get}
 use Rattle.rwaits.proofs.follow.keep_wait.Goals as goal
 
 pub returns-clause-lengths : goal.returns-clause-lengths

@@ -11,8 +11,10 @@ use Rattle.rmodel.proofs.ListFacts.{all_at, all_from, contrary, false_from}
 use Rattle.rcover.specs.Lists.{AreAtMost}
 use Rattle.rcover.specs.Sections.{Sections}
 use Rattle.rcover.specs.Told.{waits_to_rise}
-use Rattle.rwaits.specs.Follow.{table_of, length_by, may_wait, kept_of}
-use Rattle.rwaits.specs.Lines.{HeadsTell, is_write_of}
+use Rattle.rwaits.specs.Follow.{table_of}
+use Rattle.rstretch.specs.Kept.{length_by, may_wait, kept_of}
+use Rattle.rheads.specs.Lines.{HeadsTell}
+use Rattle.rwaits.specs.Due.{is_write_of_these}
 use Rattle.rwaits.specs.Past.{StoodBy}
 use Rattle.rwaits.specs.Waiting.{is_rising}
 use Rattle.rwaits.proofs.told.Tables.{Visited, comes_once, first_kept, visited_all, visited_none, visited_push}
@@ -127,5 +129,5 @@ returns-then-is_empty-clause-kept c =
     let none = c.is_empty.ensures.0 c.if-is_empty.true in
     all_from (λ x. may_wait n x ≡ true → table x.claim.seat ≡ kept_of m n (table x.claim.seat) x) n
     (λ x there on.
-    let off = false_from (is_write_of looked x) (λ h. contrary (contains looked x.claim.seat) (and_parts x.claim.write_half (contains looked x.claim.seat) h).1 (ap (λ s. contains s x.claim.seat) none ∙ contains_empty x.claim.seat)) in
-    sym (all_at (λ y. is_write_of looked y ≡ false → may_wait n y ≡ true → (a : Sections) → kept_of m n a y ≡ a) n x c.requires.undue there off on (table x.claim.seat)))
+    let off = false_from (is_write_of_these looked x) (λ h. contrary (contains looked x.claim.seat) (and_parts x.claim.write_half (contains looked x.claim.seat) h).1 (ap (λ s. contains s x.claim.seat) none ∙ contains_empty x.claim.seat)) in
+    sym (all_at (λ y. is_write_of_these looked y ≡ false → may_wait n y ≡ true → (a : Sections) → kept_of m n a y ≡ a) n x c.requires.undue there off on (table x.claim.seat)))

@@ -3,7 +3,8 @@ use Rattle.std.specs.List.{AllByRecursion, list_any}
 use Rattle.std.specs.FinSet.{contains}
 use Rattle.rset.specs.Sets.{rising}
 use Rattle.rclaim.specs.declared.claim.Claim.{Claim}
-use Rattle.rwaits.specs.Follow.{table_of, length_by, HasRoom, IsTaken, AreLong, AreOf}
+use Rattle.rwaits.specs.Follow.{table_of}
+use Rattle.rstretch.specs.Kept.{length_by, HasRoom, IsTaken, AreLong, AreOf}
 use Rattle.rwaits.proofs.told.Tables.{Visited}
 use Rattle.rwaits.proofs.follow.keep_writes.Given as goal
 

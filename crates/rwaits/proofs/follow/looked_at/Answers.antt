@@ -3,7 +3,7 @@ use Rattle.std.specs.FinSet.{contains, insert, intersection, union}
 use Rattle.rclaim.specs.Events.{seat_of}
 use Rattle.rset.specs.Sets.{Set}
 use Rattle.rmodel.proofs.settling.Keeping.{not_false}
-use Rattle.rwaits.specs.Past.{rises_at}
+use Rattle.rstretch.specs.Begun.{rises_at}
 use Rattle.rwaits.proofs.told.Undue.{looked_else, looked_rising, rises_else, rises_same}
 use Rattle.rwaits.proofs.follow.looked_at.Goals as goal
 

@@ -2,7 +2,7 @@ use Rattle.std.proofs.Common.{◌≡◌, get_or, sym, ap, subst, ◌∙◌}
 use Rattle.std.proofs.lemmas.Option.{get_or_from_slice_get}
 use Rattle.rmodel.specs.declared.claimed.Claimed.{Claimed}
 use Rattle.rmodel.specs.WellFormed.{Among}
-use Rattle.rwaits.proofs.lists.Kept.{in_list}
+use Rattle.rstretch.proofs.Kept.{in_list}
 use Rattle.rwaits.proofs.follow.write_at.Goals as goal
 
 pub returns-clause-there : goal.returns-clause-there

@@ -5,7 +5,7 @@ use Rattle.rset.specs.Sets.{Set}
 use Rattle.rset.proofs.SetMembers.{contains_empty}
 use Rattle.rclaim.specs.declared.changes.GrantChange.{GrantChange}
 use Rattle.rwaits.specs.Quiet.{has_grant}
-use Rattle.rwaits.proofs.lists.Seats.{and_true, any_push, or_turned}
+use Rattle.rheads.proofs.Seats.{and_true, any_push, or_turned}
 use Rattle.rwaits.proofs.noted.seats_granted.Goals as goal
 
 pub loop-g-init : goal.loop-g-init

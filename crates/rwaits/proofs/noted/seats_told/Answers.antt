@@ -6,8 +6,8 @@ use Rattle.rset.proofs.SetMembers.{contains_empty}
 use Rattle.rclaim.specs.declared.changes.StatusChange.{StatusChange}
 use Rattle.rclaim.specs.declared.claim.Status.TheVariants.{Waiting}
 use Rattle.rmodel.specs.Claims.{satisfied_by}
-use Rattle.rwaits.specs.Quiet.{tells_write_of}
-use Rattle.rwaits.proofs.lists.Seats.{any_push, or_turned}
+use Rattle.rheads.specs.Lines.{tells_write_of}
+use Rattle.rheads.proofs.Seats.{any_push, or_turned}
 use Rattle.rwaits.proofs.noted.seats_told.Goals as goal
 
 pub loop-s-init : goal.loop-s-init

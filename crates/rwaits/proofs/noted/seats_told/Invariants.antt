@@ -1,7 +1,7 @@
 use Rattle.std.proofs.Common.{◌≡◌, ◌<◌, ℕ, take}
 use Rattle.std.specs.FinSet.{contains}
 use Rattle.rset.specs.declared.TheConstants.{SEATS}
-use Rattle.rwaits.specs.Quiet.{tells_write_of}
+use Rattle.rheads.specs.Lines.{tells_write_of}
 use Rattle.rwaits.proofs.noted.seats_told.Given as goal
 
 abbrev pub invariant-loop-s : goal.invariant-loop-s

@@ -2,7 +2,7 @@ use Rattle.std.proofs.Common.{◌==◌, ◌&&◌, ◌||◌, sym, ap, ◌∙◌}
 use Rattle.std.specs.FinSet.{contains}
 use Rattle.rset.specs.Sets.{Set}
 use Rattle.rset.proofs.SetMembers.{contains_insert}
-use Rattle.rwaits.proofs.lists.Seats.{and_true, eq_turned}
+use Rattle.rheads.proofs.Seats.{and_true, eq_turned}
 use Rattle.rwaits.proofs.noted.with_seat_if.Goals as goal
 
 pub returns-then-seat-lt-SEATS : goal.returns-then-seat-lt-SEATS

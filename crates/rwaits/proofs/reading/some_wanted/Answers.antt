@@ -7,7 +7,7 @@ use Rattle.rset.proofs.SetsMeet.{meets_empty_right}
 use Rattle.rset.proofs.SetsRising.{rising_has}
 use Rattle.rmodel.proofs.ListFacts.{contrary}
 use Rattle.rmodel.proofs.settling.OneSettlement.{both_cases}
-use Rattle.rwaits.specs.Lines.{set_at}
+use Rattle.rheads.specs.Lines.{set_at}
 use Rattle.rwaits.proofs.reading.some_wanted.Goals as goal
 
 pub returns-then-is_empty : goal.returns-then-is_empty

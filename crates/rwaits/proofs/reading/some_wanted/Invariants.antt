@@ -2,7 +2,7 @@ use Rattle.std.proofs.Common.{◌≡◌, ◌==◌, ℕ, true, false}
 use Rattle.std.specs.List.{list_any}
 use Rattle.std.specs.FinSet.{contains}
 use Rattle.rset.specs.Sets.{meets, rising}
-use Rattle.rwaits.specs.Lines.{set_at}
+use Rattle.rheads.specs.Lines.{set_at}
 use Rattle.rwaits.proofs.reading.some_wanted.Given as goal
 
 abbrev pub invariant-loop-seat : goal.invariant-loop-seat

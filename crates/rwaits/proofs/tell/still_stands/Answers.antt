@@ -2,7 +2,7 @@ use Rattle.std.proofs.Common.{false, ap, ◌∙◌}
 use Rattle.std.specs.Option.{unwrap_or}
 use Rattle.rmodel.specs.declared.claimed.Claimed.{Claimed}
 use Rattle.rcover.specs.Ended.{waits_in}
-use Rattle.rwaits.proofs.told.Stands.{stands_first}
+use Rattle.rwaits.proofs.ending.Stands.{stands_first}
 use Rattle.rwaits.proofs.tell.still_stands.Goals as goal
 
 pub returns : goal.returns

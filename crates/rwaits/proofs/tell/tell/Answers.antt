@@ -19,18 +19,19 @@ use Rattle.rcover.specs.History.{asks_since, length_in}
 use Rattle.rcover.specs.Told.{waits_for_ask, stands}
 use Rattle.rset.specs.declared.TheConstants.{SEATS}
 use Rattle.rcover.proofs.lists.Pushed.{found_more}
-use Rattle.rwaits.specs.Follow.{kept_in, kept_if, table_of, length_by, HasRoom, AreLong}
+use Rattle.rstretch.specs.Kept.{kept_in, length_by, HasRoom, AreLong}
+use Rattle.rwaits.specs.Follow.{kept_if, table_of}
 use Rattle.rwaits.specs.Quiet.{has_grant, GoesOn}
-use Rattle.rwaits.specs.Tracked.{shown, told_of, told_if}
+use Rattle.rstretch.specs.Tracked.{shown, told_of, told_if}
 use Rattle.rwaits.specs.Waiting.{some_wait, HoldWaiting, HoldAsking}
-use Rattle.rwaits.proofs.lists.Behind.{here_from, within}
-use Rattle.rwaits.proofs.told.Looked.{unlooked, none_of, rest_less, rest_none, rest_same}
-use Rattle.rwaits.specs.declared.run.Run.{Run}
-use Rattle.rwaits.specs.declared.lines.Head.{Head}
-use Rattle.rwaits.specs.Lines.{head_of}
+use Rattle.rwaits.proofs.ending.Behind.{here_from, within}
+use Rattle.rwaits.proofs.ending.Looked.{unlooked, none_of, rest_less, rest_none, rest_same}
+use Rattle.rstretch.specs.declared.run.Run.{Run}
+use Rattle.rheads.specs.declared.lines.Head.{Head}
+use Rattle.rheads.specs.Lines.{head_of}
 use Rattle.rcover.specs.declared.wait_end.WaitEnd.{WaitEnd}
 use Rattle.rcover.specs.Lists.{AreAtMost}
-use Rattle.rwaits.proofs.lists.Kept.{all_get}
+use Rattle.rheads.proofs.Pairs.{all_get}
 use Rattle.rwaits.proofs.tell.tell.Goals as goal
 use Rattle.rwaits.proofs.tell.tell.Goals.{then-has, else-has}
 

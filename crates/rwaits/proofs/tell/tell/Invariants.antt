@@ -4,9 +4,10 @@ use Rattle.std.specs.Prelude.{vec_capacity, slice_index}
 use Rattle.rclaim.specs.declared.event.Event.{Event}
 use Rattle.rcover.specs.Ended.{wait_of}
 use Rattle.rcover.specs.History.{asks_since, length_in}
-use Rattle.rwaits.specs.Follow.{table_of, length_by, HasRoom, AreLong, AreOf}
-use Rattle.rwaits.specs.Tracked.{told_if}
-use Rattle.rwaits.proofs.told.Looked.{RestGoesOn}
+use Rattle.rwaits.specs.Follow.{table_of}
+use Rattle.rstretch.specs.Kept.{length_by, HasRoom, AreLong, AreOf}
+use Rattle.rstretch.specs.Tracked.{told_if}
+use Rattle.rwaits.proofs.ending.Looked.{RestGoesOn}
 use Rattle.rwaits.proofs.tell.tell.Given as goal
 
 abbrev pub invariant-loop-x : goal.invariant-loop-x

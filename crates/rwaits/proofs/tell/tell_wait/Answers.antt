@@ -3,8 +3,8 @@ use Rattle.std.specs.Option.{IfSome, option_to_list}
 use Rattle.rcover.specs.Ended.{waits_in, wait_end}
 use Rattle.rcover.specs.History.{length_in}
 use Rattle.rcover.specs.Within.{numbers_of}
-use Rattle.rwaits.specs.Follow.{kept_in}
-use Rattle.rwaits.specs.Tracked.{shown, told_of}
+use Rattle.rstretch.specs.Kept.{kept_in}
+use Rattle.rstretch.specs.Tracked.{shown, told_of}
 use Rattle.rwaits.proofs.tell.tell_wait.Goals as goal
 
 pub show-requires-clause-few : goal.show-requires-clause-few

@@ -4,7 +4,7 @@ use Rattle.std.specs.FinSet.{contains}
 use Rattle.rbound.specs.declared.which.Which.TheVariants.{First}
 use Rattle.rcover.specs.declared.wait_end.WaitEnd.{WaitEnd}
 use Rattle.rwaits.specs.Waiting.{has_end}
-use Rattle.rwaits.proofs.lists.Seats.{any_push}
+use Rattle.rheads.proofs.Seats.{any_push}
 use Rattle.rwaits.proofs.waiting.note_ended.Goals as goal
 
 pub loop-end-init : goal.loop-end-init

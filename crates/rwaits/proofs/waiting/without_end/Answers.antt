@@ -2,7 +2,7 @@ use Rattle.std.proofs.Common.{◌&&◌, not, ap, ◌∙◌}
 use Rattle.std.specs.FinSet.{contains}
 use Rattle.rset.specs.Sets.{Set}
 use Rattle.rset.proofs.SetMembers.{contains_remove}
-use Rattle.rwaits.proofs.lists.Seats.{eq_turned}
+use Rattle.rheads.proofs.Seats.{eq_turned}
 use Rattle.rwaits.proofs.waiting.without_end.Goals as goal
 
 pub returns-then-end-lt-SEATS : goal.returns-then-end-lt-SEATS

@@ -14,25 +14,26 @@ use Rattle.std.specs.Vec.{with_items}
 use Rattle.std.specs.declared.vec.Vec.{Vec}
 use Rattle.std.specs.declared.alloc.Global.{Global}
 use Rattle.rwaits.specs.declared.following.Following.{Following}
-use Rattle.rwaits.specs.declared.run.Run.{Run}
-use Rattle.rwaits.specs.Follow.{table_of, length_by, HasRoom, AreLong, AreOf, may_wait, WaitApart, kept_of}
-use Rattle.rwaits.specs.declared.lines.Head.{Head}
+use Rattle.rstretch.specs.declared.run.Run.{Run}
+use Rattle.rwaits.specs.Follow.{table_of}
+use Rattle.rstretch.specs.Kept.{length_by, HasRoom, AreLong, AreOf, may_wait, WaitApart, kept_of}
+use Rattle.rheads.specs.declared.lines.Head.{Head}
 use Rattle.rclaim.specs.declared.changes.StatusChange.{StatusChange}
-use Rattle.rwaits.proofs.told.Turns.{touched_all}
-use Rattle.rwaits.specs.Lines.{HoldBehind, IsTouched, TellHeads, HeadsTell, ArePlaced}
-use Rattle.rwaits.specs.declared.shares.Share.{Share}
-use Rattle.rwaits.specs.Shares.{AreLeft, TellWrites}
+use Rattle.rheads.proofs.told.Turns.{touched_all}
+use Rattle.rheads.specs.Lines.{HoldBehind, IsTouched, TellHeads, HeadsTell, ArePlaced}
+use Rattle.rheads.specs.declared.shares.Share.{Share}
+use Rattle.rheads.specs.Shares.{AreLeft, TellWrites}
 use Rattle.rclaim.specs.Changes.{ChangeLists}
 use Rattle.rclaim.specs.declared.changes.GrantChange.{GrantChange}
 use Rattle.rmodel.specs.Changes.{changes_between}
 use Rattle.rwaits.specs.Past.{state_of, StoodBy}
 use Rattle.rwaits.specs.Quiet.{GoesOn, OneWaits}
-use Rattle.rwaits.proofs.told.Looked.{one_waits}
-use Rattle.rwaits.specs.Tracked.{shown}
+use Rattle.rwaits.proofs.ending.Looked.{one_waits}
+use Rattle.rstretch.specs.Tracked.{shown}
 use Rattle.rwaits.proofs.told.Knowing.{all_written, reached, claims_few, seats_now, shown_few, event_seat, seats_next, apart_next, few_next, lengths_stay_on, lengths_come, refilled, is_moment_now, is_moment_next, known, rising_now, seats_next_at, rising_next, behind_turn, heads_turn, reads_next, stood_next, quiet_now, ends_next, waits_next, writes_turn}
 use Rattle.rwaits.proofs.told.Noted.{asks_at_most}
 use Rattle.rset.specs.Sets.{Set}
-use Rattle.rwaits.specs.Heads.{IsMoment, TellsNow, TellsWrites}
+use Rattle.rheads.specs.Heads.{IsMoment, TellsNow, TellsWrites}
 use Rattle.rwaits.specs.Waiting.{HoldAsking, HoldWaiting, TellRising, first_of, HoldReading, TellWanted}
 use Rattle.rwaits.proofs.told.Asking.{asking_next}
 use Rattle.rwaits.proofs.told.Reading.{reading_next, wanted_next, wanted_still}

@@ -8,14 +8,15 @@ use Rattle.rmodel.specs.Steps.{next}
 use Rattle.rcover.specs.History.{length_in}
 use Rattle.rcover.specs.Moments.{Moment}
 use Rattle.rwaits.specs.declared.following.Following.{Following}
-use Rattle.rwaits.specs.declared.run.Run.{Run}
-use Rattle.rwaits.specs.Follow.{table_of, HasRoom, AreLong, with_entry}
+use Rattle.rstretch.specs.declared.run.Run.{Run}
+use Rattle.rwaits.specs.Follow.{table_of, with_entry}
+use Rattle.rstretch.specs.Kept.{HasRoom, AreLong}
 use Rattle.rwaits.specs.Past.{state_of}
-use Rattle.rwaits.specs.Heads.{IsMoment, TellsNow, TellsWrites}
+use Rattle.rheads.specs.Heads.{IsMoment, TellsNow, TellsWrites}
 use Rattle.rwaits.specs.Waiting.{HoldAsking, HoldWaiting, TellRising, with_seat, first_of, HoldReading}
-use Rattle.rwaits.proofs.told.Quiet.{there_before}
+use Rattle.rwaits.proofs.ending.Quiet.{there_before}
 use Rattle.rset.specs.Sets.{Set}
-use Rattle.rwaits.specs.Tracked.{no_sections}
+use Rattle.rstretch.specs.Tracked.{no_sections}
 use Rattle.rwaits.proofs.told.Knowing.{reached, event_seat, is_moment_next, refilled, known}
 use Rattle.rwaits.proofs.told.Noted.{asks_at_most}
 use Rattle.rwaits.proofs.told.Asking.{asking_next}

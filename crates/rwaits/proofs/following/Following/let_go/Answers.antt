@@ -1,9 +1,10 @@
 use Rattle.std.proofs.Common.{◌∷◌, refl, sym, ◌∙◌}
 use Rattle.rmodel.specs.Steps.{next}
 use Rattle.rwaits.specs.declared.following.Following.{Following}
-use Rattle.rwaits.specs.Follow.{table_of, length_by, with_entry}
+use Rattle.rwaits.specs.Follow.{table_of, with_entry}
+use Rattle.rstretch.specs.Kept.{length_by}
 use Rattle.rwaits.specs.Past.{state_of}
-use Rattle.rwaits.specs.Tracked.{no_sections}
+use Rattle.rstretch.specs.Tracked.{no_sections}
 use Rattle.std.specs.Prelude.{slice_index}
 use Rattle.rclaim.specs.Events.{seat_of}
 use Rattle.rwaits.proofs.told.Knowing.{reached, known}

@@ -1,0 +1,30 @@
+-- The least claims of lines, kept from event to event.
+use Rattle.std.specs.Prelude.{◌≡◌, ◌≤◌, ◌<◌, ◌*◌, true, length}
+use Rattle.std.specs.List.{AllByRecursion}
+use Rattle.rset.specs.declared.TheConstants.{SEATS}
+use Rattle.rmodel.specs.WellFormed.{EachPair, Rises, Distinct}
+use Rattle.rcover.specs.Moments.{Moment}
+use Rattle.rheads.specs.declared.heads.Heads.{Heads}
+use Rattle.rheads.specs.Lines.{IsTold}
+use Rattle.rheads.specs.Shares.{TellWrites}
+
+-- heads have a place for each seat
+pub record HasPlaces (h : Heads) : Type 0 where
+  pub now : length h.now.items ≡ SEATS
+  pub behind : length h.behind.items ≡ SEATS
+  pub shares : length h.shares ≡ SEATS
+
+-- if they are told, they are those of the claims at a moment
+abbrev pub TellsNow : Heads → Moment → Type 0
+TellsNow h m = h.told ≡ true → IsTold h.now.items h.behind.items m
+
+-- and so is which seats have a write, and what it takes
+abbrev pub TellsWrites : Heads → Moment → Type 0
+TellsWrites h m = h.told ≡ true → TellWrites h.writers h.shares m
+
+-- claims are such as those of a state
+pub record IsMoment (m : Moment) : Type 0 where
+  pub few : length m ≤ 2 * SEATS
+  pub seats : AllByRecursion (λ x. x.claim.seat < SEATS) m
+  pub rising : EachPair Rises m
+  pub one_each : EachPair Distinct m

@@ -1,0 +1,4 @@
+pub mod Found
+pub mod Heads
+pub mod Lines
+pub mod Shares

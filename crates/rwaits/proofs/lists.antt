@@ -1,4 +1,0 @@
--- What is kept, as lists.
-pub mod Kept
-pub mod Seats
-pub mod Behind
