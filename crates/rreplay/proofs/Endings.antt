@@ -90,9 +90,9 @@ told_none t reading s k ended named told none =
           (subst (λ (seats : ℕ). KnowsGathered t.gathered (begun (read_groups (head_in s)) seats (head_in s).cap) []) (ap (λ (ts : List (List ℕ)). length ts) k.tasks) (told (read_groups (head_in s)) (head_in s).cap));
     }
 
--- the history of what was read to its end was told whole
-pub told_whole : (text : List (Option ℕ)) (telling : Telling) (reading : Reading) (s : SoFar) → IsToldToEnd text telling reading s → IsToldWhole text telling.gathered (names_in s) (head_in s) (entries_in s)
-told_whole text telling reading s h = record { told = h.history; known = h.told.gathered }
+-- the history of what was read to its end was told whole, also when its text is given away
+pub told_whole : (text given : List (Option ℕ)) (telling : Telling) (reading : Reading) (s : SoFar) → given ≡ text → IsToldToEnd text telling reading s → IsToldWhole given telling.gathered (names_in s) (head_in s) (entries_in s)
+told_whole text given telling reading s same h = record { told = same ∙ h.history; known = h.told.gathered }
 
 -- its cap is that of the head, and at least 1
 pub cap_is : (reading : Reading) (s : SoFar) → Knows false reading s → cap_or reading.tasks reading.cap ≡ (head_in s).cap

@@ -119,12 +119,11 @@ impl Replaying {
         requires { (s : SoFar) × KnowsReplay self.old s × (is_ended s ≡ true) }
         ensures { IfOk result (λ made. (s : SoFar) → KnowsReplay self.old s → is_ended s ≡ true → made.head ++ (made.history ++ made.ending) ≡ report_text (told_in s)) }
     {
-        let text = mem::replace(&mut self.history, OpenText::new(self.alloc));
         match &self.telling {
-            Some(telling) => made_of(self.alloc, text, telling, &self.reading),
+            Some(telling) => made_of(self.alloc, &mut self.history, telling, &self.reading),
             None => {
                 let telling = telling_of(self.alloc, &self.reading)?;
-                made_of(self.alloc, text, &telling, &self.reading)
+                made_of(self.alloc, &mut self.history, &telling, &self.reading)
             }
         }
     }
@@ -211,19 +210,20 @@ fn push(
     telling.gathered.tell(event, ended)
 }
 
-// The report of what was read to its end and told whole.
+// The report of what was read to its end and told whole. The text is given away.
 fn made_of(
     alloc: Global,
-    text: OpenText,
+    text: &mut OpenText,
     telling: &Telling,
     reading: &Reading,
 ) -> Result<Replayed, AllocError>
-    requires { (s : SoFar) × IsToldToEnd text telling.now reading.now s }
-    ensures { IfOk result (λ made. (s : SoFar) → IsToldToEnd text telling.now reading.now s → made.head ++ (made.history ++ made.ending) ≡ report_text (told_in s)) }
+    requires { (s : SoFar) × IsToldToEnd text.old telling.now reading.now s }
+    ensures { IfOk result (λ made. (s : SoFar) → IsToldToEnd text.old telling.now reading.now s → made.head ++ (made.history ++ made.ending) ≡ report_text (told_in s)) }
 {
     let head = head_with(alloc, &telling.names, reading)?;
     let ending = ending_with(alloc, &telling.names, reading)?;
-    let history = history_with(alloc, text, &telling.gathered, reading)?;
+    let told = mem::replace(text, OpenText::new(alloc));
+    let history = history_with(alloc, told, &telling.gathered, reading)?;
     Ok(Replayed {
         head,
         history,

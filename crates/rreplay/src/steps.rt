@@ -25,11 +25,8 @@ impl Steps {
         requires { AreAccepted self.machine.state self.events.items }
         ensures { A.all audience.new ≡ map (told_all (steps_of self.machine.state self.events.items)) (A.all audience.old) }
     {
-        let Steps {
-            mut machine,
-            events,
-        } = self;
-        tell_each(&mut machine, &events, audience);
+        let mut steps = self;
+        tell_each(&mut steps.machine, &steps.events, audience);
     }
 }
 

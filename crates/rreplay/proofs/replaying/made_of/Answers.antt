@@ -12,7 +12,7 @@ history_with-requires c =
       names_in s,
       head_in s,
       entries_in s,
-      told_whole c.args.text c.args.telling.now reading s h,
+      told_whole c.args.text.now c.replace-told.result c.args.telling.now reading s c.replace-told.ensures.value h,
       groups_are false reading s h.knows h.ended,
       cap_is reading s h.knows,
       some_cap reading s h.knows h.ended,
@@ -24,5 +24,5 @@ returns c = λ s h.
     let there = groups_are false reading s h.knows h.ended in
     made_are reading s c.args.telling.now.names c.in_ok-head.head c.in_ok-history.history c.in_ok-ending.ending (read_groups (head_in s)) h.knows h.ended h.told.names there
     (c.in_ok-head.ensures _ there)
-    (c.in_ok-history.ensures (names_in s) (head_in s) (entries_in s) (told_whole c.args.text c.args.telling.now reading s h) there (cap_is reading s h.knows))
+    (c.in_ok-history.ensures (names_in s) (head_in s) (entries_in s) (told_whole c.args.text.now c.replace-told.result c.args.telling.now reading s c.replace-told.ensures.value h) there (cap_is reading s h.knows))
     c.in_ok-ending.ensures

@@ -1,4 +1,3 @@
-use Rattle.std.proofs.Common.{◌∙◌}
 use Rattle.rreplay.proofs.Endings.{if_ok_weaker, told_none}
 use Rattle.rreplay.proofs.replaying.Replaying.made.Goals as goal
 
@@ -10,7 +9,7 @@ made_of-requires-in-None c =
       record {
         knows = k.reading;
         ended = c.requires.2;
-        history = c.replace-text.ensures.value ∙ k.history;
+        history = k.history;
         told = told_none telling.telling c.args.self.now.reading c.requires.0 k.reading c.requires.2 telling.ensures.names telling.ensures.gathered (k.untold c.in-None.is);
       },
     )
@@ -23,7 +22,7 @@ returns-in_ok-telling-in-None c =
     parts s (record {
       knows = k.reading;
       ended = ended;
-      history = c.replace-text.ensures.value ∙ k.history;
+      history = k.history;
       told = told_none telling.telling c.args.self.now.reading s k.reading ended telling.ensures.names telling.ensures.gathered (k.untold c.in-None.is);
     }))
     c.made_of-in-None.ensures
