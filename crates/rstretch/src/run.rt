@@ -149,6 +149,8 @@ fn keep_section(writes: &mut Vec<Section>, section: &Section, next_least: &Claim
 
 /// Keeps what is over of the wait of a write whose head was the one that is lost: that claim itself, if it was satisfied, and else
 /// the read that was taken for it. `section` is its own.
+// Its values are many, and need not be handed over.
+#[inline(always)]
 fn close_lost(
     run: &mut Run,
     taken: &mut Taken,
@@ -179,6 +181,8 @@ fn close_lost(
 
 /// Keeps what is over of the wait of a write at the next moment: where it had the head that is lost, what that leaves, and where its
 /// least claim came to be satisfied, the read that was taken for it.
+// Its values are many, and need not be handed over.
+#[inline(always)]
 fn go_on_write(
     run: &mut Run,
     taken: &mut Taken,
@@ -283,6 +287,8 @@ fn close_read_of(
 }
 
 /// What a run keeps once the next moment comes: the wait of the claim goes on.
+// Its values are many, and need not be handed over.
+#[inline(always)]
 fn go_on(
     run: &mut Run,
     taken: &mut Taken,
@@ -331,6 +337,8 @@ pub fn clear(run: &mut Run)
 }
 
 /// Keeps of the wait of a claim what is due at the next moment: it begins, if its upgrade rises, and else it goes on.
+// Its values are many, and need not be handed over.
+#[inline(always)]
 pub fn keep_by(
     run: &mut Run,
     event: &Event,

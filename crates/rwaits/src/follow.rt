@@ -69,6 +69,8 @@ fn may_wait(rising: ResourceSet, x: &Claimed) -> bool
 }
 
 /// Keeps of the wait of a claim what is due at the next moment.
+// Its values are many, and need not be handed over.
+#[inline(always)]
 fn keep_wait(
     runs: &mut [Run],
     taken: &mut Taken,
@@ -116,6 +118,8 @@ fn keep_wait(
 }
 
 /// Keeps of the wait of a claim at the next moment what is due there, if it waits.
+// Its values are many, and need not be handed over.
+#[inline(always)]
 fn keep_due(
     runs: &mut [Run],
     taken: &mut Taken,

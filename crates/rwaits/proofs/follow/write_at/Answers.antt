@@ -1,30 +1,26 @@
-use Rattle.std.proofs.Common.{◌≡◌, get_or, sym, ap, subst, ◌∙◌}
+use Rattle.std.proofs.Common.{◌≡◌, ℕ, List, get_or, sym, ap, subst, ◌∙◌}
 use Rattle.std.proofs.lemmas.Option.{get_or_from_slice_get}
 use Rattle.rmodel.specs.declared.claimed.Claimed.{Claimed}
 use Rattle.rmodel.specs.WellFormed.{Among}
+use Rattle.rcover.specs.Moments.{Moment}
+use Rattle.rheads.specs.Lines.{StandsAt}
 use Rattle.rstretch.proofs.Kept.{in_list}
 use Rattle.rwaits.proofs.follow.write_at.Goals as goal
 
+-- what is read at the place that is noted is the write that stands there
+is_at : (places : List ℕ) (n : Moment) (seat from : ℕ) (x : Claimed) (s : StandsAt places n seat) → from ≡ seat → x ≡ get_or n (get_or places from 0) x → x ≡ s.at
+is_at places n seat from x s own is =
+    is ∙ ap (λ k. get_or n k x) (ap (λ k. get_or places k 0) own ∙ get_or_from_slice_get places seat s.place 0 s.noted) ∙ get_or_from_slice_get n s.place s.at x s.there
+
 pub returns-clause-there : goal.returns-clause-there
 returns-clause-there c =
-    let n = c.args.next.now in
-    let x = c.index-next-places.result in
-    let place = ap (λ k. get_or c.args.places.now k 0) c.from.ensures ∙ get_or_from_slice_get c.args.places.now c.args.seat c.requires.place 0 c.requires.noted in
-    let is : x ≡ c.requires.at = c.index-next-places.is ∙ ap (λ k. get_or n k x) place ∙ get_or_from_slice_get n c.requires.place c.requires.at x c.requires.there in
-    subst (λ (y : Claimed). Among y n) (sym is) (in_list n c.requires.place c.requires.at c.requires.there)
+    let is = is_at c.args.places.now c.args.next.now c.args.seat c.from.result c.index-next-places.result c.requires c.from.ensures c.index-next-places.is in
+    subst (λ (y : Claimed). Among y c.args.next.now) (sym is) (in_list c.args.next.now c.requires.place c.requires.at c.requires.there)
 
 pub returns-clause-write : goal.returns-clause-write
 returns-clause-write c =
-    let n = c.args.next.now in
-    let x = c.index-next-places.result in
-    let place = ap (λ k. get_or c.args.places.now k 0) c.from.ensures ∙ get_or_from_slice_get c.args.places.now c.args.seat c.requires.place 0 c.requires.noted in
-    let is : x ≡ c.requires.at = c.index-next-places.is ∙ ap (λ k. get_or n k x) place ∙ get_or_from_slice_get n c.requires.place c.requires.at x c.requires.there in
-    ap (λ (y : Claimed). y.claim.write_half) is ∙ c.requires.write
+    ap (λ (y : Claimed). y.claim.write_half) (is_at c.args.places.now c.args.next.now c.args.seat c.from.result c.index-next-places.result c.requires c.from.ensures c.index-next-places.is) ∙ c.requires.write
 
 pub returns-clause-own : goal.returns-clause-own
 returns-clause-own c =
-    let n = c.args.next.now in
-    let x = c.index-next-places.result in
-    let place = ap (λ k. get_or c.args.places.now k 0) c.from.ensures ∙ get_or_from_slice_get c.args.places.now c.args.seat c.requires.place 0 c.requires.noted in
-    let is : x ≡ c.requires.at = c.index-next-places.is ∙ ap (λ k. get_or n k x) place ∙ get_or_from_slice_get n c.requires.place c.requires.at x c.requires.there in
-    ap (λ (y : Claimed). y.claim.seat) is ∙ c.requires.own
+    ap (λ (y : Claimed). y.claim.seat) (is_at c.args.places.now c.args.next.now c.args.seat c.from.result c.index-next-places.result c.requires c.from.ensures c.index-next-places.is) ∙ c.requires.own

@@ -20,13 +20,14 @@ use Rattle.rstretch.specs.Kept.{length_by, HasRoom, AreLong, AreOf, may_wait, Wa
 use Rattle.rheads.specs.declared.lines.Head.{Head}
 use Rattle.rclaim.specs.declared.changes.StatusChange.{StatusChange}
 use Rattle.rheads.proofs.told.Turns.{touched_all}
-use Rattle.rheads.specs.Lines.{HoldBehind, IsTouched, TellHeads, HeadsTell, ArePlaced}
+use Rattle.rheads.specs.Lines.{ArePlaced, GoesBy, HoldBehind, IsTouched, TellAt, TellHeads, HeadsTell}
 use Rattle.rheads.specs.declared.shares.Share.{Share}
 use Rattle.rheads.specs.Shares.{AreLeft, TellWrites}
 use Rattle.rclaim.specs.Changes.{ChangeLists}
 use Rattle.rclaim.specs.declared.changes.GrantChange.{GrantChange}
 use Rattle.rmodel.specs.Changes.{changes_between}
-use Rattle.rwaits.specs.Past.{state_of, StoodBy}
+use Rattle.rwaits.specs.Past.{Past, state_of, StoodBy}
+use Rattle.rwaits.specs.Follows.{IsAhead}
 use Rattle.rwaits.specs.Quiet.{GoesOn, OneWaits}
 use Rattle.rwaits.proofs.ending.Looked.{one_waits}
 use Rattle.rstretch.specs.Tracked.{shown}
@@ -40,6 +41,7 @@ use Rattle.rwaits.proofs.told.Reading.{reading_next, wanted_next, wanted_still}
 use Rattle.rwaits.proofs.told.Rising.{risen_next}
 use Rattle.rwaits.proofs.told.Waiting.{none_before, plain_of}
 use Rattle.rwaits.proofs.following.Following.advance.Goals as goal
+use Rattle.rwaits.proofs.following.Following.advance.Goals.{After-turn}
 
 pub tell-requires-clause-seats : goal.tell-requires-clause-seats
 tell-requires-clause-seats c =
@@ -124,14 +126,13 @@ keep-requires-clause-head c =
     subst (λ (n : Moment). AllByRecursion (λ x. x.claim.seat < length c.deref-11.result.now) n) (sym at_n)
     (seats_next_at c.args.self.now p k e c.requires.ahead.1.comes (length c.deref-11.result.now) (ap (λ (l : List Head). length l) c.deref-11.ensures.value ∙ c.turn.ensures.room.now))
 
-pub keep-requires-clause-heads : goal.keep-requires-clause-heads
-keep-requires-clause-heads c =
+-- what the heads ask for as they are gone on with
+both_of : (c : After-turn) (p : Past) → IsAhead c.args.self.now c.args.machine.now p c.args.event.now → TellAt c.lose-gone.new.self.now.items (state_of p).claims c.claims-4.result.now
+    × AllByRecursion (GoesBy c.lose-gone.new.self.lost c.lose-gone.result c.seats_told-came.result c.touched_by-touched.result (state_of p).claims c.claims-4.result.now) c.claims-4.result.now
+both_of c p g =
     let a = c.args.self.now in
-    let p = c.requires.ahead.0 in
-    let g = c.requires.ahead.1 in
     let k = g.follows in
     let e = c.args.event.now in
-    let m = (state_of p).claims in
     let lost = c.lose-gone.new.self.lost in
     let statuses = c.deref-7.ensures.value ∙ ap (λ (l : ChangeLists). l.statuses) (c.behind-machine-2.view_is ∙ c.changes-2.ensures ∙ g.changes) in
     let statuses_2 = c.deref-9.ensures.value ∙ ap (λ (l : ChangeLists). l.statuses) (c.behind-machine-3.view_is ∙ c.changes-3.ensures ∙ g.changes) in
@@ -139,36 +140,23 @@ keep-requires-clause-heads c =
     = subst (λ (cs : List StatusChange). AllByRecursion (IsTouched lost.claim.seat cs c.touched_by-touched.result c.deref.result.now) c.deref.result.now) (statuses_2 ∙ sym statuses)
     (touched_all c.deref-8.result.now lost.claim.seat c.deref-9.result.now c.touched_by-touched.result c.touched_by-touched.ensures.lost c.touched_by-touched.ensures.told c.deref.result.now c.deref.result.now
     (subst (λ (ss : List Set). HoldBehind ss c.deref.result.now c.deref.result.now) (sym (c.deref-8.ensures.value ∙ ap (λ (v : Vec Set Global). v.items) c.lose-gone.ensures.behind)) c.tell_now.ensures.told.behind)) in
-    let both =
     heads_turn a p k e g.comes (plain_of a.waiting e c.requires.other) c.lose-gone.new.self.now.items lost c.lose-gone.result c.seats_told-came.result c.touched_by-touched.result c.deref.result.now c.claims-4.result.now c.deref-7.result.now
     (c.deref.ensures.value ∙ g.noted c.requires.other) (c.claims-4.ensures ∙ ap (λ (t : LockState). t.claims) g.state)
     (c.lose-gone.ensures.lost c.deref.result.now (subst IsMoment (sym (c.deref.ensures.value ∙ g.noted c.requires.other)) (is_moment_now a p k)) c.tell_now.ensures.told.heads c.tell_now.ensures.writes) statuses c.seats_told-came.ensures touch
-    (subst (λ (v : Vec Head Global). TellHeads v.items c.deref.result.now) (sym c.lose-gone.ensures.now) c.tell_now.ensures.told.heads) in
-    let tell = c.turn.ensures.tell m both.0 both.1 in
+    (subst (λ (v : Vec Head Global). TellHeads v.items c.deref.result.now) (sym c.lose-gone.ensures.now) c.tell_now.ensures.told.heads)
+
+pub keep-requires-clause-heads : goal.keep-requires-clause-heads
+keep-requires-clause-heads c =
+    let g = c.requires.ahead.1 in
+    let both = both_of (goal.at.keep-requires-clause-heads c).After-turn c.requires.ahead.0 g in
     subst (λ (z : List Head × Moment × Moment). AllByRecursion (HeadsTell z.0 c.turn.new.self.lost c.turn.new.self.moved c.turn.new.self.risen z.1 z.2) z.2)
-    (λ i. (sym c.deref-11.ensures.value i, sym (c.deref-12.ensures.value ∙ g.noted c.requires.other) i, (c.claims-4.ensures ∙ sym c.claims-5.ensures) i)) tell
+    (λ i. (sym c.deref-11.ensures.value i, sym (c.deref-12.ensures.value ∙ g.noted c.requires.other) i, (c.claims-4.ensures ∙ sym c.claims-5.ensures) i))
+    (c.turn.ensures.tell (state_of c.requires.ahead.0).claims both.0 both.1)
 
 pub keep-requires-clause-placed : goal.keep-requires-clause-placed
 keep-requires-clause-placed c =
-    let a = c.args.self.now in
-    let p = c.requires.ahead.0 in
-    let g = c.requires.ahead.1 in
-    let k = g.follows in
-    let e = c.args.event.now in
-    let m = (state_of p).claims in
-    let lost = c.lose-gone.new.self.lost in
-    let statuses = c.deref-7.ensures.value ∙ ap (λ (l : ChangeLists). l.statuses) (c.behind-machine-2.view_is ∙ c.changes-2.ensures ∙ g.changes) in
-    let statuses_2 = c.deref-9.ensures.value ∙ ap (λ (l : ChangeLists). l.statuses) (c.behind-machine-3.view_is ∙ c.changes-3.ensures ∙ g.changes) in
-    let touch : AllByRecursion (IsTouched lost.claim.seat c.deref-7.result.now c.touched_by-touched.result c.deref.result.now) c.deref.result.now
-    = subst (λ (cs : List StatusChange). AllByRecursion (IsTouched lost.claim.seat cs c.touched_by-touched.result c.deref.result.now) c.deref.result.now) (statuses_2 ∙ sym statuses)
-    (touched_all c.deref-8.result.now lost.claim.seat c.deref-9.result.now c.touched_by-touched.result c.touched_by-touched.ensures.lost c.touched_by-touched.ensures.told c.deref.result.now c.deref.result.now
-    (subst (λ (ss : List Set). HoldBehind ss c.deref.result.now c.deref.result.now) (sym (c.deref-8.ensures.value ∙ ap (λ (v : Vec Set Global). v.items) c.lose-gone.ensures.behind)) c.tell_now.ensures.told.behind)) in
-    let both =
-    heads_turn a p k e g.comes (plain_of a.waiting e c.requires.other) c.lose-gone.new.self.now.items lost c.lose-gone.result c.seats_told-came.result c.touched_by-touched.result c.deref.result.now c.claims-4.result.now c.deref-7.result.now
-    (c.deref.ensures.value ∙ g.noted c.requires.other) (c.claims-4.ensures ∙ ap (λ (t : LockState). t.claims) g.state)
-    (c.lose-gone.ensures.lost c.deref.result.now (subst IsMoment (sym (c.deref.ensures.value ∙ g.noted c.requires.other)) (is_moment_now a p k)) c.tell_now.ensures.told.heads c.tell_now.ensures.writes) statuses c.seats_told-came.ensures touch
-    (subst (λ (v : Vec Head Global). TellHeads v.items c.deref.result.now) (sym c.lose-gone.ensures.now) c.tell_now.ensures.told.heads) in
-    subst (λ (n : Moment). ArePlaced c.turn.new.places c.turn.new.self.moved c.turn.new.self.risen n) (c.claims-4.ensures ∙ sym c.claims-5.ensures) (c.turn.ensures.placed m both.0 both.1)
+    let both = both_of (goal.at.keep-requires-clause-placed c).After-turn c.requires.ahead.0 c.requires.ahead.1 in
+    subst (λ (n : Moment). ArePlaced c.turn.new.places c.turn.new.self.moved c.turn.new.self.risen n) (c.claims-4.ensures ∙ sym c.claims-5.ensures) (c.turn.ensures.placed (state_of c.requires.ahead.0).claims both.0 both.1)
 
 pub keep-requires-clause-one_each : goal.keep-requires-clause-one_each
 keep-requires-clause-one_each c =
@@ -177,19 +165,13 @@ keep-requires-clause-one_each c =
 
 pub keep-requires-clause-seats : goal.keep-requires-clause-seats
 keep-requires-clause-seats c =
-    let p = c.requires.ahead.0 in
-    let k = c.requires.ahead.1.follows in
-    let e = c.args.event.now in
-    let at_n = c.claims-5.ensures ∙ ap (λ (s : LockState). s.claims) c.requires.ahead.1.state in
-    subst (λ (z : List Run × Moment). AllByRecursion (λ x. x.claim.seat < length z.0) z.1) (λ i. (sym c.deref_mut.ensures.value i, sym at_n i)) (seats_next c.args.self.now p k e c.requires.ahead.1.comes)
+    subst (λ (z : List Run × Moment). AllByRecursion (λ x. x.claim.seat < length z.0) z.1) (λ i. (sym c.deref_mut.ensures.value i, sym (c.claims-5.ensures ∙ ap (λ (s : LockState). s.claims) c.requires.ahead.1.state) i))
+    (seats_next c.args.self.now c.requires.ahead.0 c.requires.ahead.1.follows c.args.event.now c.requires.ahead.1.comes)
 
 pub keep-requires-clause-apart : goal.keep-requires-clause-apart
 keep-requires-clause-apart c =
-    let p = c.requires.ahead.0 in
-    let k = c.requires.ahead.1.follows in
-    let e = c.args.event.now in
-    let at_n = c.claims-5.ensures ∙ ap (λ (s : LockState). s.claims) c.requires.ahead.1.state in
-    subst (λ (n : Moment). EachPair (WaitApart n) n) (sym at_n) (apart_next c.args.self.now p k e c.requires.ahead.1.comes)
+    subst (λ (n : Moment). EachPair (WaitApart n) n) (sym (c.claims-5.ensures ∙ ap (λ (s : LockState). s.claims) c.requires.ahead.1.state))
+    (apart_next c.args.self.now c.requires.ahead.0 c.requires.ahead.1.follows c.args.event.now c.requires.ahead.1.comes)
 
 pub keep-requires-clause-few : goal.keep-requires-clause-few
 keep-requires-clause-few c =
@@ -210,18 +192,7 @@ returns c = λ p g.
     let es = p.events in
     let at_m = c.deref-12.ensures.value ∙ g.noted c.requires.other in
     let at_n = c.claims-5.ensures ∙ ap (λ (s : LockState). s.claims) g.state in
-    let lost = c.lose-gone.new.self.lost in
-    let statuses = c.deref-7.ensures.value ∙ ap (λ (l : ChangeLists). l.statuses) (c.behind-machine-2.view_is ∙ c.changes-2.ensures ∙ g.changes) in
-    let statuses_2 = c.deref-9.ensures.value ∙ ap (λ (l : ChangeLists). l.statuses) (c.behind-machine-3.view_is ∙ c.changes-3.ensures ∙ g.changes) in
-    let touch : AllByRecursion (IsTouched lost.claim.seat c.deref-7.result.now c.touched_by-touched.result c.deref.result.now) c.deref.result.now
-    = subst (λ (cs : List StatusChange). AllByRecursion (IsTouched lost.claim.seat cs c.touched_by-touched.result c.deref.result.now) c.deref.result.now) (statuses_2 ∙ sym statuses)
-    (touched_all c.deref-8.result.now lost.claim.seat c.deref-9.result.now c.touched_by-touched.result c.touched_by-touched.ensures.lost c.touched_by-touched.ensures.told c.deref.result.now c.deref.result.now
-    (subst (λ (ss : List Set). HoldBehind ss c.deref.result.now c.deref.result.now) (sym (c.deref-8.ensures.value ∙ ap (λ (v : Vec Set Global). v.items) c.lose-gone.ensures.behind)) c.tell_now.ensures.told.behind)) in
-    let both =
-    heads_turn a p k e g.comes (plain_of a.waiting e c.requires.other) c.lose-gone.new.self.now.items lost c.lose-gone.result c.seats_told-came.result c.touched_by-touched.result c.deref.result.now c.claims-4.result.now c.deref-7.result.now
-    (c.deref.ensures.value ∙ g.noted c.requires.other) (c.claims-4.ensures ∙ ap (λ (t : LockState). t.claims) g.state)
-    (c.lose-gone.ensures.lost c.deref.result.now (subst IsMoment (sym (c.deref.ensures.value ∙ g.noted c.requires.other)) (is_moment_now a p k)) c.tell_now.ensures.told.heads c.tell_now.ensures.writes) statuses c.seats_told-came.ensures touch
-    (subst (λ (v : Vec Head Global). TellHeads v.items c.deref.result.now) (sym c.lose-gone.ensures.now) c.tell_now.ensures.told.heads) in
+    let both = both_of (goal.at.returns c).After-turn p g in
     let lengths = c.note_lengths.new.lengths in
     let runs = c.keep.new.runs in
     let same : length runs ≡ length a.runs.items = c.keep.ensures.len ∙ ap (λ (rs : List Run). length rs) c.deref_mut.ensures.value in
@@ -267,21 +238,16 @@ returns c = λ p g.
 
 pub keep-requires-clause-reading : goal.keep-requires-clause-reading
 keep-requires-clause-reading c =
-    let p = c.requires.ahead.0 in
     let g = c.requires.ahead.1 in
-    let e = c.args.event.now in
-    let a = c.args.self.now in
     subst (λ (z : Set × Moment). HoldReading z.0 z.1) (λ i. (sym c.note_event.ensures.reading i, sym (c.claims-5.ensures ∙ ap (λ (s : LockState). s.claims) g.state) i))
-    (reading_next (state_of p) e (reached a p g.follows) g.comes a.reading g.follows.reading)
+    (reading_next (state_of c.requires.ahead.0) c.args.event.now (reached c.args.self.now c.requires.ahead.0 g.follows) g.comes c.args.self.now.reading g.follows.reading)
 
 pub keep-requires-clause-wanted : goal.keep-requires-clause-wanted
 keep-requires-clause-wanted c =
-    let p = c.requires.ahead.0 in
     let g = c.requires.ahead.1 in
-    let e = c.args.event.now in
     let a = c.args.self.now in
     subst (λ (n : Moment). TellWanted a.wanted n) (sym (c.claims-5.ensures ∙ ap (λ (s : LockState). s.claims) g.state))
-    (wanted_next (state_of p) e (reached a p g.follows) g.comes a.wanted a.wanted (wanted_still e (plain_of a.waiting e c.requires.other) a.wanted) g.follows.wanted)
+    (wanted_next (state_of c.requires.ahead.0) c.args.event.now (reached a c.requires.ahead.0 g.follows) g.comes a.wanted a.wanted (wanted_still c.args.event.now (plain_of a.waiting c.args.event.now c.requires.other) a.wanted) g.follows.wanted)
 
 pub keep-requires-clause-stood : goal.keep-requires-clause-stood
 keep-requires-clause-stood c =
@@ -306,18 +272,11 @@ tell-requires-clause-quiet c =
 
 pub keep-requires-clause-last_rises : goal.keep-requires-clause-last_rises
 keep-requires-clause-last_rises c =
-    let p = c.requires.ahead.0 in
-    let k = c.requires.ahead.1.follows in
-    let at_m = c.deref-12.ensures.value ∙ c.requires.ahead.1.noted c.requires.other in
-    subst (EachPair Rises) (sym at_m) (rising_now c.args.self.now p k)
+    subst (EachPair Rises) (sym (c.deref-12.ensures.value ∙ c.requires.ahead.1.noted c.requires.other)) (rising_now c.args.self.now c.requires.ahead.0 c.requires.ahead.1.follows)
 
 pub keep-requires-clause-next_rises : goal.keep-requires-clause-next_rises
 keep-requires-clause-next_rises c =
-    let p = c.requires.ahead.0 in
-    let k = c.requires.ahead.1.follows in
-    let e = c.args.event.now in
-    let at_n = c.claims-5.ensures ∙ ap (λ (s : LockState). s.claims) c.requires.ahead.1.state in
-    subst (EachPair Rises) (sym at_n) (rising_next c.args.self.now p k e c.requires.ahead.1.comes)
+    subst (EachPair Rises) (sym (c.claims-5.ensures ∙ ap (λ (s : LockState). s.claims) c.requires.ahead.1.state)) (rising_next c.args.self.now c.requires.ahead.0 c.requires.ahead.1.follows c.args.event.now c.requires.ahead.1.comes)
 
 pub note_seat-requires-clause-low : goal.note_seat-requires-clause-low
 note_seat-requires-clause-low c = subst (λ l. l < SEATS) (sym c.seat-2.ensures) (event_seat c.args.self.now c.requires.ahead.0 c.requires.ahead.1.follows c.args.event.now c.requires.ahead.1.comes)
@@ -398,12 +357,9 @@ keep-requires-clause-waiting c =
 
 pub keep-requires-clause-rising : goal.keep-requires-clause-rising
 keep-requires-clause-rising c =
-    let p = c.requires.ahead.0 in
     let g = c.requires.ahead.1 in
-    let e = c.args.event.now in
-    let a = c.args.self.now in
     subst (λ (z : Set × Moment). TellRising z.0 z.1) (λ i. (sym c.note_event.ensures.rising i, sym (c.claims-5.ensures ∙ ap (λ (s : LockState). s.claims) g.state) i))
-    (risen_next (state_of p) e (reached a p g.follows) g.comes a.rising g.follows.rising)
+    (risen_next (state_of c.requires.ahead.0) c.args.event.now (reached c.args.self.now c.requires.ahead.0 g.follows) g.comes c.args.self.now.rising g.follows.rising)
 
 pub keep-requires-clause-reads : goal.keep-requires-clause-reads
 keep-requires-clause-reads c =
