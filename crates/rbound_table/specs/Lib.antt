@@ -1,10 +1,3 @@
-pub mod Tables
-pub mod AllTables
-pub mod Two
-pub mod Lengths
-pub mod Leaders
-pub mod Delays
-pub mod OtherLengths
 pub mod TableRows
 pub mod Totals
 pub mod PlaceZones

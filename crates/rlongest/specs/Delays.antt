@@ -1,0 +1,51 @@
+-- Of each resource and each task, the longest claim of another task that can hold up a write of the resource by a further one.
+use Rattle.std.specs.Prelude.{ℕ, List, [], map, fold, slice_index_or, Option, None}
+use Rattle.std.specs.List.{range_with_len}
+use Rattle.rset.specs.Sets.{rising}
+use Rattle.rset.specs.declared.TheConstants.{RESOURCES}
+use Rattle.rbound.specs.Longest.{longer}
+use Rattle.rbound.specs.ZoneRows.{beside}
+use Rattle.rlongest.specs.Tables.{cell_at}
+use Rattle.rlongest.specs.Two.{no_length, only, two_at, both}
+use Rattle.rlongest.specs.Leaders.{leaders_at, led_beside}
+use Rattle.rlongest.specs.declared.table.Cell.{Cell}
+use Rattle.rlongest.specs.declared.tables.Tables.{Tables}
+use Rattle.rlongest.specs.declared.two.TwoLongest.{TwoLongest}
+use Rattle.rlongest.specs.declared.leaders.Leaders.{Leaders}
+
+-- of each resource the tasks of which a table has the longest
+abbrev pub all_leaders : List Cell → ℕ → List Leaders
+all_leaders cells tasks = map (leaders_at cells tasks) (range_with_len 0 RESOURCES)
+
+-- by these, the two longest of other tasks than the writer, of each resource
+abbrev pub readers_of : List Leaders → ℕ → List TwoLongest
+readers_of leaders writer = map (λ l. led_beside l writer) leaders
+
+-- by these, the two longest that can hold up what the writer writes with a resource: the read halves of its own upgrades, and what others read of
+-- all that it writes with the resource
+abbrev pub held_by : Tables → List TwoLongest → ℕ → ℕ → TwoLongest
+held_by tables readers writer l =
+    fold (λ two m. both two (slice_index_or readers m no_length)) (only writer (cell_at tables.halves.items writer l).longest) (rising (cell_at tables.writes.items writer l).beside)
+
+abbrev pub held : Tables → ℕ → ℕ → ℕ → TwoLongest
+held tables tasks writer l = held_by tables (readers_of (all_leaders tables.reads.items tasks) writer) writer l
+
+-- of each writer, at each resource
+abbrev pub holders_in : Tables → ℕ → List (List TwoLongest)
+holders_in tables tasks = map (λ writer. map (held tables tasks writer) (range_with_len 0 RESOURCES)) (range_with_len 0 tasks)
+
+-- of a writer, at a resource
+abbrev pub holders_at : List (List TwoLongest) → ℕ → ℕ → TwoLongest
+holders_at rows writer l = slice_index_or (slice_index_or rows writer []) l no_length
+
+-- the longest of other tasks that can hold up a write of another task
+abbrev pub delay_at : List (List TwoLongest) → ℕ → ℕ → ℕ → Option ℕ
+delay_at rows tasks l me = beside tasks me (λ writer. two_at (holders_at rows writer l) me)
+
+-- the longest of all that can hold up a write of the resource
+abbrev pub top_at : List (List TwoLongest) → ℕ → ℕ → Option ℕ
+top_at rows tasks l = fold (λ most writer. longer most (longer (holders_at rows writer l).longest (holders_at rows writer l).next)) None (range_with_len 0 tasks)
+
+-- at each resource, for each task
+abbrev pub delays_in : Tables → ℕ → List (List (Option ℕ))
+delays_in tables tasks = map (λ l. map (delay_at (holders_in tables tasks) tasks l) (range_with_len 0 tasks)) (range_with_len 0 RESOURCES)
