@@ -1,5 +1,5 @@
 -- How the plain cover keeps moments, and what it finds of a line.
-use Rattle.std.specs.Prelude.{◌-◌, ◌&&◌, ℕ, zero, suc, Option, Some, None, List, map, fold, reverse, if◌then◌else◌}
+use Rattle.std.specs.Prelude.{◌≡◌, ◌≤◌, ◌-◌, ◌&&◌, ℕ, zero, suc, Option, Some, None, List, map, fold, reverse, if◌then◌else◌}
 use Rattle.std.specs.declared.vec.Vec.{Vec}
 use Rattle.std.specs.declared.alloc.Global.{Global}
 use Rattle.rclaim.specs.declared.claim.Claim.{Claim}
@@ -11,6 +11,8 @@ use Rattle.rplain_cover.specs.declared.cover.Cover.{Cover}
 use Rattle.rplain_cover.specs.declared.leasts.Lowest.{Lowest}
 use Rattle.std.specs.FinSet.{union}
 use Rattle.rset.specs.Sets.{meets}
+use Rattle.rset.specs.declared.TheConstants.{SEATS}
+use Rattle.rmodel.specs.State.{LockState, opening}
 use Rattle.rmodel.specs.Rules.{is_earlier_write}
 use Rattle.rcover.specs.Moments.{Moment}
 use Rattle.rcover.specs.Sections.{Sections}
@@ -22,6 +24,12 @@ moments_in vs = map (λ v. v.items) vs
 -- the sections of a cover
 abbrev pub sections_of : Cover → Sections
 sections_of a = record { reads = a.reads.items; writes = a.writes.items }
+
+-- nothing was done yet at a lock, and it has few enough requests at a time
+pub record IsOpened (s : LockState) : Type 0 where
+  pub some : 1 ≤ s.cap
+  pub few : s.cap ≤ SEATS
+  pub is : s ≡ opening s.groups s.seats s.cap
 
 -- what is found of the line of a write once a claim before the others is looked at
 abbrev pub with_lowest : Claim → Lowest → Claimed → Lowest

@@ -11,7 +11,7 @@ ghost use Rattle.rmodel.specs.State.{opening};
 ghost use Rattle.rmodel.specs.Steps.{AreAccepted};
 ghost use Rattle.rcover.specs.Ended.{wait_of, waits_in, sections_in, wait_end, ended_if, ended_by};
 ghost use Rattle.rcover.specs.History.{count_ask, last_ask, length_in};
-ghost use Rattle.rplain_cover.specs.Lists.{moments_in, sections_of, length_at, before_left};
+ghost use Rattle.rplain_cover.specs.Lists.{IsOpened, moments_in, sections_of, length_at, before_left};
 ghost use Rattle.rcover.specs.Lists.{AreFew};
 ghost use Rattle.rcover.specs.Told.{wait_so_far};
 ghost use Rattle.rcover.specs.Within.{numbers_of};
@@ -208,6 +208,23 @@ fn all_ended(
     Ok(ended)
 }
 
+/// What the last event ends behind those before it, at a machine at which nothing was done yet.
+fn ended_behind(
+    alloc: Global,
+    machine: &mut Plain,
+    before: &[Event],
+    event: &Event,
+) -> Result<Vec<WaitEnd>, AllocError>
+    requires opened { IsOpened machine.old.state }
+    requires accepted { AreAccepted machine.old.state (before.now ++ event.now ∷ []) }
+    ensures { IfOk result (λ v. v.items ≡ ended_by machine.old.state before.now event.now) }
+{
+    let moments = moments_of(alloc, machine, before)?;
+    let last = copy_of(alloc, machine.claims())?;
+    take(machine, event);
+    all_ended(alloc, before, &moments, &last, machine.claims())
+}
+
 /// The waits with at least one moment that the last of these events ended, by rising stamp, with the numbers of their covers.
 /// Where there is no event there are none. The events are accepted one after another.
 ///
@@ -233,8 +250,5 @@ pub fn plain_cover(
         return Ok(Vec::new(alloc));
     };
     let mut machine = Plain::new(alloc, groups.copy(alloc)?, seats, cap)?;
-    let moments = moments_of(alloc, &mut machine, before)?;
-    let last = copy_of(alloc, machine.claims())?;
-    take(&mut machine, event);
-    all_ended(alloc, before, &moments, &last, machine.claims())
+    ended_behind(alloc, &mut machine, before, event)
 }
