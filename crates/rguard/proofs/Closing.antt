@@ -15,7 +15,7 @@ use Rattle.rstate.proofs.homes.Lists.{same_item}
 use Rattle.rguard.specs.Closing.{IsLeft, IsClosedBy}
 use Rattle.rguard.specs.Seats.{SeatOf, IsOf, IsIdle, is_busy}
 use Rattle.rlent.proofs.Ending.{sizes}
-use Rattle.rlent.proofs.Idle.{idle_has_none}
+use Rattle.rlent.proofs.seats.Idle.{idle_has_none}
 
 -- what a seat tells of the last state
 abbrev pub Tells : {V E : Type 0} → SeatOf V E → Contents V E → Type 0

@@ -16,7 +16,7 @@ use Rattle.rguard.specs.Looks.{HasAcquired}
 use Rattle.rguard.specs.declared.guard.Guard.{Guard}
 use Rattle.rguard.specs.declared.guard.Guard.TheVariants.{Read, Write}
 use Rattle.rguard.specs.Guards.{GuardFields, AsSeen, HasSeenLawful, HasSeenOwn, Holding, HoldingToWrite, IsReady}
-use Rattle.rlent.proofs.Along.{maker}
+use Rattle.rlent.proofs.seats.Along.{maker}
 use Rattle.rguard.proofs.Having.{is_plain, holds_request}
 
 -- a list has this entry of its own last: what stands before, and what stands behind, which is of others

@@ -3,9 +3,9 @@ ghost use Rattle.std.specs.Prelude.{◌≡◌, true, [], IfOk, IfErr};
 ghost use Rattle.rguard.specs.Seats.{IsOf, IsIdle, SuitsSeat, Goes, bare};
 ghost use Rattle.rguard.specs.Looks.{HasAwaited, HasAcquired, fields_of};
 
-use crate::guard::Guard;
+use crate::guard::{Guard, guard_of};
 use crate::lock::Lock;
-use crate::pending::{Looked, Pending};
+use crate::pending::Pending;
 use rclaim::Request;
 use rlent::Seat;
 use rmodel::Machine;
@@ -34,24 +34,21 @@ impl<T: Editable, M: Machine> Lock<State<T, M>> {
         ensures err { IfErr result (λ e. Goes seat [] e.0) }
         ensures idle { IfErr result (λ e. IsIdle e.0) }
     {
-        let pending = self.begin(rt, alloc, seat, request)?;
-        Ok(wait_for(rt, pending))
+        match self.begin(rt, alloc, seat, request) {
+            Ok(pending) => Ok(wait_for(rt, pending)),
+            Err(e) => Err(e),
+        }
     }
 }
 
-/// Looks and rests until the wait is over.
-pub(crate) fn wait_for<'a, R: Wait, T: Editable, M: Machine>(
+// Looks and rests until the wait is over.
+fn wait_for<'a, R: Wait, T: Editable, M: Machine>(
     rt: &R,
     pending: Pending<'a, T, M>,
 ) -> Guard<'a, T, M>
     ensures { HasAwaited pending.entry result }
 {
-    let mut waiting = pending;
-    for _ in rt.forever() {
-        match waiting.look(rt) {
-            Looked::Ready(guard) => return guard,
-            Looked::NotYet(next) => waiting = next.rest(rt),
-        }
-    }
-    unreachable!()
+    let Pending { section, awaited } = pending;
+    let section = section.wait(rt);
+    guard_of(awaited, section)
 }

@@ -2,8 +2,9 @@
 ghost use Rattle.std.specs.Prelude.{◌≡◌, IfOk};
 ghost use Rattle.rlent.specs.Guards.{kind_for};
 ghost use Rattle.rlent.specs.Sections.{no_loans};
-ghost use Rattle.rguard.specs.Awaiting.{awaited_kind, HasNext};
+ghost use Rattle.rguard.specs.Awaiting.{awaited_kind};
 
+use crate::kinds::Rising;
 use rclaim::Kind;
 use rset::RESOURCES;
 use rstate::Lent;
@@ -14,8 +15,7 @@ use std::alloc::{AllocError, Global};
 pub(crate) enum Awaited<T> {
     Read,
     Write,
-    /// When an upgrade rises it gives back what it was lent, and is lent other values then: the room for these.
-    Rise { next: Lent<T>, alloc: Global },
+    Rise(Rising<T>),
     Nest,
 }
 
@@ -26,15 +26,14 @@ impl<T: Drop> Awaited<T> {
     ///
     /// Want of memory.
     pub(crate) fn by(alloc: Global, kind: Kind) -> Result<Awaited<T>, AllocError>
-        ensures kind { IfOk result (λ awaited. awaited_kind awaited ≡ kind_for kind) }
-        ensures next { IfOk result HasNext }
+        ensures { IfOk result (λ awaited. awaited_kind awaited ≡ kind_for kind) }
     {
         match kind {
             Kind::Read => Ok(Awaited::Read),
             Kind::Write | Kind::Mixed => Ok(Awaited::Write),
             Kind::Upgrade => {
                 let next = room_for_all(alloc)?;
-                Ok(Awaited::Rise { next, alloc })
+                Ok(Awaited::Rise(Rising { next, alloc }))
             }
             Kind::Nested => Ok(Awaited::Nest),
         }

@@ -1,13 +1,15 @@
 //! Guards by kind.
 ghost use Rattle.std.specs.Prelude.{◌≡◌};
-ghost use Rattle.rguard.specs.Awaiting.{awaited_kind, HasNext};
+ghost use Rattle.rguard.specs.Awaiting.{awaited_kind};
 ghost use Rattle.rlent.specs.Sections.{Holds, guarded};
 ghost use Rattle.rguard.specs.Looks.{fields_of, kind_of};
 
 use crate::awaited::Awaited;
+use crate::kinds::{Nesting, Reading, Writing};
 use crate::nest::NestGuard;
 use crate::read::ReadGuard;
 use crate::rise::RiseGuard;
+use crate::section_guard::SectionGuard;
 use crate::write::WriteGuard;
 use rlent::Section;
 use rmodel::Machine;
@@ -30,19 +32,23 @@ pub(crate) fn guard_of<'a, T: Editable, M: Machine>(
     awaited: Awaited<T>,
     section: Section<'a, T, M>,
 ) -> Guard<'a, T, M>
-    requires holds { Holds T.after T.taken T.number (awaited_kind awaited) section }
-    requires next { HasNext awaited }
+    requires { Holds T.after T.taken T.number (awaited_kind awaited) section }
     ensures fields { fields_of result ≡ guarded section.entry }
     ensures kind { kind_of result ≡ awaited_kind awaited }
 {
     match awaited {
-        Awaited::Read => Guard::Read(ReadGuard { section }),
-        Awaited::Write => Guard::Write(WriteGuard { section }),
-        Awaited::Rise { next, alloc } => Guard::Rise(RiseGuard {
+        Awaited::Read => Guard::Read(SectionGuard {
             section,
-            next,
-            alloc,
+            kind: Reading,
         }),
-        Awaited::Nest => Guard::Nest(NestGuard { section }),
+        Awaited::Write => Guard::Write(SectionGuard {
+            section,
+            kind: Writing,
+        }),
+        Awaited::Rise(kind) => Guard::Rise(SectionGuard { section, kind }),
+        Awaited::Nest => Guard::Nest(SectionGuard {
+            section,
+            kind: Nesting,
+        }),
     }
 }

@@ -6,7 +6,7 @@ ghost use Rattle.rstate.specs.Histories.{Beginning};
 ghost use Rattle.rguard.specs.Seats.{IsOf, IsIdle};
 
 use rlent::{CountedGate, Seat};
-use rlock::{Gate, Kept};
+use rlock::Kept;
 use rmodel::Machine;
 use rstate::State;
 use rvalue::Editable;
@@ -53,10 +53,9 @@ impl<T: Editable, M: Machine> Lock<State<T, M>> {
         ensures each { IfOk result (λ r. (k : ℕ) → k < seats → slice_get r.1.items k ≡ Some (let began : Beginning T = record { groups = (M.state machine).groups; seats = (M.state machine).seats; cap = (M.state machine).cap; values = values.items } in
             newcomer r.0.gate k began (record { beginning = began; entries = []; taken = replicate (M.state machine).seats nothing }))) }
     {
-        let _ = machine.seats();
-        let state = State::new(alloc, machine, values)?;
-        let (gate, all) = Gate::new(alloc, state, seats)?;
-        let gate = CountedGate::new(gate, seats);
-        Ok((Lock { gate }, all))
+        match CountedGate::open(alloc, machine, values, seats) {
+            Ok((gate, all)) => Ok((Lock { gate }, all)),
+            Err(e) => Err(e),
+        }
     }
 }

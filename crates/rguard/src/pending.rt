@@ -2,7 +2,7 @@
 ghost use Rattle.std.specs.Prelude.{◌≡◌, [], IfOk, IfErr};
 ghost use Rattle.rlent.specs.Sections.{no_loans};
 ghost use Rattle.rguard.specs.Seats.{IsOf, IsIdle, SuitsSeat, Goes};
-ghost use Rattle.rguard.specs.Awaiting.{awaited_kind, HasNext};
+ghost use Rattle.rguard.specs.Awaiting.{awaited_kind};
 ghost use Rattle.rguard.specs.Guards.{HasSeenLawful, HasSeenOwn, HasBegun, kind_for};
 ghost use Rattle.rguard.specs.Looks.{LooksAt};
 
@@ -26,7 +26,7 @@ pub struct Pending<'a, T: Editable, M: Machine> {
 }
 
 impl<'a, T: Editable, M: Machine> Model for Pending<'a, T, M> {
-    ghost use Rattle.rguard.specs.Awaiting.{awaited_kind, HasNext};
+    ghost use Rattle.rguard.specs.Awaiting.{awaited_kind};
     ghost use Rattle.rguard.specs.Guards.{WaitFields};
     ghost use Rattle.rlent.specs.Sections.{Waits};
     ghost use Rattle.rguard.specs.Awaiting.{waiting};
@@ -39,7 +39,7 @@ impl<'a, T: Editable, M: Machine> Model for Pending<'a, T, M> {
 
     ghost view = { λ a. waiting a.section (awaited_kind a.awaited) };
 
-    ghost invariant = { λ a. Waits T.after T.taken T.number (awaited_kind a.awaited) a.section × HasNext a.awaited };
+    ghost invariant = { λ a. Waits T.after T.taken T.number (awaited_kind a.awaited) a.section };
 }
 
 /// What a look at a wait gives.
@@ -71,33 +71,14 @@ impl<T: Editable, M: Machine> Lock<State<T, M>> {
         ensures idle { IfErr result (λ e. IsIdle e.0) }
     {
         match rooms(alloc, request.kind()) {
-            Ok((lent, awaited)) => self.issue(rt, alloc, seat, request, lent, awaited),
+            Ok((lent, awaited)) => {
+                match Section::issue(&self.gate, rt, alloc, seat, request, lent) {
+                    Ok(section) => Ok(Pending { section, awaited }),
+                    Err(e) => Err(e),
+                }
+            }
             Err(e) => Err((seat, e)),
         }
-    }
-
-    // The same, with room for what the seat is going to be lent.
-    fn issue<'a, R: Wait>(
-        &'a self,
-        rt: &R,
-        alloc: Global,
-        seat: Seat<T, M>,
-        request: Request,
-        lent: Lent<T>,
-        awaited: Awaited<T>,
-    ) -> Result<Pending<'a, T, M>, (Seat<T, M>, AllocError)>
-        requires of { IsOf self.now seat }
-        requires idle { IsIdle seat }
-        requires suits { SuitsSeat seat request }
-        requires room { lent ≡ no_loans }
-        requires kind { awaited_kind awaited ≡ kind_for request.kind }
-        requires next { HasNext awaited }
-        ensures ok { IfOk result (HasBegun self.entry.now seat request) }
-        ensures err { IfErr result (λ e. Goes seat [] e.0) }
-        ensures idle { IfErr result (λ e. IsIdle e.0) }
-    {
-        let section = Section::issue(&self.gate, rt, alloc, seat, request, lent)?;
-        Ok(Pending { section, awaited })
     }
 }
 
@@ -138,7 +119,6 @@ impl<'a, T: Editable, M: Machine> Pending<'a, T, M> {
 fn rooms<T: Drop>(alloc: Global, kind: Kind) -> Result<(Lent<T>, Awaited<T>), AllocError>
     ensures lent { IfOk result (λ r. r.0 ≡ no_loans) }
     ensures kind { IfOk result (λ r. awaited_kind r.1 ≡ kind_for kind) }
-    ensures next { IfOk result (λ r. HasNext r.1) }
 {
     let lent = room_for_all(alloc)?;
     let awaited = Awaited::by(alloc, kind)?;

@@ -1,90 +1,26 @@
 //! The guard of a read.
-ghost use Rattle.std.specs.Prelude.{◌≡◌, ◌++◌, ◌∷◌, [], IfOk, OnErr};
+ghost use Rattle.std.specs.Prelude.{◌∷◌, []};
 ghost use Rattle.rclaim.specs.declared.event.Event.TheVariants.{Finish};
-ghost use Rattle.rvalue.specs.declared.act.Act.TheVariants.{Shown};
-ghost use Rattle.rguard.specs.Seats.{Goes, IsOneTurn, IsIdle, bare};
-ghost use Rattle.rguard.specs.Guards.{HasSeenLawful, HasSeenOwn, Holding, HasValue};
+ghost use Rattle.rguard.specs.Seats.{Goes, IsOneTurn, IsIdle};
 
-use rlent::{Seat, Section};
+use crate::kinds::Reading;
+use crate::section_guard::SectionGuard;
+use rlent::Seat;
 use rmodel::Machine;
 use rvalue::Editable;
-use std::alloc::{AllocError, Global};
-use std::marker::Model;
 use std::sync::Wait;
 
 /// The guard of a read. It must be spent.
-pub struct ReadGuard<'a, T: Editable, M: Machine> {
-    pub(crate) section: Section<'a, T, M>,
-}
+pub type ReadGuard<'a, T, M> = SectionGuard<'a, T, M, Reading>;
 
-impl<'a, T: Editable, M: Machine> Model for ReadGuard<'a, T, M> {
-    ghost use Rattle.rguard.specs.Guards.{GuardFields};
-    ghost use Rattle.rlent.specs.Sections.{Holds, guarded};
-    ghost use Rattle.rlent.specs.declared.kind.GuardKind.TheVariants.{Read};
-    ghost use Rattle.std.specs.Coded.{codes};
-    ghost use Rattle.rclaim.specs.Codes.{set_code};
-
-    ghost Value = { GuardFields T T.Edit };
-
-    ghost coded = { Prim.hlevel (codes, set_code) };
-
-    ghost view = { λ a. guarded a.section };
-
-    ghost invariant = { λ a. Holds T.after T.taken T.number Read a.section };
-}
-
-impl<'a, T: Editable, M: Machine> ReadGuard<'a, T, M> {
-    /// Lends the seat of the guard. It has no turn. What it has seen is lawful from how the lock began, and its own
-    /// entries there are those that it made. No memory is taken.
-    pub fn seat(&self) -> &Seat<T, M>
-        ensures seat { result.now ≡ self.now.seat }
-        ensures lawful { HasSeenLawful T.after T.taken T.number self.now.seat }
-        ensures own { HasSeenOwn self.now.seat }
-    {
-        &self.section.seat
-    }
-
-    /// Lends the value of a resource that is held: what the history that the seat has seen makes of it.
-    /// No memory is taken.
-    pub fn get(&self, place: u8) -> &T
-        requires { Holding self.now.seat place }
-        ensures { HasValue T.after self.now place result.now }
-    {
-        self.section.get(place)
-    }
-
-    /// Shows the value of a resource that is held, which is an act of the section.
-    ///
-    /// # Errors
-    ///
-    /// Want of memory. The guard is then as it was.
-    pub fn show(&mut self, alloc: Global, place: u8) -> Result<u64, AllocError>
-        requires { Holding self.old.seat place }
-        ensures act { IfOk result (λ number. self.new ≡ record self.old { acts = self.old.acts ++ Shown place number ∷ [] }) }
-        ensures number { IfOk result (λ number. (value : T) × HasValue T.after self.old place value × (number ≡ T.number value)) }
-        ensures err { OnErr result (self.new ≡ self.old) }
-    {
-        let _ = alloc;
-        self.section.show(place)
-    }
-
+impl<'a, T: Editable, M: Machine> SectionGuard<'a, T, M, Reading> {
     /// Ends the section: its acts are told, and what was lent to it goes home. No memory is taken.
     pub fn finish<R: Wait>(self, rt: &R) -> Seat<T, M>
         ensures goes { Goes self.entry.seat (record { event = Finish self.entry.seat.number; acts = self.entry.acts } ∷ []) result }
         ensures turn { IsOneTurn self.entry.seat (record { event = Finish self.entry.seat.number; acts = self.entry.acts } ∷ []) result }
         ensures idle { IsIdle result }
     {
-        let ReadGuard { section } = self;
+        let SectionGuard { section, kind: _ } = self;
         section.end(rt)
-    }
-
-    /// Ends the section without its acts: what was lent to it goes home as it was lent. No memory is taken.
-    pub fn discard<R: Wait>(self, rt: &R) -> Seat<T, M>
-        ensures goes { Goes self.entry.seat (bare (Finish self.entry.seat.number) ∷ []) result }
-        ensures turn { IsOneTurn self.entry.seat (bare (Finish self.entry.seat.number) ∷ []) result }
-        ensures idle { IsIdle result }
-    {
-        let ReadGuard { section } = self;
-        section.discard(rt)
     }
 }

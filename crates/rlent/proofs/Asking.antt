@@ -37,13 +37,13 @@ use Rattle.rlent.specs.declared.kind.GuardKind.TheVariants as kinds
 use Rattle.rlent.specs.Guards.{KeepsValues}
 use Rattle.rlent.specs.Seats.{SeatOf, bare}
 use Rattle.rlent.specs.Sections.{SectionFields, lock_seen, held_at, value_seen, value_edited, HasRoom, ActsAreRight, HoldsFrom, WaitsFrom}
-use Rattle.rlent.proofs.Acting.{held_more}
-use Rattle.rlent.proofs.Claims.{is_of, of_seat, may_ask_by, of_seat_and, claim_asked}
+use Rattle.rlent.proofs.seats.Acting.{held_more}
+use Rattle.rlent.proofs.seats.Claims.{is_of, of_seat, may_ask_by, of_seat_and, claim_asked}
 use Rattle.rlent.proofs.Ending.{sizes, there_now}
-use Rattle.rlent.proofs.Finding.{Finds, lock_is, reached_now, within_later, value_later, claim_later, holding_later}
+use Rattle.rlent.proofs.seats.Finding.{Finds, lock_is, reached_now, within_later, value_later, claim_later, holding_later}
 use Rattle.rlent.proofs.Lending.{lent_same, lent_reserved}
 use Rattle.rlent.proofs.Looking.{right_later, value_read, value_written}
-use Rattle.rlent.proofs.Turning.{seen_is, number_is, has_now, knows_now}
+use Rattle.rlent.proofs.seats.Turning.{seen_is, number_is, has_now, knows_now}
 
 -- a seat that holds something has a request
 request_of : (s : LockState) (n : ℕ) → is_not_holding s.claims n ≡ false → has_request s.claims n ≡ true

@@ -30,12 +30,12 @@ use Rattle.rstate.proofs.homes.Lists.{same_item, get_there}
 use Rattle.rlent.specs.Guards.{kind_for}
 use Rattle.rlent.specs.Seats.{SeatOf, IsOf, SuitsSeat, Goes, IsOneTurn, bare, is_busy}
 use Rattle.rlent.specs.Sections.{IsAs, Knows, WaitsFrom}
-use Rattle.rlent.proofs.Claims.{issued_next, may_rise_next, may_ask_next}
+use Rattle.rlent.proofs.seats.Claims.{issued_next, may_rise_next, may_ask_next}
 use Rattle.rlent.proofs.Ending.{sizes}
-use Rattle.rlent.proofs.Finding.{Finds}
-use Rattle.rlent.proofs.Idle.{idle_has_none}
+use Rattle.rlent.proofs.seats.Finding.{Finds}
+use Rattle.rlent.proofs.seats.Idle.{idle_has_none}
 use Rattle.rlent.proofs.Lending.{lent_nothing}
-use Rattle.rlent.proofs.Turning.{went, one_turn, seen_is, number_is, has_now, knows_now}
+use Rattle.rlent.proofs.seats.Turning.{went, one_turn, seen_is, number_is, has_now, knows_now}
 
 -- The seat `k` of the lock has entered, and found this state
 module _ {V E : Type 0} (after : V → E → V) (taken : V → E → Bool) (number : V → ℕ) (site : Site) (k : SeatOf V E) (found : Contents V E) (of : IsOf site k)

@@ -24,8 +24,8 @@ use Rattle.rstate.proofs.histories.Staying.{edits_none}
 use Rattle.rstate.proofs.homes.Lists.{same_item}
 use Rattle.rlent.specs.Seats.{SeatOf, is_busy}
 use Rattle.rlent.specs.Sections.{held_at, HasTaken, value_seen, ActsAreRight}
-use Rattle.rlent.proofs.Finding.{Finds, holding_later}
-use Rattle.rlent.proofs.Idle.{busy_push}
+use Rattle.rlent.proofs.seats.Finding.{Finds, holding_later}
+use Rattle.rlent.proofs.seats.Idle.{busy_push}
 use Rattle.rlent.proofs.Lending.{lent_same}
 use Rattle.rlent.proofs.Looking.{right_later, value_read, value_written}
 

@@ -1,9 +1,4 @@
-pub mod Claims
-pub mod Along
-pub mod Finding
-pub mod Idle
-pub mod Turning
-pub mod Acting
+pub mod seats
 pub mod Lending
 pub mod Looking
 pub mod Ending
@@ -12,6 +7,5 @@ pub mod Reading
 pub mod Copying
 pub mod Editing
 pub mod Sharing
-pub mod Halves
 pub mod Rising
 pub mod Asking

@@ -30,9 +30,9 @@ use Rattle.rlent.specs.declared.kind.GuardKind.TheVariants.{Read, Write, Rise, N
 use Rattle.rlent.specs.Guards.{IsReady}
 use Rattle.rlent.specs.Seats.{SeatOf}
 use Rattle.rlent.specs.Sections.{held_at, HasTaken, IsAs, value_seen, AreCopies, HasLent, Knows, ActsAreRight, HoldsFrom, WaitsFrom}
-use Rattle.rlent.proofs.Acting.{held_more, places_held, answers_same}
-use Rattle.rlent.proofs.Claims.{is_of, of_seat, may_rise_by, may_ask_by, of_seat_and}
-use Rattle.rlent.proofs.Finding.{Finds, lock_is, within_later, value_later, claim_later}
+use Rattle.rlent.proofs.seats.Acting.{held_more, places_held, answers_same}
+use Rattle.rlent.proofs.seats.Claims.{is_of, of_seat, may_rise_by, may_ask_by, of_seat_and}
+use Rattle.rlent.proofs.seats.Finding.{Finds, lock_is, within_later, value_later, claim_later}
 use Rattle.rlent.proofs.Lending.{lent_same, within_reads, within_writes}
 
 module _ {V E : Type 0} (after : V → E → V) (taken : V → E → Bool) (number : V → ℕ) (b : Beginning V) (k : SeatOf V E) (found : Contents V E) (f : Finds after taken number b k found) where

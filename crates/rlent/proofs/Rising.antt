@@ -26,13 +26,13 @@ use Rattle.rlent.specs.Sections.{no_loans}
 use Rattle.rlent.specs.declared.kind.GuardKind.TheVariants as kinds
 use Rattle.rlent.specs.Seats.{SeatOf}
 use Rattle.rlent.specs.Sections.{SectionFields, held_at, AreShows, value_seen, HoldsFrom, WaitsFrom}
-use Rattle.rlent.proofs.Claims.{may_rise_by, of_seat_and}
+use Rattle.rlent.proofs.seats.Claims.{may_rise_by, of_seat_and}
 use Rattle.rlent.proofs.Ending.{follows, there_now}
-use Rattle.rlent.proofs.Finding.{Finds, claim_later, holding_later, reached_now}
-use Rattle.rlent.proofs.Halves.{has_half, risen_next}
+use Rattle.rlent.proofs.seats.Finding.{Finds, claim_later, holding_later, reached_now}
+use Rattle.rlent.proofs.seats.Halves.{has_half, risen_next}
 use Rattle.rlent.proofs.Lending.{lent_same, lent_nothing}
 use Rattle.rlent.proofs.Looking.{value_read, value_written}
-use Rattle.rlent.proofs.Turning.{seen_is, number_is, has_now, knows_now}
+use Rattle.rlent.proofs.seats.Turning.{seen_is, number_is, has_now, knows_now}
 
 -- shows may stand with a rise
 shows_stand : {E : Type 0} (n : ℕ) (acts : List (Act E)) → AreShows acts → AllByRecursion (λ act. IsTrue (stands_with (Rise n) act)) acts

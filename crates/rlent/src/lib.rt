@@ -4,6 +4,7 @@
 mod copies;
 mod counted;
 mod kind;
+mod opening;
 mod section;
 mod turns;
 

@@ -2,7 +2,7 @@
 ghost use Rattle.std.specs.Prelude.{◌≡◌, true, false, ◌∷◌, [], IfOk, IfErr, OnOk};
 ghost use Rattle.rclaim.specs.declared.event.Event.TheVariants.{Issue, Rise, Ask};
 ghost use Rattle.rlent.specs.Seats.{IsOf, IsIdle, SuitsSeat, Goes, IsOneTurn, bare};
-ghost use Rattle.rlent.specs.Guards.{IsPartOf, KeepsValues, kind_for};
+ghost use Rattle.rlent.specs.Guards.{IsPartOf, IsReady, KeepsValues, kind_for};
 ghost use Rattle.rlent.specs.Sections.{HasRoom, Holds, Waits, HasLooked, guarded, no_loans};
 ghost use Rattle.rlent.specs.declared.kind.GuardKind.{GuardKind};
 
@@ -16,6 +16,7 @@ use rstate::{Lent, State};
 use rvalue::Editable;
 use std::alloc::{AllocError, Global};
 use std::sync::Wait;
+use std::thread;
 
 impl<'a, T: Editable, M: Machine> Section<'a, T, M> {
     /// A seat issues a request, in one turn, and waits for it, with this room for what it is going to be lent.
@@ -102,6 +103,27 @@ impl<'a, T: Editable, M: Machine> Section<'a, T, M> {
         }
     }
 
+    /// Looks, and lets another thread have this processor, in turn, until nothing of the seat is pending. The section is that of a guard
+    /// then, to which all is lent that its seat holds. No memory is taken.
+    pub fn wait<R: Wait>(self, rt: &R) -> Section<'a, T, M>
+        requires { (kind : GuardKind) × Waits T.after T.taken T.number kind self }
+        ensures holds { (kind : GuardKind) → Waits T.after T.taken T.number kind self.entry → Holds T.after T.taken T.number kind result }
+        ensures same { (result.site ≡ self.entry.site) × (result.acts ≡ self.entry.acts) }
+        ensures goes { Goes self.entry.seat [] result.seat }
+        ensures ready { IsReady result.seat true }
+    {
+        let mut waiting = self;
+        for _ in rt.forever() {
+            match waiting.look(rt) {
+                Ok(section) => return section,
+                Err(section) => waiting = section,
+            }
+            // Whoever holds what is waited for may need this processor.
+            thread::yield_now();
+        }
+        unreachable!()
+    }
+
     /// Rises: the acts, which are shows, are told, and what is lent to the section comes home. It waits to write then, with this room for
     /// what it is going to be lent. No memory is taken.
     pub fn rise<R: Wait>(self, rt: &R, next: Lent<T>, alloc: Global) -> Section<'a, T, M>
@@ -135,12 +157,8 @@ impl<'a, T: Editable, M: Machine> Section<'a, T, M> {
         }
     }
 
-    /// Makes room for all that the section may be lent beside what it has.
-    ///
-    /// # Errors
-    ///
-    /// Want of memory. Nothing changes then that a guard shows.
-    pub fn reserve(&mut self) -> Result<(), AllocError>
+    // Makes room for all that the section may be lent beside what it has. At want of memory nothing changes that a guard shows.
+    fn reserve(&mut self) -> Result<(), AllocError>
         requires { Holds T.after T.taken T.number GuardKind.Nest self.old }
         ensures holds { Holds T.after T.taken T.number GuardKind.Nest self.new }
         ensures room { OnOk result (HasRoom self.new.lent) }
@@ -149,12 +167,35 @@ impl<'a, T: Editable, M: Machine> Section<'a, T, M> {
         self.lent.reserve(usize::from(RESOURCES))
     }
 
-    /// Asks for a further part, in one turn, for which there is room, and waits for it.
+    /// Asks for a further part, in one turn, and waits for it. All room is made before.
     ///
     /// # Errors
     ///
     /// Want of memory. Nothing was asked for then, and the section comes back.
     pub fn ask<R: Wait>(
+        self,
+        rt: &R,
+        set: ResourceSet,
+    ) -> Result<Section<'a, T, M>, (Section<'a, T, M>, AllocError)>
+        requires holds { Holds T.after T.taken T.number GuardKind.Nest self }
+        requires part { IsPartOf self.seat set }
+        ensures waits { IfOk result (Waits T.after T.taken T.number GuardKind.Nest) }
+        ensures same { IfOk result (λ s. (s.site ≡ self.entry.site) × (s.acts ≡ self.entry.acts)) }
+        ensures goes { IfOk result (λ s. Goes self.entry.seat (bare (Ask self.entry.seat.number set) ∷ []) s.seat) }
+        ensures turn { IfOk result (λ s. IsOneTurn self.entry.seat (bare (Ask self.entry.seat.number set) ∷ []) s.seat) }
+        ensures holds { IfErr result (λ e. Holds T.after T.taken T.number GuardKind.Nest e.0) }
+        ensures err { IfErr result (λ e. (e.0.site ≡ self.entry.site) × (e.0.acts ≡ self.entry.acts) × Goes self.entry.seat [] e.0.seat) }
+        ensures values { IfErr result (λ e. KeepsValues T.after (guarded self.entry) (guarded e.0)) }
+    {
+        let mut section = self;
+        match section.reserve() {
+            Ok(()) => section.ask_with_room(rt, set),
+            Err(e) => Err((section, e)),
+        }
+    }
+
+    // The same, where there is room.
+    fn ask_with_room<R: Wait>(
         self,
         rt: &R,
         set: ResourceSet,

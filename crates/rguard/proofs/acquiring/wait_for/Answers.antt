@@ -1,30 +1,26 @@
-use Rattle.std.proofs.Common.{◌≡◌, [], refl, sym, ap, subst, ◌∙◌}
-use Rattle.rguard.specs.Guards.{WaitFields}
-use Rattle.rguard.specs.Looks.{fields_of}
+use Rattle.std.proofs.Common.{true, [], sym, ap, subst, ◌∙◌}
+use Rattle.rguard.specs.Awaiting.{awaited_kind}
+use Rattle.rguard.specs.Guards.{GuardFields, WaitFields, IsReady}
+use Rattle.rguard.specs.Looks.{HasAwaited}
 use Rattle.rguard.specs.Seats.{Goes}
-use Rattle.rguard.proofs.Going.{goes_nowhere, goes_on}
 use Rattle.rguard.proofs.acquiring.wait_for.Goals as goal
 
-pub loop-init : goal.loop-init
-loop-init g c = (refl, goes_nowhere c.args.pending.seat)
+pub wait-section-requires-after_bounds : goal.wait-section-requires-after_bounds
+wait-section-requires-after_bounds g c κs within = (awaited_kind c.pending.inside.awaited, c.pending.invariant)
 
-pub returns-in-Ready : goal.returns-in-Ready
-returns-in-Ready g c =
-    let is = c.loop.invariant.0 in
-    record {
+pub guard_of-requires-after_bounds : goal.guard_of-requires-after_bounds
+guard_of-requires-after_bounds g c κs within = c.wait-section.ensures.holds (awaited_kind c.pending.inside.awaited) c.pending.invariant
+
+pub returns : goal.returns
+returns g c =
+    let fields = c.guard_of.ensures.fields in
+    subst (λ (w : WaitFields g.row.T.Denot g.row.T-Edit.Denot). HasAwaited w c.guard_of.result) c.pending.view_is
+    (record {
       awaited = record {
-        site = c.in-Ready.ensures.0.site ∙ ap (λ (w : WaitFields g.row.T.Denot g.row.T-Edit.Denot). w.site) is;
-        acts = c.in-Ready.ensures.0.acts ∙ ap (λ (w : WaitFields g.row.T.Denot g.row.T-Edit.Denot). w.acts) is;
-        kind = c.in-Ready.ensures.0.kind ∙ ap (λ (w : WaitFields g.row.T.Denot g.row.T-Edit.Denot). w.kind) is;
+        site = ap (λ (x : GuardFields g.row.T.Denot g.row.T-Edit.Denot). x.site) fields ∙ c.wait-section.ensures.same.0;
+        acts = ap (λ (x : GuardFields g.row.T.Denot g.row.T-Edit.Denot). x.acts) fields ∙ c.wait-section.ensures.same.1;
+        kind = c.guard_of.ensures.kind;
       };
-      goes = goes_on c.args.pending.seat c.loop.waiting.seat (fields_of c.in-Ready.guard).seat [] [] c.loop.invariant.1 c.in-Ready.ensures.1;
-      ready = c.in-Ready.ensures.3;
-    }
-
-pub loop-preserved : goal.loop-preserved
-loop-preserved g c =
-    let is = c.loop.invariant.0 in
-    let rests : c.rest-waiting.result ≡ c.in-NotYet.next = c.rest-waiting.ensures in (
-      rests ∙ c.in-NotYet.ensures.0 ∙ (λ i. record { site = (is i).site; seat = (sym rests i).seat; acts = (is i).acts; kind = (is i).kind }),
-      subst (λ (w : WaitFields g.row.T.Denot g.row.T-Edit.Denot). Goes c.args.pending.seat [] w.seat) (sym rests) (goes_on c.args.pending.seat c.loop.waiting.seat c.in-NotYet.next.seat [] [] c.loop.invariant.1 c.in-NotYet.ensures.1),
-    )
+      goes = subst (λ (x : GuardFields g.row.T.Denot g.row.T-Edit.Denot). Goes c.pending.inside.section.seat [] x.seat) (sym fields) c.wait-section.ensures.goes;
+      ready = subst (λ (x : GuardFields g.row.T.Denot g.row.T-Edit.Denot). IsReady x.seat true) (sym fields) c.wait-section.ensures.ready;
+    })

@@ -1,4 +1,4 @@
-use Rattle.std.proofs.Common.{◌<◌, map, subst, ◌∙◌}
+use Rattle.std.proofs.Common.{rules, ◌<◌, map, subst, ◌∙◌}
 use Rattle.std.specs.Arc.{arc_value}
 use Rattle.std.specs.Prelude.{slice_index_or}
 use Rattle.std.proofs.lemmas.List.{length-map}
@@ -14,3 +14,6 @@ pub returns-clause-seats : goal.returns-clause-seats
 returns-clause-seats g c = λ k d less.
     closed_by g.T.Editable.after g.T.Editable.taken g.T.Editable.number (slice_index_or c.args.seats.items k d) c.close-state.result c.into_parts-history.result.0.entries (map arc_value c.into_parts-history.result.1.items)
     (c.close-state.ensures.passes k d less) c.into_parts-history.ensures.entries c.into_parts-history.ensures.lawful (length-map c.into_parts-history.result.1.items arc_value ∙ c.into_parts-history.ensures.count) c.into_parts-history.ensures.values
+
+pub returns-clause-receipt : goal.returns-clause-receipt
+returns-clause-receipt g c = search rules

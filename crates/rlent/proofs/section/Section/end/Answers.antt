@@ -9,8 +9,8 @@ use Rattle.rstate.proofs.homes.Lists.{same_item, get_beside}
 use Rattle.rlent.specs.Seats.{Goes, IsOneTurn}
 use Rattle.rlent.specs.Sections.{SectionFields, Ends}
 use Rattle.rlent.proofs.Ending.{finish_follows, finish_home, idle_now}
-use Rattle.rlent.proofs.Finding.{Finds, finds}
-use Rattle.rlent.proofs.Turning.{went, one_turn, appends_one}
+use Rattle.rlent.proofs.seats.Finding.{Finds, finds}
+use Rattle.rlent.proofs.seats.Turning.{went, one_turn, appends_one}
 use Rattle.rlent.proofs.section.Section.end.Goals as goal
 
 pub finish-requires-clause-right : goal.finish-requires-clause-right

@@ -11,7 +11,7 @@ use Rattle.rlent.specs.Guards.{kind_for}
 use Rattle.rlent.specs.Seats.{SeatOf, Goes, bare, is_busy}
 use Rattle.rlent.specs.Sections.{WaitsFrom}
 use Rattle.rlent.proofs.Beginning.{may_issue, goes_on, takes_turn, waits_first}
-use Rattle.rlent.proofs.Turning.{appends_one, appends_none}
+use Rattle.rlent.proofs.seats.Turning.{appends_one, appends_none}
 use Rattle.rlent.proofs.section.Section.issue.Goals as goal
 
 pub issue-requires-after_bounds : goal.issue-requires-after_bounds

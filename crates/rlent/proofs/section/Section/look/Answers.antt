@@ -9,9 +9,9 @@ use Rattle.rstate.specs.Histories.{lock_after, IsLawfulFrom}
 use Rattle.rstate.proofs.homes.Lists.{same_item, get_here, get_beside}
 use Rattle.rlent.specs.Seats.{SeatOf, Goes, IsOneTurn}
 use Rattle.rlent.specs.Sections.{SectionFields, Waits}
-use Rattle.rlent.proofs.Finding.{Finds, finds}
+use Rattle.rlent.proofs.seats.Finding.{Finds, finds}
 use Rattle.rlent.proofs.Looking.{ready_seen, held_is, may_take_lent, may_take_room, waits_still, holds_now}
-use Rattle.rlent.proofs.Turning.{went, one_turn, seen_is, number_is, has_now, knows_now}
+use Rattle.rlent.proofs.seats.Turning.{went, one_turn, seen_is, number_is, has_now, knows_now}
 use Rattle.rlent.proofs.section.Section.look.Goals as goal
 
 pub take-requires-clause-lent : goal.take-requires-clause-lent

@@ -11,9 +11,9 @@ use Rattle.rstate.proofs.homes.Lists.{same_item, get_beside}
 use Rattle.rlent.specs.declared.kind.GuardKind.TheVariants as kinds
 use Rattle.rlent.specs.Seats.{Goes, IsOneTurn}
 use Rattle.rlent.specs.Sections.{SectionFields, Holds, WaitsFrom}
-use Rattle.rlent.proofs.Finding.{Finds, finds}
+use Rattle.rlent.proofs.seats.Finding.{Finds, finds}
 use Rattle.rlent.proofs.Rising.{rise_follows, rise_home, waits_to_write}
-use Rattle.rlent.proofs.Turning.{went, one_turn, appends_one}
+use Rattle.rlent.proofs.seats.Turning.{went, one_turn, appends_one}
 use Rattle.rlent.proofs.section.Section.rise.Goals as goal
 
 pub rise-requires-clause-right : goal.rise-requires-clause-right

@@ -1,0 +1,64 @@
+//! Kinds of guards as types.
+ghost use Rattle.std.specs.Prelude.{◌≡◌, true, refl};
+ghost use Rattle.rlent.specs.Sections.{may_edit, no_loans};
+ghost use Rattle.rlent.specs.declared.kind.GuardKind.{GuardKind};
+ghost use Rattle.rlent.specs.declared.kind.GuardKind.TheVariants.{Read, Write, Rise, Nest};
+
+use rstate::Lent;
+use std::alloc::Global;
+
+/// A kind of guards, as a type: what a guard of the kind has beside its section.
+pub trait Guarding: Drop {
+    /// The kind.
+    ghost kind: { GuardKind };
+}
+
+/// A kind whose guards may edit.
+pub trait Editing: Guarding {
+    /// They may.
+    ghost may: { may_edit Self.kind ≡ true };
+}
+
+/// A guard that reads has its section alone.
+#[derive(Drop)]
+pub struct Reading;
+
+/// So has one that writes.
+#[derive(Drop)]
+pub struct Writing;
+
+/// When an upgrade rises it gives back what it was lent, and is lent other values then: the room for these.
+#[derive(Drop)]
+pub struct Rising<T> {
+    pub(crate) next: Lent<T>,
+    pub(crate) alloc: Global,
+    ghost room: { next ≡ no_loans },
+}
+
+/// A guard of a nested request has its section alone.
+#[derive(Drop)]
+pub struct Nesting;
+
+impl Guarding for Reading {
+    ghost kind = { Read };
+}
+
+impl Guarding for Writing {
+    ghost kind = { Write };
+}
+
+impl<T: Drop> Guarding for Rising<T> {
+    ghost kind = { Rise };
+}
+
+impl Guarding for Nesting {
+    ghost kind = { Nest };
+}
+
+impl Editing for Writing {
+    ghost may = { refl };
+}
+
+impl Editing for Nesting {
+    ghost may = { refl };
+}
