@@ -83,6 +83,9 @@ fn put_length(page: &mut [u8], at: usize, len: u32) -> usize
     ensures text { take result page.new ≡ take at page.old ++ (behind_comma (decimal len) ++ 10 ∷ []) }
     ensures end { result ≤ at + 42 }
 {
+    if len < 10 {
+        return put(page, at, [b',', b'0' + len as u8, b'\n']);
+    }
     let at = put_number(page, at, u64::from(len));
     put(page, at, *b"\n")
 }

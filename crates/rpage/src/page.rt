@@ -240,7 +240,9 @@ fn make_room(bytes: &mut Vec<u8>, used: usize) -> Result<(), AllocError>
     lengthen(bytes, used)
 }
 
-// Makes the bytes longer by room for lines.
+// Makes the bytes longer by room for lines. It is left out of the path of each line.
+#[cold]
+#[inline(never)]
 fn lengthen(bytes: &mut Vec<u8>, used: usize) -> Result<(), AllocError>
     requires { used ≤ vec_len bytes.old }
     ensures front { take used bytes.new.items ≡ take used bytes.old.items }

@@ -6,6 +6,7 @@ use Rattle.rexpand.specs.Groups.{ReadGroups}
 use Rattle.rclaim.specs.Requests.{IsNormal}
 use Rattle.rclaim.specs.declared.event.Event.{Event}
 use Rattle.rclaim.specs.declared.event.Event.TheVariants.{Issue, Finish, Rise, Ask}
+use Rattle.rclaim.specs.declared.request.RequestErr.{RequestErr}
 use Rattle.rmodel.specs.Changes.{changes_between}
 use Rattle.rmodel.specs.Claims.{is_admitted}
 use Rattle.rplain.specs.Machine.{Standing}
@@ -21,6 +22,8 @@ use Rattle.rforms.specs.SoFar.{SoFar, names_in, at_tasks, at_changes, at_ledgers
 use Rattle.rforms.specs.Faults.{line_code, code_of, is_change_due}
 use Rattle.rforms.specs.declared.fault.Code.{Code}
 use Rattle.rforms.specs.declared.fault.Code.TheVariants.{BadOrder, WrongChange}
+use Rattle.rrecords.specs.Told.{IsTold}
+use Rattle.rrecords.specs.declared.event.EventTold.TheVariants as event_told
 use Rattle.rreading.specs.declared.reading.Reading.{Reading}
 use Rattle.rreading.specs.declared.taken.Taken.{Taken}
 use Rattle.rreading.specs.declared.taken.Taken.TheVariants as taken
@@ -74,6 +77,11 @@ abbrev pub IsReady : Reading → Type 0
 IsReady reading = (whole : Bool) × (s : SoFar) × Knows whole reading s × (length (entries_in s) < 2 ^ 62)
 
 -- ---- events
+
+-- what was taken is this event, in normal form; or its request is refused by itself for this cause
+abbrev pub IsKept : Option RequestErr → Taken → Event → Type 0
+IsKept None what e = (what ≡ taken.Event e) × IsTold (event_told.Event e) e
+IsKept (Some cause) what e = IsTold (event_told.Refused cause) e
 
 -- an event is one that a caller may ask for, if its request is admitted
 abbrev pub FitsTold : LockState → Event → Type 0

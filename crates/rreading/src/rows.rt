@@ -1,23 +1,26 @@
 // Taking records: each is read as a line, and the line is taken.
-ghost use Rattle.std.specs.Prelude.{◌≡◌, ◌<◌, ◌==◌, false, Bool, true, length, Some, OnOk};
+ghost use Rattle.std.specs.Prelude.{◌≡◌, ◌<◌, ◌==◌, false, Bool, true, length, Some, OnOk, IfOk, IfErr};
 ghost use Rattle.csv.specs.Records.{fields_of};
 ghost use Rattle.rexpand.specs.declared.TheConstants.{GROUPS};
+ghost use Rattle.rclaim.specs.declared.event.Event.{Event};
+ghost use Rattle.rforms.specs.Lines.{Happens};
 ghost use Rattle.rforms.specs.SoFar.{SoFar};
 ghost use Rattle.rforms.specs.Words.{word_in};
 ghost use Rattle.rforms.specs.declared.fault.Code.{Code};
-ghost use Rattle.rrecords.specs.Told.{is_event, is_act, is_status, is_wait};
+ghost use Rattle.rrecords.specs.Told.{IsOf, Says, IsWrong, names_by, is_event, is_act, is_status, is_wait};
 ghost use Rattle.rreading.specs.Knows.{Knows};
-ghost use Rattle.rreading.specs.Takes.{TakesRow, RefusesRow, TellsBound, IsReady};
+ghost use Rattle.rreading.specs.Takes.{TakesRow, RefusesRow, TellsBound, IsReady, IsKept};
 
 use crate::place::{AT_CHANGES, AT_TASKS};
 use crate::reading::Reading;
 use crate::taken::{BoundTold, Taken};
 use csv::ByteRecord;
-use rclaim::Event;
+use rclaim::{Event, RequestErr};
 use rexpand::GROUPS;
 use rforms::{Code, Refusal, RowErr, Stage, Word, field_of, word_in};
 use rrecords::{
-    EventTold, act_of, cap_of, change_of, event_of, grant_of, group_of, ledger_of, wait_of,
+    EventTold, act_of, cap_of, change_of, event_of, finish_of, grant_of, group_of, ledger_of,
+    wait_of,
 };
 use std::alloc::Global;
 
@@ -130,24 +133,51 @@ impl Reading {
         ensures bound { OnOk result (TellsBound self.old (fields_of fields.now) taken.new) }
         ensures bad { (code : Code) → result ≡ Err (RowErr.Bad code) → RefusesRow self.old (fields_of fields.now) code }
     {
-        let told = match event_of(&self.resources, &self.tasks, word, fields) {
-            Ok(told) => told,
+        let refused = match self.keep_event(word, fields, taken) {
+            Ok(refused) => refused,
             Err(code) => return Err(RowErr::Bad(code)),
         };
         if let Some(code) = self.misplaced(AT_TASKS, AT_CHANGES) {
             return Err(RowErr::Bad(code));
         }
-        match told {
-            EventTold::Event(event) => {
-                keep(taken, event);
-                match &*taken {
-                    Taken::Event(event) => self.happen(alloc, event),
-                    _ => unreachable!(),
+        if let Some(cause) = refused {
+            return Err(RowErr::Bad(Code::Refused(Refusal::Request(cause))));
+        }
+        match &*taken {
+            Taken::Event(event) => self.happen(alloc, event),
+            _ => unreachable!(),
+        }
+    }
+
+    // Keeps the event that a record tells, or answers what refuses its request whatever read groups there are. A finish, which
+    // has a seat alone, is kept by itself: else each finish would pay for what a request has.
+    fn keep_event(
+        &self,
+        word: Word,
+        fields: &ByteRecord,
+        taken: &mut Taken,
+    ) -> Result<Option<RequestErr>, Code>
+        requires form { IsOf word (fields_of fields.now) }
+        requires event { is_event word ≡ true }
+        ensures kept { IfOk result (λ refused. (e : Event) × Says (names_by self.now.resources self.now.tasks) word (fields_of fields.now) (Happens e) × IsKept refused taken.new e) }
+        ensures wrong { IfErr result (λ code. IsWrong (names_by self.now.resources self.now.tasks) word (fields_of fields.now) code) }
+    {
+        if let Word::Finish = word {
+            return match finish_of(&self.resources, &self.tasks, fields) {
+                Ok(seat) => {
+                    keep(taken, Event::Finish { seat });
+                    Ok(None)
                 }
+                Err(code) => Err(code),
+            };
+        }
+        match event_of(&self.resources, &self.tasks, word, fields) {
+            Ok(EventTold::Event(event)) => {
+                keep(taken, event);
+                Ok(None)
             }
-            EventTold::Refused(cause) => {
-                Err(RowErr::Bad(Code::Refused(Refusal::Request(cause))))
-            }
+            Ok(EventTold::Refused(cause)) => Ok(Some(cause)),
+            Err(code) => Err(code),
         }
     }
 

@@ -1,5 +1,5 @@
 -- What the record of an issue says, from its sets and its lengths.
-use Rattle.std.proofs.Common.{◌≡◌, ℕ, true, false, not, ◌&&◌, List, Option, Some, None, refl, sym, ap, subst}
+use Rattle.std.proofs.Common.{◌≡◌, ℕ, true, false, not, ◌&&◌, List, Option, Some, None, refl, sym, ap, subst, true≢false}
 use Rattle.std.specs.Prelude.{is_none, option_map, option_and_then}
 use Rattle.rset.specs.Names.{number_in}
 use Rattle.rset.specs.Sets.{Set}
@@ -18,7 +18,7 @@ use Rattle.rforms.proofs.facts.Choices.{some_none, and_then_some, map_some}
 use Rattle.rrecords.specs.declared.requests.RequestSets.{RequestSets}
 use Rattle.rrecords.specs.declared.requests.RequestLengths.{RequestLengths}
 use Rattle.rrecords.specs.Requests.{no_part, with_part, request_sets, request_lengths, request_told}
-use Rattle.rrecords.specs.Told.{names_by, IsOf, Says, IsUnknown}
+use Rattle.rrecords.specs.Told.{names_by, IsOf, Says, IsUnknown, is_plain}
 use Rattle.rrecords.proofs.Lengths.{AreLengths, lengths_are, none_one, none_two}
 use Rattle.rrecords.proofs.Places.{read_at, counted_at, says_at, unknown_at, uncounted_at}
 
@@ -53,6 +53,35 @@ three_none None p q rest h = refl
 three_none (Some s) None q rest h = refl
 three_none (Some s) (Some t) None rest h = refl
 three_none (Some s) (Some t) (Some u) rest h = absurd (some_none (sym h))
+
+-- the lengths and the sets of a record that has one of each
+pub plain_lengths : (kind : Kind) (row : Row) (len : ℕ) → is_plain kind ≡ true → length_told (field_of row 4) ≡ Some len → request_lengths kind 3 row ≡ Some (record { len = len; later = 0 })
+plain_lengths Read row len plain told = ap (option_and_then (λ len. Some (record { len = len; later = 0 }))) told
+plain_lengths Write row len plain told = ap (option_and_then (λ len. Some (record { len = len; later = 0 }))) told
+plain_lengths Mixed row len plain told = absurd (true≢false (sym plain))
+plain_lengths Upgrade row len plain told = absurd (true≢false (sym plain))
+plain_lengths Nested row len plain told = absurd (true≢false (sym plain))
+
+pub plain_uncounted : (kind : Kind) (row : Row) → is_plain kind ≡ true → length_told (field_of row 4) ≡ None → request_lengths kind 3 row ≡ None
+plain_uncounted Read row plain told = ap (option_and_then (λ len. Some (record { len = len; later = 0 }))) told
+plain_uncounted Write row plain told = ap (option_and_then (λ len. Some (record { len = len; later = 0 }))) told
+plain_uncounted Mixed row plain told = absurd (true≢false (sym plain))
+plain_uncounted Upgrade row plain told = absurd (true≢false (sym plain))
+plain_uncounted Nested row plain told = absurd (true≢false (sym plain))
+
+pub plain_sets : (rs : List (List ℕ)) (kind : Kind) (row : Row) (set : Set) → is_plain kind ≡ true → set_told rs (field_of row 3) ≡ Some set → request_sets rs kind 3 row ≡ Some (no_part set set)
+plain_sets rs Read row set plain told = ap (option_map (λ s. no_part s s)) told
+plain_sets rs Write row set plain told = ap (option_map (λ s. no_part s s)) told
+plain_sets rs Mixed row set plain told = absurd (true≢false (sym plain))
+plain_sets rs Upgrade row set plain told = absurd (true≢false (sym plain))
+plain_sets rs Nested row set plain told = absurd (true≢false (sym plain))
+
+pub plain_unknown : (rs : List (List ℕ)) (kind : Kind) (row : Row) → is_plain kind ≡ true → set_told rs (field_of row 3) ≡ None → request_sets rs kind 3 row ≡ None
+plain_unknown rs Read row plain told = ap (option_map (λ s. no_part s s)) told
+plain_unknown rs Write row plain told = ap (option_map (λ s. no_part s s)) told
+plain_unknown rs Mixed row plain told = absurd (true≢false (sym plain))
+plain_unknown rs Upgrade row plain told = absurd (true≢false (sym plain))
+plain_unknown rs Nested row plain told = absurd (true≢false (sym plain))
 
 module _ (rs ts : List (List ℕ)) (row : Row) where
   pub issue_uncounted : (kind : Kind) → IsOf (word.Issue kind) row → request_lengths kind 3 row ≡ None → all_counted (fields_of (word.Issue kind)) row ≡ false

@@ -54,10 +54,13 @@ module _ (rs ts : List (List ℕ)) (row : Row) where
   pub ask_unknown : (seat : ℕ) → IsOf word.Ask row → number_in ts (field_of row 1) ≡ Some seat → set_told rs (field_of row 2) ≡ None → IsUnknown (names_by rs ts) word.Ask row
   ask_unknown seat form task members = unknown_at (names_by rs ts) word.Ask row form refl (λ i. paired (task i) (paired (members i) (Some tt)))
 
+  pub finish_unknown : IsOf word.Finish row → number_in ts (field_of row 1) ≡ None → IsUnknown (names_by rs ts) word.Finish row
+  finish_unknown form none = unknown_at (names_by rs ts) word.Finish row form refl (ap (λ o. paired o (Some tt)) none)
+
   -- an event that is no issue names a task that is not declared
   pub task_unknown : (w : Word) → is_event w ≡ true → ((kind : _) → w ≡ word.Issue kind → ⊥) → IsOf w row → number_in ts (field_of row 1) ≡ None → IsUnknown (names_by rs ts) w row
   task_unknown (word.Issue kind) h other form none = absurd (other kind refl)
-  task_unknown word.Finish h other form none = unknown_at (names_by rs ts) word.Finish row form refl (ap (λ o. paired o (Some tt)) none)
+  task_unknown word.Finish h other form none = finish_unknown form none
   task_unknown word.Rise h other form none = unknown_at (names_by rs ts) word.Rise row form refl (ap (λ o. paired o (Some tt)) none)
   task_unknown word.Ask h other form none = unknown_at (names_by rs ts) word.Ask row form refl (ap (λ o. paired o (paired (set_told rs (field_of row 2)) (Some tt))) none)
   task_unknown _ h other form none = absurd (true≢false (sym h))

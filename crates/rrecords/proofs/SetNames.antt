@@ -1,14 +1,23 @@
 -- Gathering the resources that the pieces of a field name, one after another.
-use Rattle.std.proofs.Common.{◌≡◌, ℕ, ◌+◌, ◌==◌, ◌<◌, ◌≤◌, true, false, cond, codes, List, length, drop, get_or, Some, None, refl, sym, ap, ◌∙◌}
+use Rattle.std.proofs.Common.{◌≡◌, ℕ, ◌+◌, ◌==◌, ◌<◌, ◌≤◌, Bool, true, false, cond, codes, List, [], ◌∷◌, length, drop, get_or, Some, None, refl, sym, ap, ◌∙◌}
 use Rattle.std.specs.Prelude.{option_and_then}
-use Rattle.std.specs.List.{slice_split}
+use Rattle.std.specs.List.{slice_split, list_any, onto_first}
 use Rattle.std.specs.Str.{bytes_eq}
 use Rattle.std.specs.FinSet.{empty, insert}
+use Rattle.std.proofs.lemmas.Bool.{or_parts}
 use Rattle.std.proofs.lemmas.List.{at_drop_more, at_drop_all}
+use Rattle.std.proofs.lemmas.List.Splits.{slice_split-cons_no}
 use Rattle.rset.specs.Sets.{Set, all_below}
 use Rattle.rset.specs.Names.{number_in}
 use Rattle.rset.proofs.SetLemmas.{all_below_empty, all_below_insert}
 use Rattle.rforms.specs.SetFields.{gather, set_told}
+
+-- where nothing is cut, there is one piece
+one_piece : (p : ℕ → Bool) (xs : List ℕ) → list_any p xs ≡ false → slice_split p xs ≡ xs ∷ []
+one_piece p [] h = refl
+one_piece p (x ∷ xs) h =
+    let parts = or_parts (p x) (list_any p xs) h in
+    slice_split-cons_no p x xs parts.0 ∙ ap (onto_first x) (one_piece p xs parts.1)
 
 -- the pieces before i have named the members of s
 pub record IsGathered (names pieces : List (List ℕ)) (i : ℕ) (s : Set) : Type 0 where
@@ -48,3 +57,11 @@ set_told-nothing names field dash is same = ap (λ b. cond b (Some empty) (gathe
 pub set_told-pieces : (names : List (List ℕ)) (field dash : List ℕ) → dash ≡ codes "-" → bytes_eq field dash ≡ false → set_told names field ≡ gather names empty (slice_split (λ b. b == 43) field)
 unfolding set_told
 set_told-pieces names field dash is other = ap (λ b. cond b (Some empty) (gather names empty (slice_split (λ b. b == 43) field))) (ap (bytes_eq field) (sym is) ∙ other)
+
+-- a field without `+` has one piece, which is the whole of it
+pub set_told-one : (names : List (List ℕ)) (field dash : List ℕ) → dash ≡ codes "-" → bytes_eq field dash ≡ false → list_any (λ b. b == 43) field ≡ false
+    → set_told names field ≡ option_and_then (λ n. Some (insert empty n)) (number_in names field)
+unfolding gather
+set_told-one names field dash is other one =
+    set_told-pieces names field dash is other
+    ∙ ap (gather names empty) (one_piece (λ b. b == 43) field one)

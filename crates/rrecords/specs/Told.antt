@@ -4,6 +4,8 @@ use Rattle.rset.specs.Sets.{Set}
 use Rattle.rclaim.specs.Events.{IsNormalEvent}
 use Rattle.rclaim.specs.declared.event.Event.{Event}
 use Rattle.rclaim.specs.declared.event.Event.TheVariants.{Issue}
+use Rattle.rclaim.specs.declared.request.Kind.{Kind}
+use Rattle.rclaim.specs.declared.request.Kind.TheVariants.{Read, Write, Mixed, Upgrade, Nested}
 use Rattle.rclaim.specs.declared.claim.Status.TheVariants.{Entitled, Satisfied}
 use Rattle.rclaim.specs.declared.changes.StatusChange.{StatusChange}
 use Rattle.rvalue.specs.declared.act.Act.{Act}
@@ -53,6 +55,14 @@ is_event word.Finish = true
 is_event word.Rise = true
 is_event word.Ask = true
 is_event _ = false
+
+-- a kind of request whose record has one set and one length
+abbrev pub is_plain : Kind → Bool
+is_plain Read = true
+is_plain Write = true
+is_plain Mixed = false
+is_plain Upgrade = false
+is_plain Nested = false
 
 -- a word of an act
 abbrev pub is_act : Word → Bool

@@ -5,14 +5,15 @@ ghost use Rattle.rset.specs.Sets.{Set};
 ghost use Rattle.rclaim.specs.Requests.{IsNormal};
 ghost use Rattle.rclaim.specs.declared.event.Event.{Event};
 ghost use Rattle.rforms.specs.Lines.{Happens};
-ghost use Rattle.rrecords.specs.Told.{IsOf, Says, IsWrong, IsTold, is_event, names_by};
+ghost use Rattle.rrecords.specs.Told.{IsOf, Says, IsWrong, IsTold, is_event, is_plain, names_by};
 
-use crate::requests::{lengths_of, request_of, sets_of};
+use crate::numbers::length_of;
+use crate::requests::{RequestLengths, RequestSets, lengths_of, request_of, sets_of};
 use crate::sets::set_of;
 use csv::ByteRecord;
 use rclaim::{Event, Kind, RequestErr};
 use rforms::{Code, Word, field_of};
-use rset::NameTable;
+use rset::{NameTable, ResourceSet};
 
 // The place of the first set in the record of an issue: behind its task and its kind.
 const FIRST_SET: u8 = 3;
@@ -58,6 +59,23 @@ pub fn event_of(
     }
 }
 
+/// The seat that the record of a finish tells, by the names that are declared. No memory is taken.
+///
+/// # Errors
+///
+/// `UnknownName` where its task is not declared.
+#[inline]
+pub fn finish_of(resources: &NameTable, tasks: &NameTable, fields: &ByteRecord) -> Result<u8, Code>
+    requires { IsOf Word.Finish (fields_of fields.now) }
+    ensures told { IfOk result (λ seat. Says (names_by resources.now tasks.now) Word.Finish (fields_of fields.now) (Happens (Event.Finish seat))) }
+    ensures wrong { IfErr result (λ code. IsWrong (names_by resources.now tasks.now) Word.Finish (fields_of fields.now) code) }
+{
+    match tasks.number_of(field_of(fields, 1)) {
+        Some(seat) => Ok(seat),
+        None => Err(Code::UnknownName),
+    }
+}
+
 // What the record of an issue of this kind tells.
 fn issue_of(
     resources: &NameTable,
@@ -69,6 +87,9 @@ fn issue_of(
     ensures told { IfOk result (λ told. (e : Event) × Says (names_by resources.now tasks.now) (Word.Issue kind) (fields_of fields.now) (Happens e) × IsTold told e) }
     ensures wrong { IfErr result (λ code. IsWrong (names_by resources.now tasks.now) (Word.Issue kind) (fields_of fields.now) code) }
 {
+    if is_plain(kind) {
+        return plain_issue_of(resources, tasks, kind, fields);
+    }
     let Some(lengths) = lengths_of(kind, fields, FIRST_SET) else {
         return Err(Code::BadField);
     };
@@ -78,6 +99,52 @@ fn issue_of(
     let Some(sets) = sets_of(resources, kind, fields, FIRST_SET) else {
         return Err(Code::UnknownName);
     };
+    match request_of(kind, &sets, &lengths) {
+        Ok(request) => Ok(EventTold::Event(Event::Issue { seat, request })),
+        Err(cause) => Ok(EventTold::Refused(cause)),
+    }
+}
+
+// Whether the record of a request of this kind has one set and one length.
+#[inline]
+fn is_plain(kind: Kind) -> bool
+    ensures { result ≡ is_plain kind }
+{
+    match kind {
+        Kind::Read | Kind::Write => true,
+        Kind::Mixed | Kind::Upgrade | Kind::Nested => false,
+    }
+}
+
+// The same of an issue whose record has one set and one length. Most issues are of these kinds: each field has its place
+// here, and nothing is asked of the kind.
+#[inline]
+fn plain_issue_of(
+    resources: &NameTable,
+    tasks: &NameTable,
+    kind: Kind,
+    fields: &ByteRecord,
+) -> Result<EventTold, Code>
+    requires form { IsOf (Word.Issue kind) (fields_of fields.now) }
+    requires plain { is_plain kind ≡ true }
+    ensures told { IfOk result (λ told. (e : Event) × Says (names_by resources.now tasks.now) (Word.Issue kind) (fields_of fields.now) (Happens e) × IsTold told e) }
+    ensures wrong { IfErr result (λ code. IsWrong (names_by resources.now tasks.now) (Word.Issue kind) (fields_of fields.now) code) }
+{
+    let Some(len) = length_of(field_of(fields, 4)) else {
+        return Err(Code::BadField);
+    };
+    let Some(seat) = tasks.number_of(field_of(fields, 1)) else {
+        return Err(Code::UnknownName);
+    };
+    let Some(set) = set_of(resources, field_of(fields, 3)) else {
+        return Err(Code::UnknownName);
+    };
+    let sets = RequestSets {
+        reads: set,
+        writes: set,
+        first: ResourceSet::empty(),
+    };
+    let lengths = RequestLengths { len, later: 0 };
     match request_of(kind, &sets, &lengths) {
         Ok(request) => Ok(EventTold::Event(Event::Issue { seat, request })),
         Err(cause) => Ok(EventTold::Refused(cause)),

@@ -14,7 +14,7 @@ mod state;
 mod wait;
 
 pub use act::act_of;
-pub use event::{EventTold, event_of};
+pub use event::{EventTold, event_of, finish_of};
 pub use numbers::{cap_of, length_of, number_of};
 pub use requests::{RequestLengths, RequestSets, lengths_of, request_of, sets_of};
 pub use sets::{group_of, set_of};

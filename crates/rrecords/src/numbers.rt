@@ -43,6 +43,9 @@ fn cap_within(number: u64) -> Option<u8>
 pub fn number_of(field: &[u8]) -> Option<u64>
     ensures { result ≡ number_told field.now }
 {
+    if let [digit] = field {
+        return with_digit(0, *digit);
+    }
     if field.is_empty() || field.len() > 20 {
         return None;
     }

@@ -1,5 +1,7 @@
 // The sets of resources that fields name.
-ghost use Rattle.std.specs.Prelude.{◌≡◌, IfSome, IfOk, IfErr, IsTrue, length};
+ghost use Rattle.std.specs.Prelude.{◌≡◌, ◌==◌, IfSome, IfOk, IfErr, IsTrue, length, codes, false};
+ghost use Rattle.std.specs.List.{list_any};
+ghost use Rattle.std.specs.Str.{bytes_eq};
 ghost use Rattle.csv.specs.Records.{fields_of};
 ghost use Rattle.rset.specs.Sets.{all_below};
 ghost use Rattle.rforms.specs.SetFields.{set_told};
@@ -15,10 +17,31 @@ pub fn set_of(names: &NameTable, field: &[u8]) -> Option<ResourceSet>
     ensures value { result ≡ set_told names.now field.now }
     ensures below { IfSome result (λ set. IsTrue (all_below (length names.now) set)) }
 {
-    let mut set = ResourceSet::empty();
     if field == b"-".as_slice() {
-        return Some(set);
+        return Some(ResourceSet::empty());
     }
+    if is_joined(field) {
+        return joined_of(names, field);
+    }
+    Some(ResourceSet::one(names.number_of(field)?))
+}
+
+// Whether a field joins several names.
+#[inline]
+fn is_joined(field: &[u8]) -> bool
+    ensures { result ≡ list_any (λ b. b == 43) field.now }
+{
+    field.iter().any(|byte| *byte == b'+')
+}
+
+// The set that several names name; None where one of them is not declared. It is left out of the path of one name.
+#[inline(never)]
+fn joined_of(names: &NameTable, field: &[u8]) -> Option<ResourceSet>
+    requires { bytes_eq field.now (codes "-") ≡ false }
+    ensures value { result ≡ set_told names.now field.now }
+    ensures below { IfSome result (λ set. IsTrue (all_below (length names.now) set)) }
+{
+    let mut set = ResourceSet::empty();
     for name in field.split(|byte| *byte == b'+') {
         set = set.with(names.number_of(name)?);
     }

@@ -57,6 +57,7 @@ impl Gathered {
 
     // The same of an event that ended waits. Room for their keys is made first: were the two ways alike at their beginning, they
     // would be made one, and an event that ends none would pay for both.
+    #[inline(never)]
     fn tell_ended(&mut self, event: &Event, ended: &[WaitEnd]) -> Result<(), AllocError>
         requires { (p : Past) × (ws : List WaitEnd) × KnowsGathered self.old p ws × ComesNext p event.now ended.now }
         ensures { OnOk result ((p : Past) (ws : List WaitEnd) → KnowsGathered self.old p ws → ComesNext p event.now ended.now → KnowsGathered self.new (with_event p event.now) (ws ++ ended.now)) }

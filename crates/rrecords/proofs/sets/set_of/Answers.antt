@@ -1,10 +1,9 @@
-use Rattle.std.proofs.Common.{◌==◌, sym, subst₂, ◌∙◌, arith, rules, tests}
-use Rattle.std.specs.List.{slice_split}
-use Rattle.std.proofs.lemmas.List.{length_push}
-use Rattle.std.proofs.lemmas.Iterator.Consumers.{YieldsList-turn, YieldsList-end}
-use Rattle.std.proofs.lemmas.Iterator.Splits.{YieldsList-from_slice_split}
-use Rattle.rset.proofs.SetLemmas.{all_below_empty}
-use Rattle.rrecords.proofs.SetNames.{IsGathered, gathered-none, gathered-more, gathered-unknown, gathered-all, set_told-nothing, set_told-pieces}
+use Rattle.std.proofs.Common.{◌≡◌, Some, None, length, sym, ap, ◌∙◌}
+use Rattle.std.specs.Prelude.{option_and_then}
+use Rattle.std.specs.FinSet.{empty, insert}
+use Rattle.rforms.specs.SetFields.{set_told}
+use Rattle.rset.proofs.SetLemmas.{all_below_empty, all_below_insert}
+use Rattle.rrecords.proofs.SetNames.{set_told-nothing, set_told-one}
 use Rattle.rrecords.proofs.sets.set_of.Goals as goal
 
 pub returns-then-eq-clause-value : goal.returns-then-eq-clause-value
@@ -13,34 +12,19 @@ returns-then-eq-clause-value c =
     cc
 
 pub returns-then-eq-clause-below : goal.returns-then-eq-clause-below
-returns-then-eq-clause-below c = rw c.empty-set.ensures (all_below_empty _)
-
-pub loop-name-init : goal.loop-name-init
-loop-name-init c = rw c.empty-set.ensures (gathered-none _ _)
+returns-then-eq-clause-below c = rw c.empty.ensures (all_below_empty _)
 
 pub returns-in_err-number_of-clause-value : goal.returns-in_err-number_of-clause-value
 returns-in_err-number_of-clause-value c =
-    let turn = YieldsList-turn (YieldsList-from_slice_split {s = c.into_iter-name-iterator.result} _ (λ b. b == 43) c.args.field.now (cc) (cc) (cc) (λ x r q k. search (rules, tests)))
-    c.loop-name.yielded _ c.loop-name.yielded_by _ _ c.in-Some.name c.in-Some.is c.next.ensures.steps in
-    let pieces = set_told-pieces c.args.names.now c.args.field.now _ c.as_slice.ensures (sym c.eq.ensures ∙ c.if-eq.false) in
-    let unknown = gathered-unknown c.loop-name.invariant c.in-Some.name.now turn.0 turn.1 (sym c.in_err-number_of.ensures.value) in
+    let none : set_told c.args.names.now c.args.field.now ≡ None =
+    set_told-one c.args.names.now c.args.field.now _ c.as_slice.ensures (sym c.eq.ensures ∙ c.if-eq.false) (sym c.is_joined.ensures ∙ c.if-is_joined.false)
+    ∙ ap (option_and_then (λ n. Some (insert empty n))) (sym c.in_err-number_of.ensures.value) in
     cc
-
-pub loop-name-preserved : goal.loop-name-preserved
-loop-name-preserved c =
-    let turn = YieldsList-turn (YieldsList-from_slice_split {s = c.into_iter-name-iterator.result} _ (λ b. b == 43) c.args.field.now (cc) (cc) (cc) (λ x r q k. search (rules, tests)))
-    c.loop-name.yielded _ c.loop-name.yielded_by _ _ c.in-Some.name c.in-Some.is c.next.ensures.steps in
-    let more = gathered-more c.loop-name.invariant c.in-Some.name.now c.in_ok-number_of.field-0 turn.0 turn.1 (sym c.in_ok-number_of.ensures.value) c.in_ok-number_of.ensures.below in
-    subst₂ (λ i s. IsGathered c.args.names.now (slice_split (λ b. b == 43) c.args.field.now) i s)
-    (sym (length_push c.loop-name.yielded c.in-Some.name)) (sym c.with-set.ensures) more
 
 pub returns-clause-value : goal.returns-clause-value
 returns-clause-value c =
-    let end = YieldsList-end (YieldsList-from_slice_split {s = c.into_iter-name-iterator.result} _ (λ b. b == 43) c.args.field.now (cc) (cc) (cc) (λ x r q k. search (rules, tests)))
-    c.loop-name.yielded _ c.loop-name.yielded_by _ _ c.in-None.is c.next.ensures.steps in
-    let pieces = set_told-pieces c.args.names.now c.args.field.now _ c.as_slice.ensures (sym c.eq.ensures ∙ c.if-eq.false) in
-    let all = gathered-all c.loop-name.invariant (omega (arith, end.1)) in
-    cc
+    let one = set_told-one c.args.names.now c.args.field.now _ c.as_slice.ensures (sym c.eq.ensures ∙ c.if-eq.false) (sym c.is_joined.ensures ∙ c.if-is_joined.false) in
+    ap Some c.one.ensures ∙ sym (one ∙ ap (option_and_then (λ n. Some (insert empty n))) (sym c.in_ok-number_of.ensures.value))
 
 pub returns-clause-below : goal.returns-clause-below
-returns-clause-below c = c.loop-name.invariant.below
+returns-clause-below c = rw c.one.ensures (all_below_insert (length c.args.names.now) empty c.in_ok-number_of.field-0 (all_below_empty _) c.in_ok-number_of.ensures.below)

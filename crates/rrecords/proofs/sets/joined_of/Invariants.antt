@@ -1,7 +1,7 @@
 use Rattle.std.proofs.Common.{length, ◌==◌}
 use Rattle.std.specs.List.{slice_split}
 use Rattle.rrecords.proofs.SetNames.{IsGathered}
-use Rattle.rrecords.proofs.sets.set_of.Given as goal
+use Rattle.rrecords.proofs.sets.joined_of.Given as goal
 
 -- the pieces so far have named the members of the set
 abbrev pub invariant-loop-name : goal.invariant-loop-name
