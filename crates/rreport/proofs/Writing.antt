@@ -28,6 +28,11 @@ pub when_ok : {T E P : Type 0} (r : Result T E) (v : T) → r ≡ Ok v → OnOk 
 when_ok {T} {E} {P} r v is said = subst (λ (s : Result T E). OnOk s P) is said
 
 module _ (a b : List ℕ) where
+  -- the first, and then the second, are both
+  pub appends_both : (before between after : Option (List ℕ)) → Appends before between a → Appends between after b → Appends before after (a ++ b)
+  appends_both None between after whole more = tt
+  appends_both (Some w) between after whole more = (rw whole at more) ∙ ap Some (append_assoc w a b)
+
   -- a front part of the first is one of both
   pub prefix_before : (before after : Option (List ℕ)) → AppendsPrefix before after a → AppendsPrefix before after (a ++ b)
   prefix_before None after p = (p.0, omega (arith, p.1, length-append a b), tt)

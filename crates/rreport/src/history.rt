@@ -5,6 +5,7 @@ ghost use Rattle.rcover.specs.Ended.{ended_by};
 ghost use Rattle.rcover.specs.declared.wait_end.WaitEnd.{WaitEnd};
 ghost use Rattle.rmodel.specs.Changes.{changes_between};
 ghost use Rattle.rmodel.specs.Steps.{Comes, next};
+ghost use Rattle.rwaits.specs.Follows.{Follows};
 ghost use Rattle.rwaits.specs.Past.{Past, start_of, state_of, with_event};
 ghost use Rattle.rforms.specs.Reports.{history_lines, IsLawful};
 ghost use Rattle.rforms.specs.Waits.{bound_in, no_bounds, all_ended};
@@ -38,20 +39,65 @@ pub fn history_of(alloc: Global, names: &NameRows, report: &Report) -> Result<Pa
     requires over { IsOverResources report.now }
     ensures { IfOk result (λ page. page ≡ told names.now (history_lines true (bound_in (told_by report.now).head report.now.entries) (told_by report.now).head [] report.now.entries)) }
 {
+    let mut gathered = Gathered::new(alloc, report.tasks.len())?;
+    history_with(alloc, names, &mut gathered, report)
+}
+
+// The same by what was told no event. What a function here owns it lends to the next one, so that to each there is one way
+// out on which it is dropped.
+fn history_with(
+    alloc: Global,
+    names: &NameRows,
+    gathered: &mut Gathered,
+    report: &Report,
+) -> Result<Page, AllocError>
+    requires may { MayBeWritten (told_by report.now) }
+    requires over { IsOverResources report.now }
+    requires untold { KnowsGathered gathered.old (past_in (told_by report.now).head []) [] }
+    ensures { IfOk result (λ page. page ≡ told names.now (history_lines true (bound_in (told_by report.now).head report.now.entries) (told_by report.now).head [] report.now.entries)) }
+{
+    let mut text = OpenText::new(alloc);
+    push_history(alloc, &mut text, names, gathered, report)?;
+    close_history(alloc, text, gathered, &report.groups, report.cap)
+}
+
+// Appends the lines of the history, which a follower of its own follows.
+fn push_history(
+    alloc: Global,
+    text: &mut OpenText,
+    names: &NameRows,
+    gathered: &mut Gathered,
+    report: &Report,
+) -> Result<(), AllocError>
+    requires may { MayBeWritten (told_by report.now) }
+    requires over { IsOverResources report.now }
+    requires untold { KnowsGathered gathered.old (past_in (told_by report.now).head []) [] }
+    ensures text { OnOk result (text.new ≡ text.old ++ open_told names.now (history_lines true no_bounds (told_by report.now).head [] report.now.entries)) }
+    ensures gathered { OnOk result (KnowsGathered gathered.new (past_in (told_by report.now).head report.now.entries) (all_ended (told_by report.now).head report.now.entries)) }
+{
+    let mut following = Following::new(alloc)?;
+    push_followed(alloc, text, names, &mut following, gathered, report)
+}
+
+// The same by a follower that followed no event, beside a machine of its own.
+fn push_followed(
+    alloc: Global,
+    text: &mut OpenText,
+    names: &NameRows,
+    following: &mut Following,
+    gathered: &mut Gathered,
+    report: &Report,
+) -> Result<(), AllocError>
+    requires may { MayBeWritten (told_by report.now) }
+    requires over { IsOverResources report.now }
+    requires followed { Follows following.old (past_in (told_by report.now).head []) }
+    requires untold { KnowsGathered gathered.old (past_in (told_by report.now).head []) [] }
+    ensures text { OnOk result (text.new ≡ text.old ++ open_told names.now (history_lines true no_bounds (told_by report.now).head [] report.now.entries)) }
+    ensures gathered { OnOk result (KnowsGathered gathered.new (past_in (told_by report.now).head report.now.entries) (all_ended (told_by report.now).head report.now.entries)) }
+{
     let groups = report.groups.copy(alloc)?;
     let mut machine = Plain::new(alloc, groups, report.tasks.len(), report.cap)?;
-    let mut following = Following::new(alloc)?;
-    let mut gathered = Gathered::new(alloc, report.tasks.len())?;
-    let mut text = OpenText::new(alloc);
-    push_entries(
-        &mut text,
-        names,
-        &mut machine,
-        &mut following,
-        &mut gathered,
-        report,
-    )?;
-    close_history(alloc, text, &gathered, &report.groups, report.cap)
+    push_entries(text, names, &mut machine, following, gathered, report)
 }
 
 // Appends the lines of all entries, through which the machine steps.

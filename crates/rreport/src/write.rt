@@ -14,7 +14,7 @@ ghost use Rattle.rreport.specs.declared.write.WriteErr.TheVariants as cause;
 use crate::history::history_of;
 use crate::report::Report;
 use io_ends::{Sink, WriteFault, write_all};
-use rpage::{NameRows, ending_of, head_of};
+use rpage::{NameRows, Page, ending_of, head_of};
 use std::alloc::{AllocError, Global};
 use thiserror::Error;
 
@@ -62,12 +62,40 @@ pub fn write_report<K: Sink>(alloc: Global, report: &Report, sink: &mut K) -> Re
     ensures memory { result ≡ Err WriteErr.Memory → sink.new ≡ sink.old }
     ensures counted { K.faults sink.old ≤ K.faults sink.new }
 {
+    let parts = parts_of(alloc, report)?;
+    write_parts(
+        sink,
+        parts.head.as_slice(),
+        parts.history.as_slice(),
+        parts.ending.as_slice(),
+    )?;
+    Ok(())
+}
+
+// The text of a report, in its three parts.
+#[derive(Drop)]
+struct Parts {
+    head: Page,
+    history: Page,
+    ending: Page,
+}
+
+// Makes the text of a report.
+fn parts_of(alloc: Global, report: &Report) -> Result<Parts, AllocError>
+    requires may { MayBeWritten (told_by report.now) }
+    requires over { IsOverResources report.now }
+    requires ledgers { HasItsLedgers report.now }
+    ensures { IfOk result (λ parts. parts.head ++ (parts.history ++ parts.ending) ≡ report_text (told_by report.now)) }
+{
     let names = NameRows::new(alloc, &report.resources, &report.tasks)?;
     let head = head_of(alloc, &names, &report.groups, report.cap)?;
     let history = history_of(alloc, &names, report)?;
     let ending = ending_of(alloc, &names, &report.ledgers)?;
-    write_parts(sink, head.as_slice(), history.as_slice(), ending.as_slice())?;
-    Ok(())
+    Ok(Parts {
+        head,
+        history,
+        ending,
+    })
 }
 
 /// Writes three parts of a text, one behind another, so that none of them is copied.

@@ -9,7 +9,6 @@ use Rattle.rreading.specs.Knows.{Knows}
 use Rattle.rtrace.specs.ToldBounds.{KnowsBounds}
 use Rattle.rreport.specs.Report.{ReportFields}
 use Rattle.rtrace.specs.declared.collect.Collecting.{Collecting}
-use Rattle.rtrace.specs.declared.lists.ListTaker.{ListTaker}
 use Rattle.rtrace.specs.declared.lists.ReportTaker.{ReportTaker}
 use Rattle.rtrace.specs.declared.count.Counting.{Counting}
 use Rattle.rreading.specs.declared.taken.Taken.{Taken}
@@ -21,8 +20,8 @@ pub record KnowsAll (whole : Bool) (taker : Collecting) (s : SoFar) : Type 0 whe
   pub earlier : taker.history.entries ≡ s.earlier
   pub latest : taker.latest ≡ s.latest
 
-abbrev pub KnowsList : ListTaker → SoFar → Type 0
-KnowsList taker s = KnowsAll false taker.inner s
+abbrev pub KnowsList : Collecting → SoFar → Type 0
+KnowsList taker s = KnowsAll false taker s
 
 -- 1 for a bound that is told
 abbrev pub one_if_told : Option Numbers → ℕ

@@ -1,14 +1,14 @@
 // Keeping the history of a text as it is read.
-ghost use Rattle.std.specs.Prelude.{◌≡◌, ◌<◌, ◌^◌, ◌++◌, Bool, length, true, OnOk, IfOk, IfErr, IfSome, Some, None, option_to_list, option_map};
-ghost use Rattle.csv.specs.Records.{fields_of};
-ghost use Rattle.rforms.specs.declared.fault.Code.{Code};
+ghost use Rattle.std.specs.Prelude.{◌≡◌, ◌++◌, Bool, false, OnOk, IfOk, IfErr, Some, option_to_list, option_map};
+ghost use Rattle.rforms.specs.SoFar.{with_act};
+ghost use Rattle.rforms.specs.declared.fault.Code.TheVariants.{NoEnd};
 ghost use Rattle.rvalue.specs.declared.act.Act.{Act};
 ghost use Rattle.rvalue.specs.declared.ledger.Edit.{Edit};
 ghost use Rattle.rreport.specs.Report.{told_by, IsOverResources, HasItsLedgers};
 
 use csv::ByteRecord;
 use rclaim::Event;
-use rforms::{Code, RowErr, TextErr};
+use rforms::{Code, Records, RowErr, TextErr};
 use rreading::{Reading, Taken};
 use rreport::Report;
 use rset::NameTable;
@@ -16,7 +16,7 @@ use rvalue::{Act, Edit, Entry, History};
 use std::alloc::{AllocError, Global};
 use std::mem;
 
-/// Takes the records of a text, and keeps all that they say.
+/// Takes the records of an event list, and keeps all that they say; what a report says is kept in it too.
 #[derive(Drop)]
 pub struct Collecting {
     pub alloc: Global,
@@ -27,9 +27,42 @@ pub struct Collecting {
     pub latest: Option<Entry<Edit>>,
 }
 
+impl Records for Collecting {
+    ghost use Rattle.rforms.specs.Takers.{list_code, is_list_done, KnowsSaid};
+    ghost use Rattle.rtrace.specs.Collects.{KnowsList};
+
+    type Code = Code;
+
+    ghost code = { list_code false };
+
+    ghost is_done = { is_list_done false };
+
+    ghost no_end = { NoEnd };
+
+    ghost knows = { KnowsSaid false KnowsList };
+
+    fn take(&mut self, fields: &ByteRecord) -> Result<(), RowErr> {
+        let mut taken = Taken::Other;
+        if let Err(e) = self.reading.take(self.alloc, fields, &mut taken) {
+            return Err(e);
+        }
+        let Ok(()) = self.keep_taken(taken) else {
+            return Err(RowErr::Memory);
+        };
+        Ok(())
+    }
+
+    fn has_ended(&self) -> bool {
+        self.reading.has_ended()
+    }
+
+    fn no_end(&self) -> Code {
+        Code::NoEnd
+    }
+}
+
 impl Collecting {
-    ghost use Rattle.rforms.specs.SoFar.{SoFar, nothing_yet, entries_in, told_in, with_row, bare, with_act};
-    ghost use Rattle.rforms.specs.Faults.{code_of, is_ended};
+    ghost use Rattle.rforms.specs.SoFar.{SoFar, nothing_yet, told_in, bare};
     ghost use Rattle.rtrace.specs.Collects.{KnowsAll, Keeps, IsFinished};
 
     /// Nothing was taken. No memory is taken.
@@ -42,26 +75,6 @@ impl Collecting {
             history: History::new(alloc),
             latest: None,
         }
-    }
-
-    /// Takes the next record, and keeps what it tells.
-    ///
-    /// # Errors
-    ///
-    /// The first thing that is wrong with it, or want of memory.
-    pub fn take(&mut self, fields: &ByteRecord) -> Result<(), RowErr>
-        requires { (whole : Bool) × (s : SoFar) × KnowsAll whole self.old s × (length (entries_in s) < 2 ^ 62) }
-        ensures taken { OnOk result ((whole : Bool) (s : SoFar) → KnowsAll whole self.old s → (code_of whole s (fields_of fields.now) ≡ None) × KnowsAll whole self.new (with_row whole s (fields_of fields.now))) }
-        ensures bad { (code : Code) → result ≡ Err (RowErr.Bad code) → (whole : Bool) (s : SoFar) → KnowsAll whole self.old s → code_of whole s (fields_of fields.now) ≡ Some code }
-    {
-        let mut taken = Taken::Other;
-        if let Err(e) = self.reading.take(self.alloc, fields, &mut taken) {
-            return Err(e);
-        }
-        if self.keep_taken(taken).is_err() {
-            return Err(RowErr::Memory);
-        }
-        Ok(())
     }
 
     /// Keeps what a record told that the reader took.
@@ -107,13 +120,10 @@ impl Collecting {
     fn add(&mut self, act: Act<Edit>) -> Result<(), AllocError>
         ensures { OnOk result ((self.new.reading ≡ self.old.reading) × (self.new.history.entries ≡ self.old.history.entries) × (self.new.latest ≡ option_map (with_act act) self.old.latest)) }
     {
-        let Some(entry) = self.latest.take() else {
-            return Ok(());
-        };
-        let Entry { event, mut acts } = entry;
-        acts.push(act)?;
-        self.latest = Some(Entry { event, acts });
-        Ok(())
+        match &mut self.latest {
+            Some(entry) => add_act(entry, act),
+            None => Ok(()),
+        }
     }
 
     /// What was said, as a report, which is given away: nothing is said then of what is kept.
@@ -128,20 +138,18 @@ impl Collecting {
         let Ok(()) = self.keep() else {
             return Err(TextErr::Memory);
         };
-        match self.finished() {
-            Some(report) => Ok(report),
-            None => Err(TextErr::Memory),
-        }
+        self.finished()
     }
 
-    // The report of what is kept, which is given away; None where the head has no task.
-    fn finished(&mut self) -> Option<Report>
-        ensures { IfSome result (IsFinished self.old) }
+    // The report of what is kept, which is given away; an error where the head has no task.
+    fn finished(&mut self) -> Result<Report, TextErr>
+        ensures report { IfOk result (IsFinished self.old) }
+        ensures memory { IfErr result (λ e. e ≡ TextErr.Memory) }
     {
         let reading = &mut self.reading;
         let cap = reading.cap.unwrap_or(reading.tasks.len());
         match reading.groups.take() {
-            Some(groups) => Some(Report {
+            Some(groups) => Ok(Report {
                 resources: mem::replace(&mut reading.resources, NameTable::new(self.alloc)),
                 groups,
                 tasks: mem::replace(&mut reading.tasks, NameTable::new(self.alloc)),
@@ -149,7 +157,15 @@ impl Collecting {
                 history: mem::replace(&mut self.history, History::new(self.alloc)),
                 ledgers: mem::replace(&mut reading.ledgers, Vec::new(self.alloc)),
             }),
-            None => None,
+            None => Err(TextErr::Memory),
         }
     }
+}
+
+// Adds an act to an entry.
+fn add_act(entry: &mut Entry<Edit>, act: Act<Edit>) -> Result<(), AllocError>
+    ensures { OnOk result (entry.new ≡ with_act act entry.old) }
+{
+    entry.acts.push(act)?;
+    Ok(())
 }

@@ -21,44 +21,11 @@ use rreading::Taken;
 use rreport::Report;
 use std::alloc::{AllocError, Global};
 
-/// Takes the records of an event list, and keeps what they say.
-#[derive(Drop)]
-pub struct ListTaker {
-    pub inner: Collecting,
-}
-
 /// Takes the records of a report, and keeps what they say, and what they tell of bounds.
 #[derive(Drop)]
 pub struct ReportTaker {
     pub inner: Collecting,
     pub bounds: BoundsKept,
-}
-
-impl Records for ListTaker {
-    ghost use Rattle.rforms.specs.Takers.{list_code, is_list_done, KnowsSaid};
-    ghost use Rattle.rtrace.specs.Collects.{KnowsList};
-
-    type Code = Code;
-
-    ghost code = { list_code false };
-
-    ghost is_done = { is_list_done false };
-
-    ghost no_end = { NoEnd };
-
-    ghost knows = { KnowsSaid false KnowsList };
-
-    fn take(&mut self, fields: &ByteRecord) -> Result<(), RowErr> {
-        self.inner.take(fields)
-    }
-
-    fn has_ended(&self) -> bool {
-        self.inner.reading.has_ended()
-    }
-
-    fn no_end(&self) -> Code {
-        Code::NoEnd
-    }
 }
 
 impl Records for ReportTaker {
@@ -122,21 +89,19 @@ pub fn read_events(alloc: Global, bytes: &[u8]) -> Result<Report, TextErr>
     ensures writable { IfOk result (λ r. MayBeWritten (told_by r)) }
     ensures bad { (fault : Fault Code) → result ≡ Err (TextErr.Bad fault) → IsFirstFault false bytes.now fault }
 {
-    let mut taker = ListTaker {
-        inner: Collecting::new(alloc, false),
-    };
+    let mut taker = Collecting::new(alloc, false);
     take_list(alloc, bytes, &mut taker)
 }
 
 // The same, by a taker that has taken nothing.
-fn take_list(alloc: Global, bytes: &[u8], taker: &mut ListTaker) -> Result<Report, TextErr>
+fn take_list(alloc: Global, bytes: &[u8], taker: &mut Collecting) -> Result<Report, TextErr>
     requires { KnowsList taker.old nothing_yet }
     ensures list { IfOk result (λ r. IsTextOf false bytes.now (told_by r) × IsOverResources r × HasItsLedgers r) }
     ensures writable { IfOk result (λ r. MayBeWritten (told_by r)) }
     ensures bad { (fault : Fault Code) → result ≡ Err (TextErr.Bad fault) → IsFirstFault false bytes.now fault }
 {
     match take_text(alloc, bytes, taker) {
-        Ok(()) => taker.inner.report(),
+        Ok(()) => taker.report(),
         Err(e) => Err(e),
     }
 }

@@ -1,5 +1,6 @@
+use Rattle.rtrace.proofs.Results.{if_ok}
 use Rattle.rtrace.proofs.Whole.{finished_is}
 use Rattle.rtrace.proofs.collect.Collecting.report.Goals as goal
 
-pub returns-in-Some-clause-report : goal.returns-in-Some-clause-report
-returns-in-Some-clause-report c = λ whole s h. finished_is whole c.args.self.now c.keep.new.self s h c.in-Ok.ensures.0 c.in-Ok.ensures.1 c.in-Some.report c.in-Some.ensures
+pub returns-clause-report : goal.returns-clause-report
+returns-clause-report c = if_ok c.finished.result _ _ c.finished.ensures.report (λ r is whole s h. finished_is whole c.args.self.now c.keep.new.self s h c.in-Ok.ensures.0 c.in-Ok.ensures.1 r is)
