@@ -3,8 +3,8 @@ use Rattle.std.proofs.Common.{◌≡◌, List, [], ◌∷◌, length, map, refl,
 use Rattle.rforms.specs.Reports.{Report}
 use Rattle.rwatch.specs.Seen.{Seen, told_all}
 use Rattle.rdrill.specs.Drill.{steps_of}
-use Rattle.rreplay.specs.Stepping.{IsAtHead}
-use Rattle.rreplay.specs.declared.steps.Steps.{Steps}
+use Rattle.rwatched.specs.Stepping.{IsAtHead}
+use Rattle.rwatched.specs.declared.steps.Steps.{Steps}
 use Rattle.ranswer.specs.Watched.{list_steps}
 
 pub told_list : (report : Report) (steps : Steps) (ws later : List Seen) → IsAtHead report steps → later ≡ map (told_all (steps_of steps.machine.state steps.events.items)) ws → later ≡ map (told_all (list_steps report)) ws

@@ -8,12 +8,9 @@ use Rattle.std.proofs.lemmas.Option.{get_or_from_slice_get}
 use Rattle.rexpand.specs.Groups.{ReadGroups}
 use Rattle.rforms.specs.Fields.{Names}
 use Rattle.rset.specs.declared.TheConstants.{SEATS}
-use Rattle.rclaim.specs.declared.event.Event.{Event}
-use Rattle.rmodel.specs.State.{LockState}
-use Rattle.rmodel.specs.Steps.{AreAccepted}
-use Rattle.rforms.specs.Heads.{read_groups, cap_or, opening_of}
+use Rattle.rforms.specs.Heads.{read_groups, cap_or}
 use Rattle.rforms.specs.Lines.{Ends}
-use Rattle.rforms.specs.Reports.{Entry, Report, Spells, IsLawful, ledger_after, declared_lines, history_lines}
+use Rattle.rforms.specs.Reports.{Entry, Spells, ledger_after, declared_lines, history_lines}
 use Rattle.rforms.specs.SoFar.{SoFar, nothing_yet, entries_in, head_in, names_in, told_in, with_row}
 use Rattle.rforms.specs.Faults.{code_of, is_ended, read_all}
 use Rattle.rforms.specs.Takers.{HasTaken, list_code, is_list_done, KnowsSaid}
@@ -24,7 +21,6 @@ use Rattle.rforms.proofs.facts.Walks.{no_fault}
 use Rattle.rforms.proofs.texts.Lists.{list_faults, list_told}
 use Rattle.rforms.proofs.forth.Rows.{right_bounds}
 use Rattle.rforms.proofs.lists.NoActs.{no_wrong_bound}
-use Rattle.rforms.proofs.written.Reaching.{accepted_from}
 use Rattle.rreport.specs.Behind.{past_in, IsToldWhole}
 use Rattle.rreport.specs.Gathered.{KnowsGathered}
 use Rattle.rreport.specs.Report.{ReportFields}
@@ -33,8 +29,6 @@ use Rattle.rreport.proofs.Parts.{parts_are}
 use Rattle.rwaits.specs.Past.{begun}
 use Rattle.rreading.specs.Knows.{Knows}
 use Rattle.rreading.specs.declared.reading.Reading.{Reading}
-use Rattle.rreplay.specs.Stepping.{IsAtHead, AreStepsOf}
-use Rattle.rreplay.specs.declared.steps.Steps.{Steps}
 use Rattle.rreplay.specs.Names.{names_read}
 use Rattle.rreplay.specs.Replaying.{KnowsTelling, IsToldToEnd}
 use Rattle.rreplay.specs.declared.replaying.Telling.{Telling}
@@ -121,11 +115,3 @@ made_are reading s names head history ending groups k ended own there e f g =
     (ap (λ (o : ReadGroups). o.groups) (one_some (sym there ∙ groups_are false reading s k ended)))
     (λ i. cap_or (k.tasks i) (k.cap i)) refl (ledgers_are false reading s k) e
     (f ∙ ap (λ n. told n (history_lines true (bound_in (head_in s) (entries_in s)) (head_in s) [] (entries_in s))) (sym own)) g
-
--- ---- the steps of a list
-
-pub steps_are : (report : Report) (steps : Steps) → IsLawful report.head report.entries → IsAtHead report steps → AreStepsOf report steps
-steps_are report steps lawful h = record {
-  at_head = h;
-  accepted = subst (λ (s : LockState). AreAccepted s steps.events.items) (sym h.state) (subst (λ (es : List Event). AreAccepted (opening_of report.head) es) (sym h.events) (accepted_from report.head [] report.entries lawful));
-}

@@ -1,4 +1,3 @@
 pub mod Following
 pub mod Replays
 pub mod Endings
-pub mod Telling

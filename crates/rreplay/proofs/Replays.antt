@@ -174,12 +174,3 @@ module _ (s : SoFar) (row : Row) where
   -- a record that adds no entry to none leaves none
   pub other_untold : (with_row false s row).earlier ≡ s.earlier → (with_row false s row).latest ≡ s.latest → entries_in s ≡ [] → entries_in (with_row false s row) ≡ []
   other_untold earlier latest none = (λ i. earlier i ++ option_to_list (latest i)) ∙ none
-
-  -- the events, with the event behind them
-  pub event_list : (e : Event) (old new : List Event) → (with_row false s row).earlier ≡ entries_in s → (with_row false s row).latest ≡ Some (bare e) → old ≡ events_of (entries_in s) → new ≡ old ++ e ∷ [] → new ≡ events_of (entries_in (with_row false s row))
-  event_list e old new earlier latest f g =
-      g ∙ ap (λ (es : List Event). es ++ e ∷ []) f ∙ sym (map-append (λ (entry : Entry). entry.event) (entries_in s) (bare e ∷ [])) ∙ sym (λ i. events_of (earlier i ++ option_to_list (latest i)))
-
-  -- and with none behind them
-  pub other_list : (old : List Event) → (with_row false s row).earlier ≡ s.earlier → (with_row false s row).latest ≡ s.latest → old ≡ events_of (entries_in s) → old ≡ events_of (entries_in (with_row false s row))
-  other_list old earlier latest f = f ∙ sym (λ i. events_of (earlier i ++ option_to_list (latest i)))

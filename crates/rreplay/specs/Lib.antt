@@ -1,4 +1,3 @@
 pub mod Names
 pub mod Followed
 pub mod Replaying
-pub mod Stepping

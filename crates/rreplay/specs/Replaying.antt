@@ -3,13 +3,12 @@ use Rattle.std.specs.Prelude.{◌≡◌, ◌≤◌, ℕ, true, false, List, [], 
 use Rattle.rforms.specs.Faults.{is_ended}
 use Rattle.rforms.specs.Reports.{history_lines}
 use Rattle.rforms.specs.SoFar.{SoFar, entries_in, head_in, names_in}
-use Rattle.rforms.specs.Waits.{events_of, all_ended, no_bounds}
+use Rattle.rforms.specs.Waits.{all_ended, no_bounds}
 use Rattle.rreport.specs.Behind.{past_in}
 use Rattle.rreport.specs.Gathered.{KnowsGathered}
 use Rattle.rreport.specs.Open.{open_told}
 use Rattle.rreading.specs.Knows.{Knows}
 use Rattle.rreading.specs.declared.reading.Reading.{Reading}
-use Rattle.rreplay.specs.declared.recording.Recording.{Recording}
 use Rattle.rreplay.specs.declared.replaying.Replaying.{Replaying}
 use Rattle.rreplay.specs.declared.replaying.Telling.{Telling}
 
@@ -36,8 +35,3 @@ pub record IsToldToEnd (text : List (Option ℕ)) (telling : Telling) (reading :
   pub ended : is_ended s ≡ true
   pub history : text ≡ history_text s
   pub told : KnowsTelling telling s
-
--- the same as of a replay, and the events are kept
-pub record KnowsSteps (recording : Recording) (s : SoFar) : Type 0 where
-  pub replay : KnowsReplay recording.replaying s
-  pub events : recording.events.items ≡ events_of (entries_in s)

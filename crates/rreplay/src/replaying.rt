@@ -49,7 +49,7 @@ pub struct Replayed {
 
 // What tells events, made at the first one: behind it no name is declared.
 #[derive(Drop)]
-pub(crate) struct Telling {
+struct Telling {
     names: NameRows,
     // The waits so far, until their bounds are known.
     gathered: Gathered,
@@ -58,12 +58,13 @@ pub(crate) struct Telling {
 /// Takes an event list, and makes the text of its history as it goes: each event is stepped once.
 #[derive(Drop)]
 pub struct Replaying {
-    pub(crate) alloc: Global,
-    pub(crate) reading: Reading,
+    alloc: Global,
+    /// What the records so far have said.
+    pub reading: Reading,
     telling: Option<Telling>,
     history: OpenText,
-    // What the latest record told.
-    pub(crate) taken: Taken,
+    /// What the latest record told.
+    pub taken: Taken,
 }
 
 impl Replaying {
@@ -72,7 +73,7 @@ impl Replaying {
     ghost use Rattle.rreplay.specs.Replaying.{KnowsReplay};
 
     /// Nothing was taken.
-    pub(crate) fn new(alloc: Global) -> Replaying
+    pub fn new(alloc: Global) -> Replaying
         ensures { KnowsReplay result nothing_yet }
     {
         Replaying {
@@ -84,8 +85,12 @@ impl Replaying {
         }
     }
 
-    // Takes a record; the text of the history grows with each event.
-    pub(crate) fn take_record(&mut self, fields: &ByteRecord) -> Result<(), RowErr>
+    /// Takes a record; the text of the history grows with each event.
+    ///
+    /// # Errors
+    ///
+    /// The first code of the record, or want of memory.
+    pub fn take_record(&mut self, fields: &ByteRecord) -> Result<(), RowErr>
         requires { (s : SoFar) × KnowsReplay self.old s × (length (entries_in s) < 2 ^ 62) }
         ensures taken { OnOk result ((s : SoFar) → KnowsReplay self.old s → (code_of false s (fields_of fields.now) ≡ None) × KnowsReplay self.new (with_row false s (fields_of fields.now))) }
         ensures told { OnOk result ((s : SoFar) → KnowsReplay self.old s → Adds self.new.taken s (with_row false s (fields_of fields.now))) }
@@ -114,8 +119,12 @@ impl Replaying {
         }
     }
 
-    // The report of the list that was taken to its end. The text of the history is given away.
-    pub(crate) fn made(&mut self) -> Result<Replayed, AllocError>
+    /// The report of the list that was taken to its end. The text of the history is given away.
+    ///
+    /// # Errors
+    ///
+    /// Want of memory.
+    pub fn made(&mut self) -> Result<Replayed, AllocError>
         requires { (s : SoFar) × KnowsReplay self.old s × (is_ended s ≡ true) }
         ensures { IfOk result (λ made. (s : SoFar) → KnowsReplay self.old s → is_ended s ≡ true → made.head ++ (made.history ++ made.ending) ≡ report_text (told_in s)) }
     {

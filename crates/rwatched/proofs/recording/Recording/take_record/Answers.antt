@@ -1,8 +1,9 @@
 use Rattle.std.proofs.Common.{Err, ap}
 use Rattle.csv.specs.Records.{fields_of}
 use Rattle.rreplay.proofs.Following.{never_act}
-use Rattle.rreplay.proofs.Replays.{one_err, event_list, other_list}
-use Rattle.rreplay.proofs.recording.Recording.take_record.Goals as goal
+use Rattle.rreplay.proofs.Replays.{one_err}
+use Rattle.rwatched.proofs.Kept.{event_list, other_list}
+use Rattle.rwatched.proofs.recording.Recording.take_record.Goals as goal
 
 pub take_record-requires : goal.take_record-requires
 take_record-requires c = (c.requires.0, c.requires.1.replay, c.requires.2)

@@ -2,10 +2,11 @@ use Rattle.std.proofs.Common.{false, Err, ap}
 use Rattle.rforms.specs.SoFar.{told_in}
 use Rattle.rforms.specs.Faults.{read_all}
 use Rattle.rforms.proofs.texts.Lists.{list_fault}
-use Rattle.rreplay.specs.Replaying.{KnowsSteps}
-use Rattle.rreplay.proofs.Endings.{taken_ended, taken_spells, steps_are}
+use Rattle.rwatched.specs.Recording.{KnowsSteps}
+use Rattle.rreplay.proofs.Endings.{taken_ended, taken_spells}
 use Rattle.rreplay.proofs.Replays.{one_err}
-use Rattle.rreplay.proofs.recording.recorded_replay_by.Goals as goal
+use Rattle.rwatched.proofs.Kept.{steps_are}
+use Rattle.rwatched.proofs.recording.recorded_replay_by.Goals as goal
 
 pub made-requires : goal.made-requires
 made-requires c =

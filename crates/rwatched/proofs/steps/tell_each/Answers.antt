@@ -1,8 +1,8 @@
 use Rattle.std.proofs.Common.{map, ap, ◌∙◌, arith}
 use Rattle.rmodel.specs.Steps.{next}
 use Rattle.rwatch.specs.Seen.{told}
-use Rattle.rreplay.proofs.Telling.{told_on, told_whole}
-use Rattle.rreplay.proofs.steps.tell_each.Goals as goal
+use Rattle.rwatched.proofs.Telling.{told_on, told_whole}
+use Rattle.rwatched.proofs.steps.tell_each.Goals as goal
 
 pub loop-event-preserved : goal.loop-event-preserved
 loop-event-preserved g c =

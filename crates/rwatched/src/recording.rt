@@ -10,10 +10,9 @@ ghost use Rattle.rforms.specs.Texts.{IsTextOf, report_text};
 ghost use Rattle.rforms.specs.declared.fault.Code.{Code};
 ghost use Rattle.rforms.specs.declared.fault.Fault.{Fault};
 ghost use Rattle.rreading.specs.Knows.{Knows};
-ghost use Rattle.rreplay.specs.Replaying.{KnowsSteps};
-ghost use Rattle.rreplay.specs.Stepping.{AreStepsOf};
+ghost use Rattle.rwatched.specs.Recording.{KnowsSteps};
+ghost use Rattle.rwatched.specs.Stepping.{AreStepsOf};
 
-use crate::replaying::{Replayed, Replaying};
 use crate::steps::Steps;
 use csv::ByteRecord;
 use rclaim::Event;
@@ -21,6 +20,7 @@ use rforms::{Code, Records, RowErr, TextErr, take_text};
 use rmodel::Machine;
 use rplain::Plain;
 use rreading::{Reading, Taken};
+use rreplay::{Replayed, Replaying};
 use std::alloc::{AllocError, Global};
 use std::mem;
 
@@ -36,6 +36,7 @@ pub struct Recorded {
 /// Takes an event list, makes the text of its history, and keeps its events.
 #[derive(Drop)]
 pub struct Recording {
+    alloc: Global,
     replaying: Replaying,
     events: Vec<Event>,
 }
@@ -43,14 +44,15 @@ pub struct Recording {
 impl Recording {
     ghost use Rattle.rforms.specs.SoFar.{SoFar, nothing_yet, entries_in, told_in, with_row};
     ghost use Rattle.rforms.specs.Faults.{code_of, is_ended};
-    ghost use Rattle.rreplay.specs.Replaying.{KnowsSteps};
-    ghost use Rattle.rreplay.specs.Stepping.{IsAtHead};
+    ghost use Rattle.rwatched.specs.Recording.{KnowsSteps};
+    ghost use Rattle.rwatched.specs.Stepping.{IsAtHead};
 
     /// Nothing was taken.
     fn new(alloc: Global) -> Recording
         ensures { KnowsSteps result nothing_yet }
     {
         Recording {
+            alloc,
             replaying: Replaying::new(alloc),
             events: Vec::new(alloc),
         }
@@ -82,9 +84,9 @@ impl Recording {
         ensures text { IfOk result (λ made. (s : SoFar) → KnowsSteps self.old s → is_ended s ≡ true → made.replayed.head ++ (made.replayed.history ++ made.replayed.ending) ≡ report_text (told_in s)) }
         ensures steps { IfOk result (λ made. (s : SoFar) → KnowsSteps self.old s → is_ended s ≡ true → IsAtHead (told_in s) made.steps) }
     {
-        let machine = machine_of(self.replaying.alloc, &self.replaying.reading)?;
+        let machine = machine_of(self.alloc, &self.replaying.reading)?;
         let replayed = self.replaying.made()?;
-        let events = mem::replace(&mut self.events, Vec::new(self.replaying.alloc));
+        let events = mem::replace(&mut self.events, Vec::new(self.alloc));
         Ok(Recorded {
             replayed,
             steps: Steps { machine, events },
@@ -96,7 +98,7 @@ impl Records for Recording {
     ghost use Rattle.std.specs.Prelude.{false};
     ghost use Rattle.rforms.specs.Takers.{list_code, is_list_done, KnowsSaid};
     ghost use Rattle.rforms.specs.declared.fault.Code.TheVariants.{NoEnd};
-    ghost use Rattle.rreplay.specs.Replaying.{KnowsSteps};
+    ghost use Rattle.rwatched.specs.Recording.{KnowsSteps};
 
     type Code = Code;
 

@@ -1,7 +1,7 @@
 use Rattle.std.proofs.Common.{false, arith}
 use Rattle.rforms.specs.Faults.{read_all}
 use Rattle.rforms.proofs.texts.Lists.{entries_few}
-use Rattle.rreplay.proofs.recording.RecordingRecords.take.Goals as goal
+use Rattle.rwatched.proofs.recording.RecordingRecords.take.Goals as goal
 
 pub take_record-requires : goal.take_record-requires
 take_record-requires c =

@@ -1,5 +1,5 @@
 use Rattle.std.proofs.Common.{◌∙◌}
-use Rattle.rreplay.proofs.recording.Recording.made.Goals as goal
+use Rattle.rwatched.proofs.recording.Recording.made.Goals as goal
 
 pub machine_of-requires : goal.machine_of-requires
 machine_of-requires c = (c.requires.0, c.requires.1.replay.reading, c.requires.2)

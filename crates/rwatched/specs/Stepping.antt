@@ -4,7 +4,7 @@ use Rattle.rmodel.specs.Steps.{AreAccepted}
 use Rattle.rforms.specs.Heads.{opening_of}
 use Rattle.rforms.specs.Reports.{Report}
 use Rattle.rforms.specs.Waits.{events_of}
-use Rattle.rreplay.specs.declared.steps.Steps.{Steps}
+use Rattle.rwatched.specs.declared.steps.Steps.{Steps}
 
 -- its events, and a machine in the state before them
 pub record IsAtHead (report : Report) (steps : Steps) : Type 0 where
