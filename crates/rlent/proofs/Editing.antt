@@ -24,7 +24,7 @@ use Rattle.rstate.proofs.homes.Moved.{place_among}
 use Rattle.rlent.specs.declared.kind.GuardKind.{GuardKind}
 use Rattle.rlent.specs.declared.kind.GuardKind.TheVariants.{Read, Write, Rise, Nest}
 use Rattle.rlent.specs.Sections.{SectionFields, lock_seen, held_at, AreShows, IsAs, may_edit, value_seen, value_edited, ActsAreRight, HoldsFrom, EndsFrom}
-use Rattle.rlent.specs.Copies.{copied, with_copy}
+use Rattle.rcopies.specs.Copies.{copied, with_copy}
 use Rattle.rlent.proofs.Lending.{lent_same, place_there, place_none}
 use Rattle.rlent.proofs.Reading.{lent_there}
 

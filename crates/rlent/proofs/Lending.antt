@@ -1,6 +1,6 @@
 -- What is lent to a section, and its copies.
-use Rattle.std.proofs.Common.{◌≡◌, ℕ, suc, arith, ◌+◌, ◌==◌, ◌||◌, Bool, true, false, cond, List, [], ◌∷◌, Some, None, refl, sym, ap, subst, ◌∙◌}
-use Rattle.std.specs.Prelude.{slice_get, slice_index_or, is_some}
+use Rattle.std.proofs.Common.{◌≡◌, ℕ, ◌+◌, ◌==◌, ◌||◌, Bool, true, false, cond, List, [], ◌∷◌, Some, None, refl, sym, ap, subst, ◌∙◌}
+use Rattle.std.specs.Prelude.{slice_get}
 use Rattle.std.specs.FinSet.{contains, is_subset}
 use Rattle.std.specs.List.{AllByRecursion}
 use Rattle.std.proofs.lemmas.Bool.{eqb-true, true≢false, and_parts}
@@ -8,8 +8,7 @@ use Rattle.rset.proofs.SetLemmas.{within_at, contains_empty}
 use Rattle.rmodel.specs.declared.granted.Granted.{Granted}
 use Rattle.rmodel.specs.Holds.{nothing, is_within}
 use Rattle.rmodel.proofs.ListFacts.{all_at, all_from}
-use Rattle.rstate.specs.Lent.{LentFields, IsLent, Once, has, places, at_place, index_of}
-use Rattle.rstate.proofs.homes.Lists.{same_item}
+use Rattle.rstate.specs.Lent.{LentFields, IsLent, Once, has, places, at_place}
 use Rattle.rstate.specs.Shares.{ShareFields, whole}
 use Rattle.rstate.proofs.homes.Moved.{place_among}
 
@@ -76,19 +75,6 @@ module _ {X : Type 0} where
       at : (b : Bool) → (loan.0 == l) ≡ b → (has l (places loans) ≡ false → at_place loans l ≡ None) → cond b (Some loan.1) (at_place loans l) ≡ None
       at true is rest = absurd (true≢false (ap (λ (c : Bool). c || has l (places loans)) (sym is) ∙ none))
       at false is rest = rest (ap (λ (c : Bool). c || has l (places loans)) (sym is) ∙ none)
-
-module _ {X : Type 0} where
-  -- the item at the index of a resource that is there
-  pub index_gives : (loans : List (ℕ × X)) (l : ℕ) (x : X) (d : ℕ × X) → at_place loans l ≡ Some x → slice_index_or loans (index_of loans l) d ≡ (l, x)
-  index_gives [] l x d there = absurd (true≢false (sym (ap is_some there)))
-  index_gives (loan ∷ loans) l x d there = at (loan.0 == l) refl (index_gives loans l x d)
-    where
-      plus_one : (n : ℕ) → n + 1 ≡ suc n
-      plus_one n = omega arith
-
-      at : (b : Bool) → (loan.0 == l) ≡ b → (at_place loans l ≡ Some x → slice_index_or loans (index_of loans l) d ≡ (l, x)) → slice_index_or (loan ∷ loans) (cond b 0 (index_of loans l + 1)) d ≡ (l, x)
-      at true is rest = (λ i. (eqb-true loan.0 l is i, same_item loan.1 x (ap (λ (c : Bool). cond c (Some loan.1) (at_place loans l)) (sym is) ∙ there) i))
-      at false is rest = ap (λ n. slice_index_or (loan ∷ loans) n d) (plus_one (index_of loans l)) ∙ rest (ap (λ (c : Bool). cond c (Some loan.1) (at_place loans l)) (sym is) ∙ there)
 
 -- what lies within what is held
 pub within_reads : (g h : Granted) (l : ℕ) → is_within g h ≡ true → contains g.reads l ≡ true → contains h.reads l ≡ true

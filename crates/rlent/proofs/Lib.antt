@@ -4,7 +4,6 @@ pub mod Looking
 pub mod Ending
 pub mod Beginning
 pub mod Reading
-pub mod Copying
 pub mod Editing
 pub mod Sharing
 pub mod Rising

@@ -19,7 +19,7 @@ use Rattle.rstate.proofs.homes.Lists.{get_there, get_replicate}
 use Rattle.rstate.proofs.homes.Taking.{MayTake}
 use Rattle.rstate.proofs.keeping.Taking.{may_take}
 use Rattle.rlent.specs.declared.kind.GuardKind.{GuardKind}
-use Rattle.rlent.specs.Copies.{own_or, value_among}
+use Rattle.rcopies.specs.Copies.{own_or, value_among}
 use Rattle.rlent.specs.Sections.{SectionFields, lock_seen, held_at, value_seen, value_edited, HasLent, HoldsFrom}
 use Rattle.rlent.proofs.Lending.{place_there, place_none}
 

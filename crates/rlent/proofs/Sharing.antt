@@ -8,7 +8,7 @@ use Rattle.rstate.specs.Histories.{Beginning}
 use Rattle.rstate.specs.Lent.{Once, has, places, at_place, replaced}
 use Rattle.rstate.specs.Shares.{ShareFields, whole}
 use Rattle.rlent.specs.declared.kind.GuardKind.{GuardKind}
-use Rattle.rlent.specs.Copies.{shares_of, with_shares, CanReplace}
+use Rattle.rcopies.specs.Copies.{shares_of, with_shares, CanReplace}
 use Rattle.rlent.specs.Sections.{SectionFields, value_seen, value_edited, HoldsFrom, EndsFrom}
 use Rattle.rlent.proofs.Editing.{places_replaced, all_replaced, turned}
 

@@ -1,4 +1,3 @@
-pub mod Seats
 pub mod Guards
+pub mod Seats
 pub mod Sections
-pub mod Copies

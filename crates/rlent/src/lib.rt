@@ -1,7 +1,6 @@
 //! What is lent to a seat: its section, from the issue of a request to the finish.
 #![tactic(auto)]
 
-mod copies;
 mod counted;
 mod kind;
 mod opening;

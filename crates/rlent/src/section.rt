@@ -7,8 +7,8 @@ ghost use Rattle.rlent.specs.Guards.{Holding, HoldingToWrite, HasValue};
 ghost use Rattle.rlent.specs.Sections.{Holds, Ends, guarded, may_edit};
 ghost use Rattle.rlent.specs.declared.kind.GuardKind.{GuardKind};
 
-use crate::copies::{Own, edit_own, replace_all, shares_of, value_of, with_copy};
 use crate::counted::CountedGate;
+use rcopies::{Own, edit_own, replace_all, shares_of, value_of, with_copy};
 use rlock::Pass;
 use rmodel::Machine;
 use rstate::{Lent, State};

@@ -9,7 +9,7 @@ use Rattle.rvalue.specs.Histories.{value_of}
 use Rattle.rstate.specs.Histories.{Beginning}
 use Rattle.rstate.specs.Lent.{at_place, replaced}
 use Rattle.rstate.proofs.homes.Lists.{same_item}
-use Rattle.rlent.specs.Copies.{with_copy}
+use Rattle.rcopies.specs.Copies.{with_copy}
 use Rattle.rlent.specs.Guards.{HoldingToWrite}
 use Rattle.rlent.specs.Sections.{SectionFields, Holds, HoldsFrom, held_at, value_edited}
 use Rattle.rlent.proofs.Editing.{copy_there, edited}

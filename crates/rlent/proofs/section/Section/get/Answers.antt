@@ -2,7 +2,7 @@ use Rattle.std.proofs.Common.{ℕ, List, sym, ap, ◌∙◌}
 use Rattle.std.specs.Prelude.{slice_get, is_some}
 use Rattle.rstate.specs.Histories.{Beginning}
 use Rattle.rstate.proofs.homes.Lists.{same_item}
-use Rattle.rlent.specs.Copies.{value_among}
+use Rattle.rcopies.specs.Copies.{value_among}
 use Rattle.rlent.specs.Sections.{SectionFields, value_edited}
 use Rattle.rlent.proofs.Reading.{value_held}
 use Rattle.rlent.proofs.section.Section.get.Goals as goal

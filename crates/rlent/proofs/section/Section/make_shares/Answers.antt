@@ -1,7 +1,7 @@
 use Rattle.std.proofs.Common.{◌≡◌, ℕ, ◌+◌, List, sym, ap, subst, ◌∙◌}
 use Rattle.rstate.specs.Lent.{LentFields}
 use Rattle.rstate.specs.Shares.{ShareFields}
-use Rattle.rlent.specs.Copies.{shares_of, with_shares, CanReplace}
+use Rattle.rcopies.specs.Copies.{shares_of, with_shares, CanReplace}
 use Rattle.rlent.specs.Sections.{SectionFields, Holds, EndsFrom}
 use Rattle.rlent.proofs.Sharing.{may_replace, ends_shared}
 use Rattle.rlent.proofs.section.Section.make_shares.Goals as goal

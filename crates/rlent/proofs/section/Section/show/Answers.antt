@@ -4,7 +4,7 @@ use Rattle.rvalue.specs.declared.act.Act.{Act}
 use Rattle.rvalue.specs.declared.act.Act.TheVariants.{Shown}
 use Rattle.rstate.specs.Histories.{Beginning}
 use Rattle.rstate.proofs.homes.Lists.{same_item}
-use Rattle.rlent.specs.Copies.{value_among}
+use Rattle.rcopies.specs.Copies.{value_among}
 use Rattle.rlent.specs.Sections.{SectionFields, HoldsFrom, value_edited}
 use Rattle.rlent.proofs.Editing.{shown_more}
 use Rattle.rlent.proofs.Reading.{value_held}

@@ -1,7 +1,7 @@
 use Rattle.std.proofs.Common.{ℕ, ap, ◌∙◌}
 use Rattle.rstate.specs.Lent.{LentFields, replaced}
 use Rattle.rstate.specs.Shares.{ShareFields}
-use Rattle.rlent.proofs.copies.replace_one.Goals as goal
+use Rattle.rcopies.proofs.copies.replace_one.Goals as goal
 
 pub returns : goal.returns
 returns g c =

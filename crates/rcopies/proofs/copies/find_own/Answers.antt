@@ -1,6 +1,6 @@
 use Rattle.std.proofs.Common.{◌≡◌, ℕ, sym, ap, ◌∙◌}
-use Rattle.rlent.proofs.Copying.{found_behind, index_here, index_behind}
-use Rattle.rlent.proofs.copies.find_own.Goals as goal
+use Rattle.rcopies.proofs.Copying.{found_behind, index_here, index_behind}
+use Rattle.rcopies.proofs.copies.find_own.Goals as goal
 
 pub returns-then-copy-place-clause-index : goal.returns-then-copy-place-clause-index
 returns-then-copy-place-clause-index g c =

@@ -1,18 +1,18 @@
 //! The copies that a section edits.
 ghost use Rattle.std.specs.Prelude.{◌≡◌, ◌<◌, ◌++◌, ◌∷◌, [], true, IsTrue, IsSome, IfOk, OnOk, OnErr, Some, option_copied, length};
 ghost use Rattle.rstate.specs.Lent.{at_place, has, places, index_of, replaced, lent_value};
-ghost use Rattle.rlent.specs.Copies.{value_among, with_copy, shares_of, with_shares, CanReplace};
+ghost use Rattle.rcopies.specs.Copies.{value_among, with_copy, shares_of, with_shares, CanReplace};
 
 use rstate::{Lent, Shares};
 use rvalue::Editable;
 use std::alloc::{AllocError, Global};
 use std::marker::Model;
 
-/// The section's own copy of the value of a resource.
+/// A section's own copy of the value of a resource. Contracts see the resource and the value.
 #[derive(Drop)]
-pub(crate) struct Own<T> {
-    pub(crate) place: u8,
-    pub(crate) value: T,
+pub struct Own<T> {
+    place: u8,
+    value: T,
 }
 
 impl<T> Model for Own<T> {
@@ -26,9 +26,9 @@ impl<T> Model for Own<T> {
     ghost view = { λ a. (a.place, a.value) };
 }
 
-/// Shares of such a copy.
+/// Shares of such a copy, for the home of its resource. Contracts see the resource and the shares.
 #[derive(Drop)]
-pub(crate) struct Made<T> {
+pub struct Made<T> {
     place: u8,
     shares: Shares<T>,
 }
@@ -45,8 +45,8 @@ impl<T> Model for Made<T> {
     ghost view = { λ a. (a.place, a.shares) };
 }
 
-/// The copy of the resource's value, if there is one.
-pub(crate) fn own_at<T>(own: &[Own<T>], place: u8) -> Option<&T>
+// The copy of the resource's value, if there is one.
+fn own_at<T>(own: &[Own<T>], place: u8) -> Option<&T>
     ensures { option_copied result ≡ at_place own.now place }
 {
     for copy in own {
@@ -57,8 +57,8 @@ pub(crate) fn own_at<T>(own: &[Own<T>], place: u8) -> Option<&T>
     None
 }
 
-/// The value of the resource in a section with these copies, to which this is lent.
-pub(crate) fn value_of<'a, T>(own: &'a [Own<T>], lent: &'a Lent<T>, place: u8) -> &'a T
+/// Lends the value of the resource in a section with these copies, to which this is lent: its own copy where there is one. No memory is taken.
+pub fn value_of<'a, T>(own: &'a [Own<T>], lent: &'a Lent<T>, place: u8) -> &'a T
     requires { IsSome (value_among own.now lent.now place) }
     ensures { value_among own.now lent.now place ≡ Some result.now }
 {
@@ -68,12 +68,12 @@ pub(crate) fn value_of<'a, T>(own: &'a [Own<T>], lent: &'a Lent<T>, place: u8) -
     }
 }
 
-/// Makes `n` shares of each copy.
+/// Makes `n` shares of each copy, in order.
 ///
 /// # Errors
 ///
 /// Want of memory.
-pub(crate) fn shares_of<T: Editable>(
+pub fn shares_of<T: Editable>(
     alloc: Global,
     own: &[Own<T>],
     n: u16,
@@ -91,7 +91,7 @@ pub(crate) fn shares_of<T: Editable>(
 }
 
 /// Puts these shares in the place of those that were lent, one after another. No memory is taken.
-pub(crate) fn replace_all<T: Drop>(lent: &mut Lent<T>, made: Vec<Made<T>>)
+pub fn replace_all<T: Drop>(lent: &mut Lent<T>, made: Vec<Made<T>>)
     requires { CanReplace lent.old.writes made.items }
     ensures { lent.new ≡ record lent.old { writes = with_shares lent.old.writes made.items } }
 {
@@ -114,7 +114,7 @@ fn replace_one<T: Drop>(lent: &mut Lent<T>, made: Made<T>)
 /// # Errors
 ///
 /// Want of memory. The copies are then as they were.
-pub(crate) fn with_copy<T: Editable>(
+pub fn with_copy<T: Editable>(
     alloc: Global,
     own: &mut Vec<Own<T>>,
     lent: &Lent<T>,
@@ -133,7 +133,7 @@ pub(crate) fn with_copy<T: Editable>(
 }
 
 /// Edits the copy of the resource's value, and answers whether the edit was taken. No memory is taken.
-pub(crate) fn edit_own<T: Editable>(own: &mut Vec<Own<T>>, place: u8, edit: &T::Edit) -> bool
+pub fn edit_own<T: Editable>(own: &mut Vec<Own<T>>, place: u8, edit: &T::Edit) -> bool
     requires { IsSome (at_place own.old.items place) }
     ensures own { (value : T) → at_place own.old.items place ≡ Some value → own.new.items ≡ replaced own.old.items place (T.after value edit.now) }
     ensures done { (value : T) → at_place own.old.items place ≡ Some value → result ≡ T.taken value edit.now }

@@ -1,6 +1,6 @@
 use Rattle.std.proofs.Common.{ℕ, Some, sym, ap, ◌∙◌}
-use Rattle.rlent.proofs.Copying.{found_here, found_behind}
-use Rattle.rlent.proofs.copies.own_at.Goals as goal
+use Rattle.rcopies.proofs.Copying.{found_here, found_behind}
+use Rattle.rcopies.proofs.copies.own_at.Goals as goal
 
 pub returns-then-copy-place : goal.returns-then-copy-place
 returns-then-copy-place g c =

@@ -1,8 +1,8 @@
 use Rattle.std.proofs.Common.{◌≡◌, ℕ, List, ap, ◌∙◌}
 use Rattle.std.specs.Prelude.{slice_set, slice_index_or}
 use Rattle.rstate.specs.Lent.{index_of}
-use Rattle.rlent.proofs.Lending.{index_gives}
-use Rattle.rlent.proofs.copies.edit_own.Goals as goal
+use Rattle.rcopies.proofs.Copying.{index_gives}
+use Rattle.rcopies.proofs.copies.edit_own.Goals as goal
 
 pub returns-clause-own : goal.returns-clause-own
 returns-clause-own g c = λ value there.

@@ -2,8 +2,8 @@ use Rattle.std.proofs.Common.{ℕ, List, sym, ap, subst, ◌∙◌}
 use Rattle.std.specs.Vec.Iter.{into_iter_items}
 use Rattle.rstate.specs.Lent.{LentFields}
 use Rattle.rstate.specs.Shares.{ShareFields}
-use Rattle.rlent.specs.Copies.{with_shares, CanReplace}
-use Rattle.rlent.proofs.copies.replace_all.Goals as goal
+use Rattle.rcopies.specs.Copies.{with_shares, CanReplace}
+use Rattle.rcopies.proofs.copies.replace_all.Goals as goal
 
 pub loop-one-preserved : goal.loop-one-preserved
 loop-one-preserved g c =

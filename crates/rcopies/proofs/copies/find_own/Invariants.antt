@@ -1,6 +1,6 @@
 use Rattle.std.proofs.Common.{◌≡◌, ◌+◌, drop}
 use Rattle.rstate.specs.Lent.{at_place, index_of}
-use Rattle.rlent.proofs.copies.find_own.Given as goal
+use Rattle.rcopies.proofs.copies.find_own.Given as goal
 
 abbrev pub invariant-loop-i : goal.invariant-loop-i
 invariant-loop-i g l =

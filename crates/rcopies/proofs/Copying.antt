@@ -1,11 +1,13 @@
 -- Copies, looked through from the front: what is found at one of them, or behind it.
-use Rattle.std.proofs.Common.{◌≡◌, ℕ, ◌+◌, ◌<◌, ◌==◌, Bool, false, cond, List, ◌∷◌, ◌++◌, [], take, drop, length, get_or, Some, sym, ap, ◌∙◌, arith}
-use Rattle.std.proofs.lemmas.Bool.{eq-eqb, eqb-true}
+use Rattle.std.proofs.Common.{◌≡◌, ℕ, suc, ◌+◌, ◌<◌, ◌==◌, Bool, true, false, cond, List, ◌∷◌, ◌++◌, [], take, drop, length, get_or, Some, refl, sym, ap, ◌∙◌, arith}
+use Rattle.std.specs.Prelude.{slice_index_or, is_some}
+use Rattle.std.proofs.lemmas.Bool.{eq-eqb, eqb-true, true≢false}
 use Rattle.std.proofs.lemmas.List.{drop_more, take_more, map-append}
 use Rattle.rmodel.proofs.ListFacts.{false_from}
 use Rattle.rstate.specs.Lent.{at_place, index_of}
 use Rattle.rstate.specs.Shares.{ShareFields, whole}
-use Rattle.rlent.specs.Copies.{shares_of}
+use Rattle.rstate.proofs.homes.Lists.{same_item}
+use Rattle.rcopies.specs.Copies.{shares_of}
 
 -- the copy stands at this place of the list
 module _ {X : Type 0} (copies : List (ℕ × X)) (i l : ℕ) (copy : ℕ × X) (there : i < length copies) (is : copy ≡ get_or copies i copy) where
@@ -39,3 +41,16 @@ pub shares_more : {V : Type 0} (n : ℕ) (copies : List (ℕ × V)) (i : ℕ) (c
 shares_more {V} n copies i copy made more there is was one =
     (λ j. was j ++ one j)
     ∙ sym (ap (shares_of n) (take_more copies i copy there ∙ ap (λ (c : ℕ × V). take i copies ++ c ∷ []) (sym is)) ∙ map-append (λ (c : ℕ × V). (c.0, whole n c.1)) (take i copies) (copy ∷ []))
+
+module _ {X : Type 0} where
+  -- the item at the index of a resource that is there
+  pub index_gives : (loans : List (ℕ × X)) (l : ℕ) (x : X) (d : ℕ × X) → at_place loans l ≡ Some x → slice_index_or loans (index_of loans l) d ≡ (l, x)
+  index_gives [] l x d there = absurd (true≢false (sym (ap is_some there)))
+  index_gives (loan ∷ loans) l x d there = at (loan.0 == l) refl (index_gives loans l x d)
+    where
+      plus_one : (n : ℕ) → n + 1 ≡ suc n
+      plus_one n = omega arith
+
+      at : (b : Bool) → (loan.0 == l) ≡ b → (at_place loans l ≡ Some x → slice_index_or loans (index_of loans l) d ≡ (l, x)) → slice_index_or (loan ∷ loans) (cond b 0 (index_of loans l + 1)) d ≡ (l, x)
+      at true is rest = (λ i. (eqb-true loan.0 l is i, same_item loan.1 x (ap (λ (c : Bool). cond c (Some loan.1) (at_place loans l)) (sym is) ∙ there) i))
+      at false is rest = ap (λ n. slice_index_or (loan ∷ loans) n d) (plus_one (index_of loans l)) ∙ rest (ap (λ (c : Bool). cond c (Some loan.1) (at_place loans l)) (sym is) ∙ there)

@@ -1,7 +1,7 @@
 use Rattle.std.proofs.Common.{◌≡◌}
 use Rattle.std.specs.Vec.Iter.{into_iter_items}
-use Rattle.rlent.specs.Copies.{with_shares, CanReplace}
-use Rattle.rlent.proofs.copies.replace_all.Given as goal
+use Rattle.rcopies.specs.Copies.{with_shares, CanReplace}
+use Rattle.rcopies.proofs.copies.replace_all.Given as goal
 
 abbrev pub invariant-loop-one : goal.invariant-loop-one
 invariant-loop-one g l =

@@ -1,7 +1,7 @@
 use Rattle.std.proofs.Common.{◌≡◌, ◌≤◌, ℕ, [], ◌∷◌, length, sym, ap, subst, ◌∙◌}
 use Rattle.rstate.specs.Shares.{whole}
-use Rattle.rlent.proofs.Copying.{shares_more}
-use Rattle.rlent.proofs.copies.shares_of.Goals as goal
+use Rattle.rcopies.proofs.Copying.{shares_more}
+use Rattle.rcopies.proofs.copies.shares_of.Goals as goal
 
 pub loop-copy-preserved : goal.loop-copy-preserved
 loop-copy-preserved g c =
