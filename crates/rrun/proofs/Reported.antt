@@ -1,15 +1,14 @@
 -- The run of a script, from its seats to its report.
-use Rattle.std.proofs.Common.{◌≡◌, ◌<◌, ℕ, Bool, false, List, [], ◌∷◌, ◌++◌, map, length, replicate, Some, sym, ap, subst, ◌∙◌, arith}
+use Rattle.std.proofs.Common.{◌≡◌, ◌<◌, ℕ, false, List, [], ◌∷◌, ◌++◌, map, length, replicate, Some, sym, ap, subst, ◌∙◌, arith}
 use Rattle.std.proofs.lemmas.Bool.{true≢false}
-use Rattle.std.proofs.lemmas.List.{length-map, length-replicate}
+use Rattle.std.proofs.lemmas.List.{length-replicate}
 use Rattle.std.proofs.lemmas.List.FromFn.{fill_by_all}
 use Rattle.std.proofs.lemmas.Option.{get_or_from_slice_get}
-use Rattle.std.specs.List.{range_with_len, list_any}
+use Rattle.std.specs.List.{range_with_len}
 use Rattle.std.specs.Prelude.{slice_get, slice_index_or, All, Any}
 use Rattle.rclaim.specs.Events.{seat_of}
 use Rattle.rlock.specs.Known.{Site, newcomer, entries_by}
 use Rattle.rmodel.specs.State.{LockState, opening}
-use Rattle.rmodel.proofs.ListFacts.{false_from}
 use Rattle.rvalue.specs.declared.ledger.Edit.{Edit}
 use Rattle.rvalue.specs.declared.ledger.Ledger.{Ledger}
 use Rattle.rvalue.specs.Entries.{EntryFields}
@@ -18,7 +17,7 @@ use Rattle.rvalue.specs.Lawful.{AreOpenings}
 use Rattle.rvalue.proofs.InTurnLemmas.{AllInTurn-weaker}
 use Rattle.rstate.specs.Contents.{Contents}
 use Rattle.rstate.specs.Histories.{Beginning, IsListed, MayFollow}
-use Rattle.rstate.proofs.homes.Lists.{same_item, get_map, get_there, get_replicate, any_here}
+use Rattle.rstate.proofs.homes.Lists.{same_item, get_there, get_replicate}
 use Rattle.rforms.specs.Heads.{Head, is_nil}
 use Rattle.rforms.specs.Reports.{IsLawful, IsRightEntry, ledger_after}
 use Rattle.rreport.specs.Report.{ReportFields, told_by}
@@ -26,12 +25,10 @@ use Rattle.rscript.specs.Scripts.{ScriptFields, IsScript}
 use Rattle.rscript.specs.declared.statement.Statement.{Statement}
 use Rattle.rguard.specs.Closing.{IsClosedBy, IsLeft}
 use Rattle.rguard.specs.Seats.{SeatOf, IsOf, IsIdle}
-use Rattle.rsection.specs.Runs.{IsRunOf, HasRun}
+use Rattle.rsection.specs.Runs.{IsRunOf}
 use Rattle.rsection.specs.Seats.{IsSeatFor}
-use Rattle.rrun.specs.declared.tasks.Ended.{Ended}
-use Rattle.rrun.specs.Endings.{AreEnded}
 use Rattle.rrun.specs.Reporting.{beginning_of, HasOpened, TellsHeadOf, IsReportOf}
-use Rattle.rrun.specs.Tasks.{HasEnded}
+use Rattle.rrun.specs.Tasks.{AreSeatsFor, HaveRun}
 use Rattle.rrun.proofs.Ending.{less_from_slice_get}
 
 -- ---- the beginning
@@ -73,40 +70,30 @@ has_opened p site seats state values contents n state_is values_are n_is passes 
 
 -- ---- the end
 
-module _ {M : Type 0} (p : ScriptFields) (script : IsScript p) (site : Site) (seats : List (SeatOf Ledger Edit)) (opened : HasOpened p site seats) (ended : List (Ended M)) (are : AreEnded {M = M} site p seats ended) where
-  abbrev left_seats : List (SeatOf Ledger Edit)
-  left_seats = map (λ (e : Ended M). e.seat) ended
+module _ (p : ScriptFields) (script : IsScript p) (site : Site) (seats : List (SeatOf Ledger Edit)) (opened : HasOpened p site seats) (later : List (SeatOf Ledger Edit)) (are : AreSeatsFor site p later) where
+  at : (k : ℕ) → k < length p.tasks → (last : SeatOf Ledger Edit) × (slice_get later k ≡ Some last)
+  at k less = get_there later k (subst (λ n. k < n) (sym are.count) less)
 
-  at : (k : ℕ) → k < length p.tasks → (e : Ended M) × (slice_get ended k ≡ Some e)
-  at k less = get_there ended k (subst (λ n. k < n) (sym are.count) less)
+  within : (k : ℕ) → k < length later → k < length p.tasks
+  within k less = subst (λ n. k < n) are.count less
 
-  index : (k : ℕ) (e : Ended M) (d : SeatOf Ledger Edit) → slice_get ended k ≡ Some e → slice_index_or left_seats k d ≡ e.seat
-  index k e d there = get_or_from_slice_get left_seats k e.seat d (get_map (λ (e : Ended M). e.seat) ended k e there)
+  pub all_of : All (λ seat. IsOf site seat) later
+  all_of k d less = let last = at k (within k less) in subst (λ (s : SeatOf Ledger Edit). IsOf site s) (sym (get_or_from_slice_get later k last.0 d last.1)) (are.each k last.0 last.1).of
 
-  within : (k : ℕ) → k < length left_seats → k < length p.tasks
-  within k less = subst (λ n. k < n) (length-map ended (λ (e : Ended M). e.seat) ∙ are.count) less
+  pub all_idle : All (λ seat. IsIdle seat) later
+  all_idle k d less = let last = at k (within k less) in subst (λ (s : SeatOf Ledger Edit). IsIdle s) (sym (get_or_from_slice_get later k last.0 d last.1)) (are.each k last.0 last.1).idle
 
-  pub all_of : All (λ seat. IsOf site seat) left_seats
-  all_of k d less = let e = at k (within k less) in subst (λ (s : SeatOf Ledger Edit). IsOf site s) (sym (index k e.0 d e.1)) (are.seats_are k e.0 e.1).of
-
-  pub all_idle : All (λ seat. IsIdle seat) left_seats
-  all_idle k d less = let e = at k (within k less) in subst (λ (s : SeatOf Ledger Edit). IsIdle s) (sym (index k e.0 d e.1)) (are.seats_are k e.0 e.1).idle
-
-  pub all_there : (n : ℕ) → n < site.passes → Any (λ seat. seat.number ≡ n) left_seats
+  pub all_there : (n : ℕ) → n < site.passes → Any (λ seat. seat.number ≡ n) later
   all_there n less =
-      let e = at n (subst (λ m. n < m) opened.passes less) in
-      (n, e.0.seat, subst (λ m. n < m) (sym (length-map ended (λ (e : Ended M). e.seat) ∙ are.count)) (subst (λ m. n < m) opened.passes less), index n e.0 e.0.seat e.1, (are.seats_are n e.0 e.1).number)
+      let some = subst (λ m. n < m) opened.passes less in
+      let last = at n some in
+      (n, last.0, subst (λ m. n < m) (sym are.count) some, get_or_from_slice_get later n last.0 last.0 last.1, (are.each n last.0 last.1).number)
 
-  module _ (whole : list_any (λ (e : Ended M). e.stopped) ended ≡ false) (entries : List (EntryFields Edit)) (values : List Ledger)
-      (closed : All (λ seat. IsClosedBy value_after is_taken (λ (ledger : Ledger). ledger.balance) entries values seat) left_seats) where
-    closed_at : (k : ℕ) (e : Ended M) → slice_get ended k ≡ Some e → IsClosedBy value_after is_taken (λ (ledger : Ledger). ledger.balance) entries values e.seat
-    closed_at k e there =
-        subst (IsClosedBy value_after is_taken (λ (ledger : Ledger). ledger.balance) entries values) (index k e e.seat there)
-        (closed k e.seat (less_from_slice_get left_seats k e.seat (get_map (λ (e : Ended M). e.seat) ended k e there)))
-
-    ran : (k : ℕ) (statements : List Statement) (seat : SeatOf Ledger Edit) (e : Ended M) → slice_get p.steps k ≡ Some statements → slice_get seats k ≡ Some seat → slice_get ended k ≡ Some e → HasRun statements seat e.seat
-    ran k statements seat e steps_is seat_is there =
-        subst (λ (b : Bool). HasEnded statements seat b e.seat) (false_from e.stopped (λ h. true≢false (sym (any_here (λ (e : Ended M). e.stopped) ended k e there h) ∙ whole))) (are.each k statements seat e steps_is seat_is there)
+  module _ (ran : HaveRun p seats later) (entries : List (EntryFields Edit)) (values : List Ledger)
+      (closed : All (λ seat. IsClosedBy value_after is_taken (λ (ledger : Ledger). ledger.balance) entries values seat) later) where
+    closed_at : (k : ℕ) (last : SeatOf Ledger Edit) → slice_get later k ≡ Some last → IsClosedBy value_after is_taken (λ (ledger : Ledger). ledger.balance) entries values last
+    closed_at k last there =
+        subst (IsClosedBy value_after is_taken (λ (ledger : Ledger). ledger.balance) entries values) (get_or_from_slice_get later k last last there) (closed k last (less_from_slice_get later k last there))
 
     seat_at : (k : ℕ) → k < length p.tasks → (seat : SeatOf Ledger Edit) × (slice_get seats k ≡ Some seat)
     seat_at k less = get_there seats k (subst (λ n. k < n) (sym opened.seats_are.count) less)
@@ -118,10 +105,10 @@ module _ {M : Type 0} (p : ScriptFields) (script : IsScript p) (site : Site) (se
     each_ran k statements steps_is =
         let less = steps_within k statements steps_is in
         let seat = seat_at k less in
-        let e = at k less in
-        let run = ran k statements seat.0 e.0 steps_is seat.1 e.1 in
+        let last = at k less in
+        let run = ran k statements seat.0 last.0 steps_is seat.1 last.1 in
         let own : entries_by (λ (entry : EntryFields Edit). seat_of entry.event) k entries ≡ run.more =
-        ap (λ n. entries_by (λ (entry : EntryFields Edit). seat_of entry.event) n entries) (sym (are.seats_are k e.0 e.1).number) ∙ (closed_at k e.0 e.1).own ∙ run.goes.mine ∙ ap (λ (es : List (EntryFields Edit)). es ++ run.more) (opened.nothing_made k seat.0 seat.1) in
+        ap (λ n. entries_by (λ (entry : EntryFields Edit). seat_of entry.event) n entries) (sym (are.each k last.0 last.1).number) ∙ (closed_at k last.0 last.1).own ∙ run.goes.mine ∙ ap (λ (es : List (EntryFields Edit)). es ++ run.more) (opened.nothing_made k seat.0 seat.1) in
         subst (IsRunOf k statements) (sym own) (subst (λ n. IsRunOf n statements run.more) (opened.seats_are.each k seat.0 seat.1).number run.run)
 
     some_task : 0 < length p.tasks
@@ -134,10 +121,10 @@ module _ {M : Type 0} (p : ScriptFields) (script : IsScript p) (site : Site) (se
     is_left : IsLeft value_after is_taken (λ (ledger : Ledger). ledger.balance) (beginning_of p) entries values
     is_left =
         let seat = seat_at 0 some_task in
-        let e = at 0 some_task in
+        let last = at 0 some_task in
         let statements = get_there p.steps 0 (subst (λ n. 0 < n) (sym script.paired) some_task) in
-        let run = ran 0 statements.0 seat.0 e.0 statements.1 seat.1 e.1 in
-        (closed_at 0 e.0 e.1).left (beginning_of p) (run.goes.same.2 ∙ opened.begins 0 seat.0 seat.1)
+        let run = ran 0 statements.0 seat.0 last.0 statements.1 seat.1 last.1 in
+        (closed_at 0 last.0 last.1).left (beginning_of p) (run.goes.same.2 ∙ opened.begins 0 seat.0 seat.1)
 
     -- what each value is told to open with
     told_of : (openings : ℕ → Ledger) → ((l : ℕ) (ledger : Ledger) → ledger ≡ opening_ledger → openings l ≡ ledger) → AreOpenings (IsListed (beginning_of p).values) openings

@@ -18,3 +18,9 @@ pub record AreSeatsFor (site : Site) (p : ScriptFields) (seats : List (SeatOf Le
 abbrev pub HasEnded : List Statement → SeatOf Ledger Edit → Bool → SeatOf Ledger Edit → Type 0
 HasEnded statements seat false later = HasRun statements seat later
 HasEnded statements seat true later = HasBrokenOff statements seat later
+
+-- each of the seats has run its task
+abbrev pub HaveRun : ScriptFields → List (SeatOf Ledger Edit) → List (SeatOf Ledger Edit) → Type 0
+HaveRun p seats later =
+    (k : ℕ) (statements : List Statement) (seat last : SeatOf Ledger Edit) → slice_get p.steps k ≡ Some statements → slice_get seats k ≡ Some seat → slice_get later k ≡ Some last
+    → HasRun statements seat last

@@ -4,6 +4,7 @@ ghost use Rattle.std.specs.Arc.{arc_value};
 ghost use Rattle.std.specs.List.{list_any};
 ghost use Rattle.rforms.specs.Written.{MayBeWritten};
 ghost use Rattle.rreport.specs.Report.{told_by};
+ghost use Rattle.rrun.specs.Tasks.{AreSeatsFor, HaveRun};
 ghost use Rattle.rrun.specs.Reporting.{HasOpened, TellsHeadOf, IsReportOf};
 
 use crate::tasks::{Ended, run_tasks};
@@ -40,18 +41,11 @@ pub fn run_script<R: Threads + Wait + Sync, G: Pace>(
     ensures receipt { IfOk result (λ r. r.1 ≡ r.0.entries) }
 {
     let (rnlp, seats) = open(alloc, script)?;
-    let room = Vec::with_capacity(alloc, seats.len())?;
-    let ended = match run_tasks(rt, alloc, &rnlp, seats, script, pace) {
-        Ok(ended) => ended,
-        Err((_, e)) => return Err(e),
-    };
-    if is_broken(ended.as_slice()) {
-        return Err(AllocError);
-    }
     let _ = script.tasks();
-    let closed = rnlp.close(seats_of(ended, room));
-    let (report, receipt) = report_of(alloc, script, closed)?;
-    Ok((report, receipt))
+    match seats_behind(rt, alloc, &rnlp, seats, script, pace) {
+        Ok(seats) => report_of(alloc, script, rnlp.close(seats)),
+        Err(e) => Err(e),
+    }
 }
 
 // A runtime over what the script declares, at which nothing was done, with a seat for each task.
@@ -65,6 +59,34 @@ fn open(alloc: Global, script: &Script) -> Result<Opened<Plain>, AllocError>
     let values = vec![in alloc; Ledger::new(); usize::from(resources)]?;
     let (rnlp, all) = Rnlp::new(alloc, machine, values, seats)?;
     Ok((rnlp, all))
+}
+
+// Runs all tasks, and gives their seats if none was stopped.
+fn seats_behind<R: Threads + Wait + Sync, M: Machine, G: Pace>(
+    rt: &R,
+    alloc: Global,
+    rnlp: &Rnlp<Ledger, M>,
+    seats: Vec<Seat<Ledger, M>>,
+    script: &Script,
+    pace: &G,
+) -> Result<Vec<Seat<Ledger, M>>, AllocError>
+    requires { AreSeatsFor rnlp.now script.now seats.items }
+    ensures seats { IfOk result (λ later. AreSeatsFor rnlp.entry.now script.entry.now later.items) }
+    ensures ran { IfOk result (λ later. HaveRun script.entry.now seats.items later.items) }
+{
+    let Ok(room) = Vec::with_capacity(alloc, seats.len()) else {
+        return Err(AllocError);
+    };
+    match run_tasks(rt, alloc, rnlp, seats, script, pace) {
+        Ok(ended) => {
+            if is_broken(ended.as_slice()) {
+                Err(AllocError)
+            } else {
+                Ok(seats_of(ended, room))
+            }
+        }
+        Err((_, e)) => Err(e),
+    }
 }
 
 // Whether one of the tasks was stopped.
@@ -100,21 +122,26 @@ fn report_of(
     ensures receipt { IfOk result (λ r. r.1 ≡ closed.2) }
 {
     let (history, values, receipt) = closed;
-    let Head {
-        resources,
-        groups,
-        tasks,
-        ledgers,
-    } = head_of(alloc, script, values.as_slice())?;
-    let report = Report {
-        resources,
-        groups,
-        tasks,
-        cap: script.tasks().len(),
-        history,
-        ledgers,
-    };
-    Ok((report, receipt))
+    match head_of(alloc, script, values.as_slice()) {
+        Ok(head) => {
+            let Head {
+                resources,
+                groups,
+                tasks,
+                ledgers,
+            } = head;
+            let report = Report {
+                resources,
+                groups,
+                tasks,
+                cap: script.tasks().len(),
+                history,
+                ledgers,
+            };
+            Ok((report, receipt))
+        }
+        Err(e) => Err(e),
+    }
 }
 
 // What a report has beside its history.

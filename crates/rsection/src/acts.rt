@@ -39,10 +39,14 @@ pub(crate) fn begin<'a, R: Wait, M: Machine, G: Pace>(
     ensures ok { IfOk result (HasStepped (Desk.Idle seat) (Statement.Begin request)) }
     ensures err { IfErr result (λ e. HasLeft seat e.0) }
 {
-    let pending = rnlp.begin(rt, alloc, seat, request)?;
-    let guard = held(rt, pending, pace);
-    pace.section(at.task, at.section);
-    Ok(Desk::Busy(guard))
+    match rnlp.begin(rt, alloc, seat, request) {
+        Ok(pending) => {
+            let guard = held(rt, pending, pace);
+            pace.section(at.task, at.section);
+            Ok(Desk::Busy(guard))
+        }
+        Err(e) => Err(e),
+    }
 }
 
 /// The section edits a resource.

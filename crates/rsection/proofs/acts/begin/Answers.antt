@@ -1,7 +1,7 @@
 use Rattle.rsection.proofs.Stepping.{has_begun}
 use Rattle.rsection.proofs.acts.begin.Goals as goal
 
-pub returns-clause-ok : goal.returns-clause-ok
-returns-clause-ok g c =
-    has_begun c.held-guard.result c.held-guard.ensures.lawful c.held-guard.ensures.own c.args.rnlp.now c.args.seat c.args.request c.in_ok-pending.pending c.requires.of.began c.requires.of.opening
-    c.in_ok-pending.ensures.ok c.held-guard.ensures.awaited (c.requires.fits c.requires.of.began c.requires.of.opening).within.0
+pub returns-in-Ok-clause-ok : goal.returns-in-Ok-clause-ok
+returns-in-Ok-clause-ok g c =
+    has_begun c.held-guard.result c.held-guard.ensures.lawful c.held-guard.ensures.own c.args.rnlp.now c.args.seat c.args.request c.in-Ok.pending c.requires.of.began c.requires.of.opening
+    c.in-Ok.ensures.ok c.held-guard.ensures.awaited (c.requires.fits c.requires.of.began c.requires.of.opening).within.0
