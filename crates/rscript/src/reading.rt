@@ -156,8 +156,12 @@ impl Reading {
         Ok(())
     }
 
-    // Keeps the statements of the latest task with those of the tasks before it, unless there is none.
-    fn close_task(&mut self, none: bool) -> Result<(), RowErr<Code>>
+    /// Keeps the statements of the latest task with those of the tasks before it, unless there is none.
+    ///
+    /// # Errors
+    ///
+    /// Want of memory.
+    pub fn close_task(&mut self, none: bool) -> Result<(), RowErr<Code>>
         ensures ok { OnOk result (Closes none self.old self.new) }
         ensures memory { IfErr result (λ e. e ≡ RowErr.Memory) }
     {

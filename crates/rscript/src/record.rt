@@ -1,5 +1,6 @@
 // What a record is, by the number of its fields and the words in them.
 ghost use Rattle.std.specs.Prelude.{◌≡◌};
+ghost use Rattle.std.specs.Str.{bytes_eq};
 ghost use Rattle.csv.specs.Records.{fields_of};
 ghost use Rattle.rscript.specs.Words.{word_in};
 ghost use Rattle.rscript.specs.Decided.{word_of_one, word_of_two, word_of_three, word_of_four, word_of_five};
@@ -27,11 +28,11 @@ pub fn word_in(fields: &ByteRecord) -> Option<Word>
 fn word_of_one(first: &[u8]) -> Option<Word>
     ensures { result ≡ word_of_one first.now }
 {
-    if first == b"rise".as_slice() {
+    if is(first, b"rise") {
         Some(Word::Rise)
-    } else if first == b"finish".as_slice() {
+    } else if is(first, b"finish") {
         Some(Word::Finish)
-    } else if first == b"end".as_slice() {
+    } else if is(first, b"end") {
         Some(Word::End)
     } else {
         None
@@ -42,17 +43,17 @@ fn word_of_one(first: &[u8]) -> Option<Word>
 fn word_of_two(first: &[u8], second: &[u8]) -> Option<Word>
     ensures { result ≡ word_of_two first.now second.now }
 {
-    if first == b"rnlp".as_slice() && second == b"1".as_slice() {
+    if is(first, b"rnlp") && is(second, b"1") {
         Some(Word::Version)
-    } else if first == b"resource".as_slice() {
+    } else if is(first, b"resource") {
         Some(Word::Resource)
-    } else if first == b"group".as_slice() {
+    } else if is(first, b"group") {
         Some(Word::Group)
-    } else if first == b"task".as_slice() {
+    } else if is(first, b"task") {
         Some(Word::Task)
-    } else if first == b"show".as_slice() {
+    } else if is(first, b"show") {
         Some(Word::Show)
-    } else if first == b"ask".as_slice() {
+    } else if is(first, b"ask") {
         Some(Word::Ask)
     } else {
         None
@@ -63,15 +64,15 @@ fn word_of_two(first: &[u8], second: &[u8]) -> Option<Word>
 fn word_of_three(first: &[u8]) -> Option<Word>
     ensures { result ≡ word_of_three first.now }
 {
-    if first == b"read".as_slice() {
+    if is(first, b"read") {
         Some(Word::Begin(Kind::Read))
-    } else if first == b"write".as_slice() {
+    } else if is(first, b"write") {
         Some(Word::Begin(Kind::Write))
-    } else if first == b"add".as_slice() {
+    } else if is(first, b"add") {
         Some(Word::Add)
-    } else if first == b"take".as_slice() {
+    } else if is(first, b"take") {
         Some(Word::Take)
-    } else if first == b"set".as_slice() {
+    } else if is(first, b"set") {
         Some(Word::Put)
     } else {
         None
@@ -82,9 +83,9 @@ fn word_of_three(first: &[u8]) -> Option<Word>
 fn word_of_four(first: &[u8]) -> Option<Word>
     ensures { result ≡ word_of_four first.now }
 {
-    if first == b"mixed".as_slice() {
+    if is(first, b"mixed") {
         Some(Word::Begin(Kind::Mixed))
-    } else if first == b"upgrade".as_slice() {
+    } else if is(first, b"upgrade") {
         Some(Word::Begin(Kind::Upgrade))
     } else {
         None
@@ -95,9 +96,16 @@ fn word_of_four(first: &[u8]) -> Option<Word>
 fn word_of_five(first: &[u8]) -> Option<Word>
     ensures { result ≡ word_of_five first.now }
 {
-    if first == b"nested".as_slice() {
+    if is(first, b"nested") {
         Some(Word::Begin(Kind::Nested))
     } else {
         None
     }
+}
+
+// Whether a field is this word.
+fn is(field: &[u8], word: &[u8]) -> bool
+    ensures { result ≡ bytes_eq field.now word.now }
+{
+    field == word
 }

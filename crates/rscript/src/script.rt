@@ -1,7 +1,7 @@
 // A script, and how it is read.
 ghost use Rattle.std.specs.Prelude.{◌≡◌, ◌<◌, ℕ, Some, IfOk, IfErr, length, slice_get};
 ghost use Rattle.rscript.specs.Scripts.{IsScript, IsTextOf};
-ghost use Rattle.rscript.specs.SoFar.{SoFar, told_in};
+ghost use Rattle.rscript.specs.SoFar.{SoFar, nothing_yet, told_in};
 ghost use Rattle.rscript.specs.Texts.{error_of, IsFirstFault};
 ghost use Rattle.rscript.specs.Reading.{Knows};
 
@@ -12,6 +12,7 @@ use rforms::{TextErr, take_text};
 use rset::NameTable;
 use std::alloc::Global;
 use std::marker::Model;
+use std::mem;
 
 /// Why a text was not read as a script.
 #[derive(Clone, Copy, Debug, PartialEq, Eq)]
@@ -80,34 +81,25 @@ impl Script {
         self.steps[usize::from(task)].as_slice()
     }
 
-    // The script that a reader has read.
-    fn of(reading: Reading) -> Result<Script, ScriptErr>
-        requires { (s : SoFar) × Knows reading s × IsScript (told_in s) }
-        ensures said { IfOk result (λ script. (s : SoFar) → Knows reading s → script ≡ told_in s) }
+    // The script that a reader has read, which is given away. Its groups are there, as it has a task.
+    fn of(reading: &mut Reading) -> Result<Script, ScriptErr>
+        requires { (s : SoFar) × Knows reading.old s × IsScript (told_in s) }
+        ensures said { IfOk result (λ script. (s : SoFar) → Knows reading.old s → script ≡ told_in s) }
         ensures memory { IfErr result (λ e. e ≡ ScriptErr.Memory) }
     {
-        let Reading {
-            alloc: _,
-            last: _,
-            resources,
-            groups,
-            tasks,
-            mut steps,
-            latest,
-            section: _,
-        } = reading;
-        let Some(groups) = groups else {
+        let Ok(()) = reading.close_task(false) else {
             return Err(ScriptErr::Memory);
         };
-        let Ok(()) = steps.push(latest) else {
-            return Err(ScriptErr::Memory);
-        };
-        Ok(Script {
-            resources,
-            groups,
-            tasks,
-            steps,
-        })
+        let alloc = reading.alloc;
+        match reading.groups.take() {
+            Some(groups) => Ok(Script {
+                resources: mem::replace(&mut reading.resources, NameTable::new(alloc)),
+                groups,
+                tasks: mem::replace(&mut reading.tasks, NameTable::new(alloc)),
+                steps: mem::replace(&mut reading.steps, Vec::new(alloc)),
+            }),
+            None => Err(ScriptErr::Memory),
+        }
     }
 }
 
@@ -120,8 +112,16 @@ pub fn read_script(alloc: Global, bytes: &[u8]) -> Result<Script, ScriptErr>
     ensures script { IfOk result (IsTextOf bytes.now) }
     ensures bad { (line : ℕ) (code : Code) → result ≡ Err (ScriptErr.Bad line code) → IsFirstFault bytes.now line code }
 {
-    let mut reading = Reading::new(alloc);
-    match take_text(alloc, bytes, &mut reading) {
+    take_script(alloc, bytes, &mut Reading::new(alloc))
+}
+
+// The same, by a reader that has read nothing.
+fn take_script(alloc: Global, bytes: &[u8], reading: &mut Reading) -> Result<Script, ScriptErr>
+    requires { Knows reading.old nothing_yet }
+    ensures script { IfOk result (IsTextOf bytes.now) }
+    ensures bad { (line : ℕ) (code : Code) → result ≡ Err (ScriptErr.Bad line code) → IsFirstFault bytes.now line code }
+{
+    match take_text(alloc, bytes, reading) {
         Ok(()) => Script::of(reading),
         Err(e) => Err(error_of(e)),
     }

@@ -1,6 +1,6 @@
 use Rattle.std.proofs.Common.{Err, sym, ap, ◌∙◌}
 use Rattle.rscript.proofs.texts.Taken.{may_be_script, script_read, fault_told, if_ok}
-use Rattle.rscript.proofs.script.read_script.Goals as goal
+use Rattle.rscript.proofs.script.take_script.Goals as goal
 
 pub of-requires : goal.of-requires
 of-requires c = may_be_script c.args.bytes.now c.take_text.new.taker c.in-Ok.ensures.taken
