@@ -1,5 +1,5 @@
 // The lines of waits, each in two pieces: the bound stands behind the rest of its line once it is known.
-ghost use Rattle.std.specs.Prelude.{◌≡◌, ◌++◌, ◌+◌, ◌≤◌, length, take, OnOk};
+ghost use Rattle.std.specs.Prelude.{◌≡◌, ◌++◌, ◌+◌, ◌≤◌, length, take, OnOk, OnErr};
 ghost use Rattle.rbound.specs.Bounds.{numbers_in};
 ghost use Rattle.rforms.specs.Texts.{behind_comma};
 ghost use Rattle.rforms.specs.Waits.{stage_of, cover_of};
@@ -50,7 +50,8 @@ fn put_stage(page: &mut [u8], at: usize, which: Which) -> usize
 ///
 /// Want of memory. The text is then as it was.
 pub fn push_bound(text: &mut Vec<u8>, bound: Bound) -> Result<(), AllocError>
-    ensures { OnOk result (text.new.items ≡ text.old.items ++ bound_text (numbers_in bound)) }
+    ensures ok { OnOk result (text.new.items ≡ text.old.items ++ bound_text (numbers_in bound)) }
+    ensures err { OnErr result (text.new.items ≡ text.old.items) }
 {
     let mut piece = [0; BOUND_ROOM];
     let at = put_number(&mut piece, 0, bound.reads);

@@ -11,4 +11,4 @@ returns c =
     let bound : List ℕ = bound_text (numbers_in c.args.bound) in
     on_ok_weaker c.push_bound.result
     (λ e. e ∙ ap (λ (t : List ℕ). t ++ bound) (c.in_ok-extend_from_slice.ensures.items ∙ ap (λ (t : List ℕ). c.args.closed.now.items ++ t) (part_is c.args.from c.args.to c.args.text.now c.requires.0)) ∙ append_assoc c.args.closed.now.items piece bound)
-    c.push_bound.ensures
+    c.push_bound.ensures.ok
