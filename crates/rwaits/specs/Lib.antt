@@ -4,4 +4,5 @@ pub mod Follows
 pub mod Knows
 pub mod Past
 pub mod Quiet
+pub mod Stages
 pub mod Waiting

@@ -8,9 +8,11 @@ ghost use Rattle.rclaim.specs.declared.event.Event.{Event};
 ghost use Rattle.rmodel.specs.Changes.{changes_between, AreActive};
 ghost use Rattle.rmodel.specs.Steps.{Fits, Accepts, Comes, Steps, next, refusal};
 ghost use Rattle.rstretch.specs.Kept.{HasRoom};
+ghost use Rattle.rwaits.specs.declared.following.Following.{Following};
 ghost use Rattle.rwaits.specs.Follow.{IsEmpty};
 ghost use Rattle.rwaits.specs.Past.{Past, begun, state_of, with_event, AreLastEnded};
 ghost use Rattle.rwaits.specs.Follows.{Follows, IsAhead};
+ghost use Rattle.rwaits.specs.Stages.{HasTold, HasNoted};
 ghost use Rattle.rwaits.specs.Waiting.{ends_none};
 ghost use Rattle.rheads.specs.Lines.{is_finish};
 ghost use Rattle.rplain.specs.Machine.{Standing};
@@ -237,6 +239,19 @@ impl Following {
         requires other { ends_none self.old.waiting event.now ≡ false }
         ensures { (p : Past) → IsAhead self.old machine.now p event.now → Follows self.new (with_event p event.now) }
     {
+        self.tell_ended(machine, event);
+        self.note_left(machine, event);
+        self.keep_waits(machine, event);
+    }
+
+    // Tells the waits that an event ended, by what is kept of the moment before it.
+    // It is a part of `advance`, and no call.
+    #[inline(always)]
+    fn tell_ended(&mut self, machine: &Plain, event: &Event)
+        requires ahead { (p : Past) × IsAhead self.old machine.now p event.now }
+        requires other { ends_none self.old.waiting event.now ≡ false }
+        ensures { (p : Past) → IsAhead self.old machine.now p event.now → HasTold self.old self.new machine.now p event.now }
+    {
         self.heads.tell_now(&self.last);
         tell(
             &mut self.ended,
@@ -253,6 +268,15 @@ impl Following {
             &self.last,
             machine.claims(),
         );
+    }
+
+    // Notes what an event that ended the waits which were told leaves of the seats.
+    // It is a part of `advance`, and no call.
+    #[inline(always)]
+    fn note_left(&mut self, machine: &Plain, event: &Event)
+        requires { (a : Following) × (p : Past) × HasTold a self.old machine.now p event.now × (length p.events < 2 ^ 63) }
+        ensures { (a : Following) (p : Past) → HasTold a self.old machine.now p event.now → HasNoted a self.new machine.now p event.now }
+    {
         note_lengths(&mut self.lengths, event);
         note_ask(&mut self.asks, event);
         note_event(&mut self.rising, &mut self.asking, &mut self.reading, event);
@@ -265,6 +289,15 @@ impl Following {
             first,
             machine.claims(),
         );
+    }
+
+    // Goes on to the moment behind an event with the heads of the writes, and with what is kept of the waits.
+    // It is a part of `advance`, and no call.
+    #[inline(always)]
+    fn keep_waits(&mut self, machine: &Plain, event: &Event)
+        requires { (a : Following) × (p : Past) × HasNoted a self.old machine.now p event.now }
+        ensures { (a : Following) (p : Past) → HasNoted a self.old machine.now p event.now → Follows self.new (with_event p event.now) }
+    {
         let came = seats_told(&machine.changes().statuses);
         let gone = self.heads.lose(event);
         let touched = touched_by(
