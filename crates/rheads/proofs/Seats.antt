@@ -32,3 +32,11 @@ any_push p (x ∷ xs) y = ap (λ b. p x || b) (any_push p xs y) ∙ over (p x) (
     over : (a b c : Bool) → (a || (b || c)) ≡ ((a || b) || c)
     over true b c = refl
     over false b c = refl
+
+pub or_false : (b : Bool) → (b || false) ≡ b
+or_false true = refl
+or_false false = refl
+
+pub or_grouped : (a b c : Bool) → ((a || b) || c) ≡ (a || (b || c))
+or_grouped true b c = refl
+or_grouped false b c = refl

@@ -93,9 +93,9 @@ HoldBehindBut lost ss m zs = AllByRecursion (λ z. z.claim.write_half ≡ true �
 abbrev pub is_taken : Event → Claimed → Bool
 is_taken e x = takes_seat e x.claim.seat && x.claim.write_half
 
--- this is the head of the write that an event takes away, if it takes one, and of each write whose least claim is of the same seat; its places are among these
+-- this is the head of the write that an event takes away, if it takes one, and of each write whose least claim is of the same seat; and these are its places
 pub record IsLost (lost : Head) (gone : Set) (e : Event) (m : Moment) (x : Claimed) : Type 0 where
-  pub places : x.claim.write_half ≡ true → takes_seat e x.claim.seat ≡ true → is_subset x.claim.places gone ≡ true
+  pub places : x.claim.write_half ≡ true → takes_seat e x.claim.seat ≡ true → x.claim.places ≡ gone
   pub taken : x.claim.write_half ≡ true → takes_seat e x.claim.seat ≡ true → head_of m x.claim ≡ lost
   pub one : x.claim.write_half ≡ true → (least_of x.claim m).seat ≡ lost.claim.seat → head_of m x.claim ≡ lost
 
@@ -107,6 +107,10 @@ with_told came h = if contains came h.claim.seat then record { claim = h.claim; 
 pub record IsTouched (lost : ℕ) (statuses : List StatusChange) (touched : Set) (m : Moment) (x : Claimed) : Type 0 where
   pub not_lost : x.claim.write_half ≡ true → contains touched x.claim.seat ≡ false → (least_of x.claim m).seat ≢ lost
   pub not_told : x.claim.write_half ≡ true → contains touched x.claim.seat ≡ false → tells_write_of statuses (least_of x.claim m).seat ≡ false
+
+-- a write is touched, by sets of the seats of least claims: its least claim is of the seat that is lost, or of one whose write is told to be satisfied
+abbrev pub is_touched : List Set → ℕ → List StatusChange → ℕ → Bool
+is_touched ss lost cs seat = contains (set_at ss lost) seat || list_any (λ c. (c.write_half && satisfied_by c.status) && contains (set_at ss c.seat) seat) cs
 
 -- the least claim of a write is of the same stamp at both moments, or all its places are among these
 abbrev pub IsNoted : Set → Moment → Moment → Claimed → Type 0
@@ -130,8 +134,8 @@ pub record GoesBy (lost : Head) (gone came touched : Set) (m n : Moment) (x : Cl
 
 -- what became of the head of a write from a moment m to the next, n: its seat may be among those that moved, or among those that rose
 pub record HeadsTell (hs' : List Head) (lost : Head) (went rose : Set) (m n : Moment) (x : Claimed) : Type 0 where
-  -- it had the least claim that is lost, and has another head now
-  pub moved : x.claim.write_half ≡ true → contains went x.claim.seat ≡ true → (head_of m x.claim ≡ lost) × (slice_get hs' x.claim.seat ≡ Some (head_of n x.claim))
+  -- it had the least claim that is lost, and has another one now
+  pub moved : x.claim.write_half ≡ true → contains went x.claim.seat ≡ true → (head_of m x.claim ≡ lost) × (slice_get hs' x.claim.seat ≡ Some (head_of n x.claim)) × ((least_of x.claim n).stamp ≢ lost.claim.stamp)
   -- its least claim came to be satisfied
   pub risen :
       x.claim.write_half ≡ true → contains went x.claim.seat ≡ false → contains rose x.claim.seat ≡ true

@@ -1,11 +1,13 @@
 -- The seats that have a write, and what each takes.
-use Rattle.std.specs.Prelude.{◌≡◌, ◌==◌, ◌&&◌, ℕ, Bool, true, not, Option, Some, List, slice_get, if◌then◌else◌}
+use Rattle.std.specs.Prelude.{◌≡◌, ◌==◌, ◌&&◌, ℕ, Bool, true, not, Option, Some, None, List, slice_get, if◌then◌else◌}
 use Rattle.std.specs.List.{list_any, AllByRecursion}
-use Rattle.std.specs.FinSet.{contains}
+use Rattle.std.specs.FinSet.{contains, empty}
 use Rattle.rset.specs.Sets.{Set}
 use Rattle.rclaim.specs.Events.{seat_of}
 use Rattle.rclaim.specs.declared.event.Event.{Event}
+use Rattle.rclaim.specs.declared.changes.StatusChange.{StatusChange}
 use Rattle.rclaim.specs.declared.claim.Claim.{Claim}
+use Rattle.rmodel.specs.Claims.{satisfied_by}
 use Rattle.rmodel.specs.declared.claimed.Claimed.{Claimed}
 use Rattle.rcover.specs.Moments.{Moment}
 use Rattle.rheads.specs.declared.shares.Share.{Share}
@@ -40,6 +42,15 @@ pub record TellWrites (writers : Set) (ss : List Share) (m : Moment) : Type 0 wh
 -- an event takes a write away, where these are the seats that have one
 abbrev pub takes_write : Event → Set → Bool
 takes_write e writers = is_finish e && contains writers (seat_of e)
+
+-- what a share writes, if there is one
+abbrev pub writes_if : Option Share → Set
+writes_if None = empty
+writes_if (Some share) = share.writes
+
+-- a write that is told to be satisfied writes this resource, by what is kept for its seat
+abbrev pub is_written : List Share → List StatusChange → ℕ → Bool
+is_written ss cs l = list_any (λ c. (c.write_half && satisfied_by c.status) && contains (writes_if (slice_get ss c.seat)) l) cs
 
 -- the seats that have a write but for that whose claims an event takes away
 abbrev pub AreLeft : Event → Set → Set → Type 0

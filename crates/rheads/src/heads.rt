@@ -1,12 +1,13 @@
 // The least claims of the lines of all writes, kept from event to event.
-ghost use Rattle.std.specs.Prelude.{◌≡◌, ◌≤◌, ◌<◌, [], true, IfOk, length, take};
+ghost use Rattle.std.specs.FinSet.{empty};
+ghost use Rattle.std.specs.Prelude.{◌≡◌, ◌≤◌, ◌<◌, [], false, true, IfOk, length, take};
 ghost use Rattle.std.specs.List.{AllByRecursion};
 ghost use Rattle.rcover.specs.Moments.{Moment};
 ghost use Rattle.rset.specs.declared.TheConstants.{SEATS};
 ghost use Rattle.rclaim.specs.Events.{seat_of};
 ghost use Rattle.rheads.specs.Lines.{TellAt, TellHeads, GoesBy, HeadsTell, IsLost, IsTold, HoldBehind, ArePlaced};
 ghost use Rattle.rheads.specs.Heads.{HasPlaces, TellsNow, TellsWrites, IsMoment};
-ghost use Rattle.rheads.specs.Shares.{AreLeft, TellWrites};
+ghost use Rattle.rheads.specs.Shares.{AreLeft, TellWrites, takes_write};
 
 use crate::lines::{Head, forget, no_head, tell_heads};
 use crate::shares::{Share, no_share, note_writes, takes_write};
@@ -90,6 +91,8 @@ impl Heads {
         ensures room { HasPlaces self.new }
         ensures told { TellsNow self.new moment.now }
         ensures writes { TellsWrites self.new moment.now }
+        ensures stays { brought ≡ true → self.new.told ≡ self.old.told }
+        ensures rest { self.new ≡ record self.old { now = self.new.now; behind = self.new.behind; writers = self.new.writers; shares = self.new.shares; told = self.new.told } }
     {
         if !brought {
             self.told = false;
@@ -107,6 +110,7 @@ impl Heads {
         ensures room { HasPlaces self.new }
         ensures told { (m : Moment) → TellsNow self.new m }
         ensures writes { (m : Moment) → TellsWrites self.new m }
+        ensures rest { self.new ≡ record self.old { told = false } }
     {
         self.told = false;
     }
@@ -120,6 +124,7 @@ impl Heads {
         ensures room { HasPlaces self.new }
         ensures told { IsTold self.new.now.items self.new.behind.items moment.now }
         ensures writes { TellWrites self.new.writers self.new.shares moment.now }
+        ensures rest { self.new ≡ record self.old { now = self.new.now; behind = self.new.behind; writers = self.new.writers; shares = self.new.shares; told = true } }
     {
         if !self.told {
             tell_heads(&mut self.now, &mut self.behind, moment, 0);
@@ -130,7 +135,7 @@ impl Heads {
     }
 
     /// Notes the head of the write that an event takes away, if it takes one, and that its seat has none from then on. Answers the
-    /// places of that write.
+    /// places of that write; none, where it takes none.
     pub fn lose(&mut self, event: &Event) -> ResourceSet
         requires low { seat_of event.now < SEATS }
         requires room { HasPlaces self.old }
@@ -139,6 +144,8 @@ impl Heads {
         ensures shares { self.new.shares ≡ self.old.shares }
         ensures now { self.new.now ≡ self.old.now }
         ensures behind { self.new.behind ≡ self.old.behind }
+        ensures rest { self.new ≡ record self.old { lost = self.new.lost; writers = self.new.writers } }
+        ensures none { takes_write event.now self.old.writers ≡ false → result ≡ empty }
     {
         if !takes_write(event, self.writers) {
             self.lost.claim.seat = SEATS;
@@ -167,6 +174,7 @@ impl Heads {
         ensures room { HasPlaces self.new }
         ensures writers { self.new.writers ≡ self.old.writers }
         ensures shares { self.new.shares ≡ self.old.shares }
+        ensures rest { self.new ≡ record self.old { now = self.new.now; behind = self.new.behind; moved = self.new.moved; risen = self.new.risen } }
         ensures places_len { length places.new ≡ length places.old }
         ensures placed { (m : Moment) → TellAt self.old.now.items m moment.now → AllByRecursion (GoesBy self.old.lost gone came touched m moment.now) moment.now → ArePlaced places.new self.new.moved self.new.risen moment.now }
         ensures told { (m : Moment) → TellAt self.old.now.items m moment.now → HoldBehind self.old.behind.items m moment.now → AllByRecursion (GoesBy self.old.lost gone came touched m moment.now) moment.now → TellsNow self.new moment.now }

@@ -1,13 +1,12 @@
 // The least claims of the lines of all writes.
-ghost use Rattle.std.specs.Prelude.{if◌then◌else◌, ◌≡◌, ◌≢◌, ◌&&◌, ◌≤◌, ◌<◌, ◌==◌, ◌++◌, ◌∷◌, [], ℕ, true, take, length, slice_get};
+ghost use Rattle.std.specs.Prelude.{if◌then◌else◌, ◌≡◌, ◌≢◌, ◌&&◌, ◌||◌, ◌≤◌, ◌<◌, ◌==◌, ◌++◌, ◌∷◌, [], ℕ, true, take, length, slice_get};
 ghost use Rattle.std.specs.List.{AllByRecursion};
 ghost use Rattle.rmodel.specs.WellFormed.{EachPair, Rises, Distinct};
 ghost use Rattle.std.specs.FinSet.{contains, empty};
 ghost use Rattle.rset.specs.declared.TheConstants.{SEATS};
-ghost use Rattle.rheads.specs.Lines.{own_head, lowered, head_of, TellAt, heads_with, set_at, IsBehind, HoldMore, IsTold};
+ghost use Rattle.rheads.specs.Lines.{own_head, lowered, head_of, TellAt, heads_with, set_at, is_touched, IsBehind, HoldMore, IsTold};
 ghost use Rattle.rmodel.specs.Claims.{satisfied_by};
 ghost use Rattle.rcover.specs.Line.{least_of};
-ghost use Rattle.rheads.specs.Lines.{tells_write_of};
 ghost use Rattle.rcover.specs.Moments.{Moment};
 ghost use Rattle.rheads.specs.Found.{AreBefore, IsFound};
 
@@ -204,8 +203,7 @@ pub fn set_of(behind: &[ResourceSet], seat: u8) -> ResourceSet
 
 /// The same seats, with those of the writes whose least claim is told to be satisfied.
 fn with_touched(touched: ResourceSet, behind: &[ResourceSet], s: &StatusChange) -> ResourceSet
-    ensures own { (least seat : ℕ) → ((s.now.seat == least) && (s.now.write_half && satisfied_by s.now.status)) ≡ true → contains (set_at behind.now least) seat ≡ true → contains result seat ≡ true }
-    ensures more { (seat : ℕ) → contains touched seat ≡ true → contains result seat ≡ true }
+    ensures { (seat : ℕ) → contains result seat ≡ (contains touched seat || ((s.now.write_half && satisfied_by s.now.status) && contains (set_at behind.now s.now.seat) seat)) }
 {
     if is_write_told(s) {
         touched.union(set_of(behind, s.seat))
@@ -216,8 +214,7 @@ fn with_touched(touched: ResourceSet, behind: &[ResourceSet], s: &StatusChange) 
 
 /// The seats of the writes whose least claims are of a seat that is lost, or of one of which a write is told to be satisfied.
 pub fn touched_by(behind: &[ResourceSet], lost: u8, statuses: &[StatusChange]) -> ResourceSet
-    ensures lost { (seat : ℕ) → contains (set_at behind.now lost) seat ≡ true → contains result seat ≡ true }
-    ensures told { (least seat : ℕ) → tells_write_of statuses.now least ≡ true → contains (set_at behind.now least) seat ≡ true → contains result seat ≡ true }
+    ensures { (seat : ℕ) → contains result seat ≡ is_touched behind.now lost statuses.now seat }
 {
     let mut touched = set_of(behind, lost);
     for s in statuses {
@@ -228,6 +225,7 @@ pub fn touched_by(behind: &[ResourceSet], lost: u8, statuses: &[StatusChange]) -
 
 /// Forgets whose least claims are of a seat.
 pub(crate) fn forget(behind: &mut [ResourceSet], seat: u8)
+    ensures gone { set_at behind.new seat ≡ empty }
     ensures others { (least : ℕ) → least ≢ seat → set_at behind.new least ≡ set_at behind.old least }
     ensures len { length behind.new ≡ length behind.old }
 {

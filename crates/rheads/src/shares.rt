@@ -1,14 +1,12 @@
 // The seats that have a write, and what each takes.
-ghost use Rattle.std.specs.Prelude.{◌≡◌, ◌≤◌, ◌<◌, ◌==◌, ◌&&◌, ◌||◌, ℕ, true, Some, length, take, slice_get};
+ghost use Rattle.std.specs.Prelude.{◌≡◌, ◌≤◌, ◌<◌, ◌&&◌, ◌||◌, ℕ, length, take, slice_get};
 ghost use Rattle.std.specs.List.{AllByRecursion};
-ghost use Rattle.std.specs.FinSet.{contains, is_subset};
+ghost use Rattle.std.specs.FinSet.{contains};
 ghost use Rattle.rset.specs.declared.TheConstants.{SEATS};
 ghost use Rattle.rclaim.specs.Events.{seat_of};
 ghost use Rattle.rmodel.specs.WellFormed.{EachPair, Distinct};
 ghost use Rattle.rmodel.specs.Claims.{satisfied_by};
-ghost use Rattle.rheads.specs.declared.shares.Share.{Share};
-ghost use Rattle.rheads.specs.Lines.{tells_write_of};
-ghost use Rattle.rheads.specs.Shares.{share_of, shares_with, is_write_of, takes_write, TellWrites};
+ghost use Rattle.rheads.specs.Shares.{share_of, shares_with, is_write_of, is_written, takes_write, writes_if, TellWrites};
 
 use crate::taken::{is_finish, is_write_told};
 use rclaim::{Event, StatusChange};
@@ -97,7 +95,7 @@ pub(crate) fn takes_write(event: &Event, writers: ResourceSet) -> bool
 
 /// What the write of a seat writes.
 fn writes_of(shares: &[Share], seat: u8) -> ResourceSet
-    ensures { (share : Share) → slice_get shares.now seat ≡ Some share → result ≡ share.writes }
+    ensures { result ≡ writes_if (slice_get shares.now seat) }
 {
     match shares.get(usize::from(seat)) {
         Some(share) => share.writes,
@@ -107,8 +105,7 @@ fn writes_of(shares: &[Share], seat: u8) -> ResourceSet
 
 /// The same resources, with what a write takes to write that is told to be satisfied.
 fn with_written(written: ResourceSet, shares: &[Share], s: &StatusChange) -> ResourceSet
-    ensures own { (seat : ℕ) (share : Share) → ((s.now.seat == seat) && (s.now.write_half && satisfied_by s.now.status)) ≡ true → slice_get shares.now seat ≡ Some share → is_subset share.writes result ≡ true }
-    ensures more { is_subset written result ≡ true }
+    ensures { (l : ℕ) → contains result l ≡ (contains written l || ((s.now.write_half && satisfied_by s.now.status) && contains (writes_if (slice_get shares.now s.now.seat)) l)) }
 {
     if is_write_told(s) {
         written.union(writes_of(shares, s.seat))
@@ -117,9 +114,9 @@ fn with_written(written: ResourceSet, shares: &[Share], s: &StatusChange) -> Res
     }
 }
 
-/// Resources that hold all that those writes write that are told to be satisfied.
+/// All that those writes write that are told to be satisfied.
 pub fn written_by(shares: &[Share], statuses: &[StatusChange]) -> ResourceSet
-    ensures { (seat : ℕ) (share : Share) → tells_write_of statuses.now seat ≡ true → slice_get shares.now seat ≡ Some share → is_subset share.writes result ≡ true }
+    ensures { (l : ℕ) → contains result l ≡ is_written shares.now statuses.now l }
 {
     let mut written = ResourceSet::empty();
     for s in statuses {

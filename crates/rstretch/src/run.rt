@@ -1,5 +1,5 @@
 // What is kept of the wait of a seat.
-ghost use Rattle.std.specs.Prelude.{◌≡◌, ◌≤◌, ◌<◌, ◌&&◌, ◌++◌, ◌∷◌, [], not, true, false, IfSome, find, option_map, List, ℕ, length, vec_capacity, if◌then◌else◌};
+ghost use Rattle.std.specs.Prelude.{◌≡◌, ◌↔◌, ◌≤◌, ◌<◌, ◌&&◌, ◌++◌, ◌∷◌, [], not, true, false, IfSome, IsTrue, find, option_map, List, ℕ, length, vec_capacity, if◌then◌else◌};
 ghost use Rattle.rclaim.specs.declared.claim.Claim.{Claim};
 ghost use Rattle.rset.specs.declared.TheConstants.{SEATS};
 ghost use Rattle.rstretch.specs.declared.section.Lengths.{Lengths};
@@ -91,7 +91,7 @@ fn taken_at(lengths: &[Lengths], c: &Claim, moment: &[Claimed]) -> Taken
 
 /// Whether what is taken for a claim was found already: for one that reads and writes the same.
 fn is_for(taken: &Taken, c: &Claim) -> bool
-    ensures { result ≡ true → (c.now.reads ≡ taken.now.reads) × (c.now.writes ≡ taken.now.writes) }
+    ensures { IsTrue result ↔ ((c.now.reads ≡ taken.now.reads) × (c.now.writes ≡ taken.now.writes)) }
 {
     c.reads == taken.reads && c.writes == taken.writes
 }

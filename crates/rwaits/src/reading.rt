@@ -1,5 +1,5 @@
 // Which seats have a claim that reads, and what it reads.
-ghost use Rattle.std.specs.Prelude.{if◌then◌else◌, ◌≡◌, ◌<◌, ℕ, true, false, length};
+ghost use Rattle.std.specs.Prelude.{if◌then◌else◌, ◌≡◌, ◌⊎◌, ◌<◌, ℕ, true, false, length};
 ghost use Rattle.std.specs.FinSet.{contains, insert, remove};
 ghost use Rattle.rset.specs.Sets.{meets};
 ghost use Rattle.rset.specs.declared.TheConstants.{SEATS};
@@ -45,7 +45,8 @@ pub(crate) fn note_wanted(wanted: &mut [ResourceSet], event: &Event)
 
 /// Whether what is noted of one of these seats has some of what came to be held.
 fn some_wanted(wanted: &[ResourceSet], seats: ResourceSet, written: ResourceSet) -> bool
-    ensures { result ≡ false → (seat : ℕ) → contains seats seat ≡ true → meets (set_at wanted.now seat) written ≡ false }
+    ensures none { result ≡ false → (seat : ℕ) → contains seats seat ≡ true → meets (set_at wanted.now seat) written ≡ false }
+    ensures some { result ≡ true → ((seat : ℕ) × (contains seats seat ≡ true) × (meets (set_at wanted.now seat) written ≡ true)) }
 {
     if written.is_empty() {
         return false;
@@ -70,6 +71,7 @@ pub(crate) fn reads_stay(
     requires { seat_of event.now < SEATS }
     ensures calm { result ≡ true → rises_at event.now (seat_of event.now) ≡ false }
     ensures none { result ≡ true → (seat : ℕ) → contains reading seat ≡ true → contains waiting seat ≡ true → meets (set_at wanted.now seat) written ≡ false }
+    ensures due { result ≡ false → (rises_at event.now (seat_of event.now) ≡ true) ⊎ ((seat : ℕ) × (contains reading seat ≡ true) × (contains waiting seat ≡ true) × (meets (set_at wanted.now seat) written ≡ true)) }
 {
     !some_wanted(wanted, reading.meet(waiting), written) && has_stood(event, event.seat())
 }

@@ -2,10 +2,8 @@
 use Rattle.std.proofs.Common.{◌≡◌, ◌≤◌, ◌<◌, ℕ, true, false, refl, sym, ap, ◌∙◌, arith}
 use Rattle.std.proofs.lemmas.Bool.{and_parts, eqb-true}
 use Rattle.std.specs.List.{AllByRecursion}
-use Rattle.std.specs.FinSet.{is_subset}
 use Rattle.rset.specs.Sets.{Set}
 use Rattle.rset.specs.declared.TheConstants.{SEATS}
-use Rattle.rset.proofs.SetsWithin.{within_reflexive}
 use Rattle.rclaim.specs.Events.{seat_of}
 use Rattle.rclaim.specs.declared.claim.Claim.{Claim}
 use Rattle.rclaim.specs.declared.event.Event.{Event}
@@ -61,7 +59,7 @@ pub lost_one : (lost : Head) (e : Event) (w : Claimed) (m : Moment) → EachPair
 lost_one lost e w m rising distinct in_m taken is =
     all_from (IsLost lost w.claim.places e m) m
     (λ x there. record {
-      places = λ write takes. ap (λ (y : Claimed). is_subset y.claim.places w.claim.places) (same_one x there write takes) ∙ within_reflexive w.claim.places;
+      places = λ write takes. ap (λ (y : Claimed). y.claim.places) (same_one x there write takes);
       taken = λ write takes. ap (λ (y : Claimed). head_of m y.claim) (same_one x there write takes) ∙ is;
       one = λ write same.
           let a = least_in m rising x there write in

@@ -1,15 +1,16 @@
 -- Heads are gone on with, one claim after another.
 use Rattle.std.proofs.Common.{◌≡◌, ◌≢◌, ℕ, ◌==◌, Bool, true, false, ◌&&◌, ◌||◌, cond, Some, List, [], ◌∷◌, ◌++◌, refl, sym, ap, ◌∙◌, inl, inr}
-use Rattle.std.proofs.lemmas.Bool.{and_parts, eq-eqb, eqb-true}
-use Rattle.std.specs.List.{AllByRecursion}
+use Rattle.std.proofs.lemmas.Bool.{and_from, and_parts, eq-eqb, eqb-true, or_left, or_right}
+use Rattle.std.specs.List.{AllByRecursion, list_any}
 use Rattle.std.specs.Prelude.{slice_get}
 use Rattle.std.specs.FinSet.{contains, empty, insert, is_subset, union}
 use Rattle.rset.specs.Sets.{Set}
 use Rattle.rset.proofs.SetMembers.{contains_empty, contains_insert}
 use Rattle.rset.proofs.SetsWithin.{within_reflexive, within_transitive, within_union_left, within_union_right}
 use Rattle.rmodel.specs.declared.claimed.Claimed.{Claimed}
+use Rattle.rmodel.specs.Claims.{satisfied_by}
 use Rattle.rmodel.specs.WellFormed.{EachPair, Distinct}
-use Rattle.rmodel.proofs.ListFacts.{contrary, false_from, all_append}
+use Rattle.rmodel.proofs.ListFacts.{contrary, false_from, all_append, any_among, passing}
 use Rattle.rmodel.proofs.settling.OneSettlement.{both_cases}
 use Rattle.rcover.specs.Moments.{Moment}
 use Rattle.rheads.specs.declared.lines.Head.{Head}
@@ -17,7 +18,7 @@ use Rattle.rheads.specs.declared.turns.Moves.{Moves}
 use Rattle.rclaim.specs.declared.changes.StatusChange.{StatusChange}
 use Rattle.rcover.specs.Line.{least_of}
 use Rattle.rheads.specs.Lines.{tells_write_of}
-use Rattle.rheads.specs.Lines.{head_of, set_at, ArePlaced, IsTouched, IsBehind, HoldBehind, HoldBehindBut, HoldMore, GoesBy, TellAt, HeadsTell, IsNew, IsNoted, IsTurned, with_told}
+use Rattle.rheads.specs.Lines.{head_of, set_at, is_touched, ArePlaced, IsTouched, IsBehind, HoldBehind, HoldBehindBut, HoldMore, GoesBy, TellAt, HeadsTell, IsNew, IsNoted, IsTurned, with_told}
 use Rattle.rheads.proofs.Pairs.{pairs_before, pairs_after}
 use Rattle.rheads.proofs.told.Heads.{behind_more, behind_same, but_more, other_seat}
 
@@ -49,7 +50,7 @@ module _ (now now' : List Head) (moves moves' : Moves) (lost : Head) (m n : Mome
 
   tell_stays : (z : Claimed) → Other z → HeadsTell now lost moves.moved moves.risen m n z → HeadsTell now' lost moves'.moved moves'.risen m n z
   tell_stays z other tells = record {
-    moved = λ write on. let are = tells.moved write (unmoved write on) in (are.0, turned.now_stays z.claim.seat (other write) ∙ are.1);
+    moved = λ write on. let are = tells.moved write (unmoved write on) in (are.0, turned.now_stays z.claim.seat (other write) ∙ are.1, are.2);
     risen = λ write off on. let are = tells.risen write (unmoved write off) (unrisen write on) in (turned.now_stays z.claim.seat (other write) ∙ are.0, are.1, are.2);
     same = λ write off still. tells.same write (unmoved write off) (unrisen write still);
   }
@@ -174,11 +175,11 @@ module _ (now : List Head) (moves : Moves) (lost : Head) (m n : Moment) (x : Cla
       elsewhere seat other = now_is seat ∙ ap (λ b. cond b (Some h) (slice_get now seat)) (not_own seat other)
 
       -- it was the one that is lost, and is another
-      pub turned_moved : head_of m x.claim ≡ lost → IsTurned now moves lost now' (record { moved = insert moves.moved x.claim.seat; risen = moves.risen; dirty = union moves.dirty x.claim.places }) m n x
-      turned_moved was = record {
+      pub turned_moved : head_of m x.claim ≡ lost → (least_of x.claim n).stamp ≢ lost.claim.stamp → IsTurned now moves lost now' (record { moved = insert moves.moved x.claim.seat; risen = moves.risen; dirty = union moves.dirty x.claim.places }) m n x
+      turned_moved was other = record {
         head = λ _. here;
         tells = record {
-          moved = λ _ _. (was, here);
+          moved = λ _ _. (was, here, other);
           risen = λ _ off. contrary (contains (insert moves.moved x.claim.seat) x.claim.seat) (with_own moves.moved) off;
           same = λ _ off. contrary (contains (insert moves.moved x.claim.seat) x.claim.seat) (with_own moves.moved) off;
         };
@@ -293,15 +294,31 @@ module _ (lost : Head) (gone came touched : Set) (none : touched ≡ empty) (m n
     tells_same moved risen no_moved no_risen zs by.1,
   )
 
+-- the write of a seat has the least claim of a seat whose write is told to be satisfied
+abbrev told_behind : List Set → List StatusChange → ℕ → Bool
+told_behind ss cs seat = list_any (λ c. (c.write_half && satisfied_by c.status) && contains (set_at ss c.seat) seat) cs
+
+told_touched : (ss : List Set) (cs : List StatusChange) (least seat : ℕ) → tells_write_of cs least ≡ true → contains (set_at ss least) seat ≡ true → told_behind ss cs seat ≡ true
+told_touched ss cs least seat told h =
+    let w = passing (λ c. (c.seat == least) && (c.write_half && satisfied_by c.status)) cs told in
+    let parts = and_parts (w.0.seat == least) (w.0.write_half && satisfied_by w.0.status) w.2 in
+    any_among (λ c. (c.write_half && satisfied_by c.status) && contains (set_at ss c.seat) seat) cs w.0 w.1
+    (and_from (w.0.write_half && satisfied_by w.0.status) (contains (set_at ss w.0.seat) seat) parts.1 (ap (λ k. contains (set_at ss k) seat) (eqb-true w.0.seat least parts.0) ∙ h))
+
 -- a write that is not touched has none of these least claims
-pub touched_all : (ss : List Set) (lost : ℕ) (statuses : List StatusChange) (touched : Set) → ((seat : ℕ) → contains (set_at ss lost) seat ≡ true → contains touched seat ≡ true)
-    → ((least seat : ℕ) → tells_write_of statuses least ≡ true → contains (set_at ss least) seat ≡ true → contains touched seat ≡ true) → (m : Moment) (zs : List Claimed) → HoldBehind ss m zs → AllByRecursion (IsTouched lost statuses touched m) zs
-touched_all ss lost statuses touched by_lost by_told m [] hold = tt
-touched_all ss lost statuses touched by_lost by_told m (z ∷ zs) hold = (
+pub touched_all : (ss : List Set) (lost : ℕ) (statuses : List StatusChange) (touched : Set) → ((seat : ℕ) → contains touched seat ≡ is_touched ss lost statuses seat) → (m : Moment) (zs : List Claimed) → HoldBehind ss m zs → AllByRecursion (IsTouched lost statuses touched m) zs
+touched_all ss lost statuses touched is m [] hold = tt
+touched_all ss lost statuses touched is m (z ∷ zs) hold = (
   record {
-    not_lost = λ write off same. contrary (contains touched z.claim.seat) (by_lost z.claim.seat (ap (λ k. contains (set_at ss k) z.claim.seat) (sym same) ∙ hold.0 write)) off;
+    not_lost = λ write off same.
+        contrary (contains touched z.claim.seat)
+        (is z.claim.seat
+        ∙ or_left (contains (set_at ss lost) z.claim.seat) (told_behind ss statuses z.claim.seat) (ap (λ k. contains (set_at ss k) z.claim.seat) (sym same) ∙ hold.0 write)) off;
     not_told = λ write off.
-        false_from (tells_write_of statuses (least_of z.claim m).seat) (λ on. contrary (contains touched z.claim.seat) (by_told (least_of z.claim m).seat z.claim.seat on (hold.0 write)) off);
+        false_from (tells_write_of statuses (least_of z.claim m).seat) (λ on.
+        contrary (contains touched z.claim.seat)
+        (is z.claim.seat
+        ∙ or_right (contains (set_at ss lost) z.claim.seat) (told_behind ss statuses z.claim.seat) (told_touched ss statuses (least_of z.claim m).seat z.claim.seat on (hold.0 write))) off);
   },
-  touched_all ss lost statuses touched by_lost by_told m zs hold.1,
+  touched_all ss lost statuses touched is m zs hold.1,
 )

@@ -1,20 +1,25 @@
--- The seats that have a write, and the write that an event takes away.
-use Rattle.std.proofs.Common.{◌≡◌, ◌==◌, Bool, true, false, not, ◌&&◌, refl, sym, ap, ◌∙◌}
+-- The seats that have a write, the write that an event takes away, and what those write that are told to be satisfied.
+use Rattle.std.proofs.Common.{◌≡◌, ◌==◌, ℕ, Bool, true, false, not, ◌&&◌, Some, List, refl, sym, ap, ◌∙◌}
 use Rattle.std.proofs.lemmas.Bool.{and_parts, and_from, eqb-true}
-use Rattle.std.specs.FinSet.{contains, remove}
+use Rattle.std.specs.FinSet.{contains, is_subset, remove}
+use Rattle.std.specs.Prelude.{slice_get}
 use Rattle.rset.specs.Sets.{Set}
 use Rattle.rset.proofs.SetMembers.{contains_remove}
+use Rattle.rset.proofs.SetsWithin.{within_from}
 use Rattle.rclaim.specs.Events.{seat_of}
+use Rattle.rclaim.specs.declared.changes.StatusChange.{StatusChange}
 use Rattle.rclaim.specs.declared.event.Event.{Event}
 use Rattle.rclaim.specs.declared.event.Event.TheVariants.{Issue, Finish}
 use Rattle.rclaim.specs.declared.event.Event.TheVariants as event
 use Rattle.rcover.specs.Moments.{Moment}
 use Rattle.rmodel.specs.declared.claimed.Claimed.{Claimed}
+use Rattle.rmodel.specs.Claims.{satisfied_by}
 use Rattle.rmodel.specs.WellFormed.{Among}
 use Rattle.rmodel.proofs.ListFacts.{contrary, false_from, any_among, passing}
 use Rattle.rmodel.proofs.settling.OneSettlement.{both_cases}
-use Rattle.rheads.specs.Lines.{is_taken, takes_seat}
-use Rattle.rheads.specs.Shares.{is_write_of, takes_write, HaveWrites, AreLeft}
+use Rattle.rheads.specs.declared.shares.Share.{Share}
+use Rattle.rheads.specs.Lines.{is_taken, takes_seat, tells_write_of}
+use Rattle.rheads.specs.Shares.{is_write_of, is_written, takes_write, writes_if, HaveWrites, AreLeft}
 use Rattle.rheads.proofs.Seats.{and_true, eq_turned}
 
 true_and : (b : Bool) → (true && b) ≡ b
@@ -72,3 +77,14 @@ left_but (Finish t) writers on = λ seat.
     ∙ ap (λ b. contains writers seat && not b) (eq_turned seat t)
 left_but (event.Rise t) writers on = contrary true refl (sym (and_parts false (contains writers t) on).0)
 left_but (event.Ask t part) writers on = contrary true refl (sym (and_parts false (contains writers t) on).0)
+
+-- what the write of a seat writes is among all that is written, where it is told to be satisfied
+pub told_written : (ss : List Share) (cs : List StatusChange) (written : Set) → ((l : ℕ) → contains written l ≡ is_written ss cs l) → (seat : ℕ) (share : Share) → tells_write_of cs seat ≡ true → slice_get ss seat ≡ Some share → is_subset share.writes written ≡ true
+told_written ss cs written is seat share told kept =
+    within_from share.writes written (λ l has.
+    let w = passing (λ c. (c.seat == seat) && (c.write_half && satisfied_by c.status)) cs told in
+    let parts = and_parts (w.0.seat == seat) (w.0.write_half && satisfied_by w.0.status) w.2 in
+    is l
+    ∙ any_among (λ c. (c.write_half && satisfied_by c.status) && contains (writes_if (slice_get ss c.seat)) l) cs w.0 w.1
+    (and_from (w.0.write_half && satisfied_by w.0.status) (contains (writes_if (slice_get ss w.0.seat)) l) parts.1
+    (ap (λ o. contains (writes_if o) l) (ap (slice_get ss) (eqb-true w.0.seat seat parts.0) ∙ kept) ∙ has)))

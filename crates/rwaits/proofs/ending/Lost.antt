@@ -7,7 +7,6 @@ use Rattle.std.specs.FinSet.{contains, empty, is_subset}
 use Rattle.rset.specs.Sets.{Set, meets}
 use Rattle.rset.specs.declared.TheConstants.{SEATS}
 use Rattle.rset.proofs.SetsMeet.{meets_empty_left, meets_empty_right, meets_symmetric, meets_within_right}
-use Rattle.rset.proofs.SetsWithin.{within_transitive}
 use Rattle.rclaim.specs.declared.claim.Claim.{Claim}
 use Rattle.rclaim.specs.declared.changes.StatusChange.{StatusChange}
 use Rattle.rclaim.specs.declared.event.Event.{Event}
@@ -318,7 +317,7 @@ module _ (s : LockState) (e : Event) (reached : IsReached s) (comes : Comes s e)
           subst (λ (d : Claim). (least_of d n).stamp ≡ (least_of d m).stamp) (sym is)
           (least_apart dirty
           (all_from (λ y. y.claim.write_half ≡ true → takes_seat e y.claim.seat ≡ true → is_subset y.claim.places dirty ≡ true) m
-          (λ y in_m w takes. within_transitive y.claim.places gone dirty ((all_at (IsLost lost gone e m) m y is_lost in_m).places w takes) within)) z.0 z.1 (half write) (ap (λ (d : Claim). meets d.places dirty) (sym is) ∙ apart)
+          (λ y in_m w takes. ap (λ (s : Set). is_subset s dirty) ((all_at (IsLost lost gone e m) m y is_lost in_m).places w takes) ∙ within)) z.0 z.1 (half write) (ap (λ (d : Claim). meets d.places dirty) (sym is) ∙ apart)
           (subst (λ (d : Claim). AllByRecursion (λ y. y.claim.stamp < d.stamp → IsNoted dirty m n y) n) is noted));
       head = λ write stamps. head_stays x there write low stamps;
       one = λ write same.

@@ -1,10 +1,10 @@
 -- What a follower knows of the events that it followed holds with one event more.
-use Rattle.std.proofs.Common.{◌≡◌, ℕ, zero, suc, ◌*◌, ◌≤◌, ◌<◌, true, false, not, ◌&&◌, Some, List, [], ◌∷◌, ◌++◌, append_assoc, length, length-append, refl, sym, ap, subst, ◌∙◌, arith}
+use Rattle.std.proofs.Common.{◌≡◌, ℕ, zero, suc, ◌*◌, ◌≤◌, ◌<◌, true, false, not, ◌&&◌, List, [], ◌∷◌, ◌++◌, append_assoc, length, length-append, refl, sym, ap, subst, ◌∙◌, arith}
 use Rattle.std.specs.Vec.{with_items}
 use Rattle.std.specs.declared.vec.Vec.{Vec}
 use Rattle.std.specs.declared.alloc.Global.{Global}
 use Rattle.std.specs.List.{AllByRecursion}
-use Rattle.std.specs.Prelude.{slice_get, slice_index}
+use Rattle.std.specs.Prelude.{slice_index}
 use Rattle.rset.specs.declared.TheConstants.{SEATS}
 use Rattle.rexpand.specs.Groups.{ReadGroups}
 use Rattle.rclaim.specs.Events.{seat_of}
@@ -45,7 +45,7 @@ use Rattle.rwaits.specs.Waiting.{HoldAsking, HoldReading, TellWanted, HoldWaitin
 use Rattle.rcover.specs.declared.wait_end.WaitEnd.{WaitEnd}
 use Rattle.rheads.specs.Heads.{IsMoment, TellsNow, TellsWrites}
 use Rattle.rheads.specs.declared.shares.Share.{Share}
-use Rattle.rheads.specs.Shares.{share_of, AreLeft, TellShares, TellWrites}
+use Rattle.rheads.specs.Shares.{share_of, is_written, AreLeft, TellShares, TellWrites}
 use Rattle.rstretch.proofs.Kept.{length_claims}
 use Rattle.rwaits.proofs.told.Noted.{lengths_next, lengths_stay, asks_more}
 use Rattle.rstretch.proofs.over.Rooms.{waits_apart, kept_each, all_next_few}
@@ -54,7 +54,7 @@ use Rattle.rwaits.specs.Quiet.{GoesOn}
 use Rattle.rheads.specs.Lines.{tells_write_of}
 use Rattle.rclaim.specs.declared.changes.StatusChange.{StatusChange}
 use Rattle.rset.specs.Sets.{Set}
-use Rattle.std.specs.FinSet.{contains, is_subset}
+use Rattle.std.specs.FinSet.{contains}
 use Rattle.rwaits.proofs.ending.Lost.{behind_before, goes_by, read_stays, shares_before, told_before}
 use Rattle.rwaits.proofs.ending.Writers.{writers_next}
 use Rattle.rwaits.proofs.told.Gone.{waiting_over}
@@ -62,6 +62,7 @@ use Rattle.rwaits.proofs.ending.Grants.{goes_on}
 use Rattle.rwaits.proofs.told.Stood.{stood_by}
 use Rattle.rstretch.proofs.over.Tracking.{shown_at_most, told_are_ended, tracked_next, tracked_opening}
 use Rattle.rheads.proofs.told.Refilled.{refill}
+use Rattle.rheads.proofs.told.Writers.{told_written}
 
 -- what runs with room keep is no more than there are seats
 run_few : (r : Run) → HasRoom r → AreAtMost SEATS (kept_in r)
@@ -88,9 +89,9 @@ renamed by by' len is [] are = tt
 renamed by by' len is (x ∷ xs) are = (is x.claim ∙ are.0, renamed by by' len is xs are.1)
 
 -- what is told to be written by the shares of all writes is all that those write
-pub all_written : (written : Set) (statuses : List StatusChange) (ss : List Share) → ((seat : ℕ) (share : Share) → tells_write_of statuses seat ≡ true → slice_get ss seat ≡ Some share → is_subset share.writes written ≡ true) → (m : Moment) → TellShares ss m → HoldWritten written statuses m
-all_written written statuses ss by [] tell = tt
-all_written written statuses ss by (x ∷ xs) tell = ((λ write on. by x.claim.seat (share_of x.claim) on (tell.0 write)), all_written written statuses ss by xs tell.1)
+pub all_written : (written : Set) (statuses : List StatusChange) (ss : List Share) → ((l : ℕ) → contains written l ≡ is_written ss statuses l) → (m : Moment) → TellShares ss m → HoldWritten written statuses m
+all_written written statuses ss is [] tell = tt
+all_written written statuses ss is (x ∷ xs) tell = ((λ write on. told_written ss statuses written is x.claim.seat (share_of x.claim) on (tell.0 write)), all_written written statuses ss is xs tell.1)
 
 module _ (a : Following) (p : Past) (k : Follows a p) where
   abbrev o : LockState

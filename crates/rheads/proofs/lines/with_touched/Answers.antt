@@ -1,23 +1,20 @@
-use Rattle.std.proofs.Common.{◌≡◌, ◌==◌, Bool, true, false, ◌&&◌, ◌||◌, refl, ap, ◌∙◌}
-use Rattle.std.proofs.lemmas.Bool.{and_parts, eqb-true}
+use Rattle.std.proofs.Common.{◌&&◌, ◌||◌, sym, ap, ◌∙◌}
 use Rattle.std.specs.FinSet.{contains}
 use Rattle.rset.specs.Sets.{Set}
 use Rattle.rset.proofs.SetMembers.{contains_union}
-use Rattle.rmodel.specs.Claims.{satisfied_by}
 use Rattle.rheads.specs.Lines.{set_at}
+use Rattle.rheads.proofs.Seats.{or_false}
 use Rattle.rheads.proofs.lines.with_touched.Goals as goal
 
-or_true : (b : Bool) → (b || true) ≡ true
-or_true true = refl
-or_true false = refl
-
-pub returns-then-is_write_told-clause-own : goal.returns-then-is_write_told-clause-own
-returns-then-is_write_told-clause-own c = λ least seat told h.
+pub returns-then-is_write_told : goal.returns-then-is_write_told
+returns-then-is_write_told c = λ seat.
     let s = c.args.s.now in
-    let same = eqb-true s.seat least (and_parts (s.seat == least) (s.write_half && satisfied_by s.status) told).0 in
+    let own = contains (set_at c.args.behind.now s.seat) seat in
     ap (λ (t : Set). contains t seat) c.union.ensures ∙ contains_union c.args.touched c.set_of.result seat
-    ∙ ap (λ b. contains c.args.touched seat || b) (ap (λ (t : Set). contains t seat) (c.set_of.ensures ∙ ap (set_at c.args.behind.now) same) ∙ h) ∙ or_true (contains c.args.touched seat)
+    ∙ ap (λ b. contains c.args.touched seat || b) (ap (λ (t : Set). contains t seat) c.set_of.ensures ∙ ap (λ b. b && own) (sym c.if-is_write_told.true ∙ c.is_write_told.ensures))
 
-pub returns-then-is_write_told-clause-more : goal.returns-then-is_write_told-clause-more
-returns-then-is_write_told-clause-more c = λ seat h.
-    ap (λ (t : Set). contains t seat) c.union.ensures ∙ contains_union c.args.touched c.set_of.result seat ∙ ap (λ b. b || contains c.set_of.result seat) h
+pub returns-else-is_write_told : goal.returns-else-is_write_told
+returns-else-is_write_told c = λ seat.
+    let s = c.args.s.now in
+    let own = contains (set_at c.args.behind.now s.seat) seat in
+    sym (ap (λ b. contains c.args.touched seat || (b && own)) (sym c.is_write_told.ensures ∙ c.if-is_write_told.false) ∙ or_false (contains c.args.touched seat))

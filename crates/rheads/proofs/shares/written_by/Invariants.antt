@@ -1,8 +1,7 @@
-use Rattle.std.proofs.Common.{◌≡◌, ℕ, Some, true, take, slice_get}
-use Rattle.std.specs.FinSet.{is_subset}
-use Rattle.rheads.specs.Lines.{tells_write_of}
-use Rattle.rheads.specs.declared.shares.Share.{Share}
+use Rattle.std.proofs.Common.{◌≡◌, ℕ, take}
+use Rattle.std.specs.FinSet.{contains}
+use Rattle.rheads.specs.Shares.{is_written}
 use Rattle.rheads.proofs.shares.written_by.Given as goal
 
 abbrev pub invariant-loop-s : goal.invariant-loop-s
-invariant-loop-s l = (seat : ℕ) (share : Share) → tells_write_of (take l.s-index l.statuses) seat ≡ true → slice_get l.shares seat ≡ Some share → is_subset share.writes l.written ≡ true
+invariant-loop-s l = (k : ℕ) → contains l.written k ≡ is_written l.shares (take l.s-index l.statuses) k

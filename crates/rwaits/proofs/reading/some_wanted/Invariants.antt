@@ -6,4 +6,7 @@ use Rattle.rheads.specs.Lines.{set_at}
 use Rattle.rwaits.proofs.reading.some_wanted.Given as goal
 
 abbrev pub invariant-loop-seat : goal.invariant-loop-seat
-invariant-loop-seat l = (seat : ℕ) → contains l.fn.seats seat ≡ true → list_any (λ k. k == seat) (rising l.seat-iterator) ≡ false → meets (set_at l.wanted seat) l.written ≡ false
+invariant-loop-seat l = record {
+  none : (seat : ℕ) → contains l.fn.seats seat ≡ true → list_any (λ k. k == seat) (rising l.seat-iterator) ≡ false → meets (set_at l.wanted seat) l.written ≡ false;
+  within : (seat : ℕ) → list_any (λ k. k == seat) (rising l.seat-iterator) ≡ true → contains l.fn.seats seat ≡ true;
+}

@@ -5,10 +5,10 @@ use Rattle.std.specs.List.{AllByRecursion}
 use Rattle.std.specs.Prelude.{slice_get}
 use Rattle.std.specs.FinSet.{remove}
 use Rattle.rset.specs.Sets.{Set}
-use Rattle.rmodel.proofs.ListFacts.{all_at}
+use Rattle.rmodel.proofs.ListFacts.{all_at, contrary}
 use Rattle.rheads.specs.declared.shares.Share.{Share}
 use Rattle.rheads.specs.Lines.{head_of, takes_seat, IsLost}
-use Rattle.rheads.specs.Shares.{share_of, AreLeft}
+use Rattle.rheads.specs.Shares.{share_of, takes_write, AreLeft}
 use Rattle.rheads.proofs.told.Taken.{lost_none, lost_one, seat_taken}
 use Rattle.rheads.proofs.told.Writers.{left_all, left_but, none_taken, taken_at}
 use Rattle.rheads.proofs.heads.Heads.lose.Goals as goal
@@ -46,3 +46,9 @@ pub returns-clause-left : goal.returns-clause-left
 returns-clause-left c =
     subst (AreLeft c.args.event.now c.args.self.now.writers) (sym (c.without-self.ensures ∙ ap (remove c.args.self.now.writers) c.seat.ensures))
     (left_but c.args.event.now c.args.self.now.writers (sym c.takes_write.ensures ∙ c.if-not-takes_write.false))
+
+pub returns-then-not-takes_write-clause-none : goal.returns-then-not-takes_write-clause-none
+returns-then-not-takes_write-clause-none c = λ none. c.empty.ensures
+
+pub returns-clause-none : goal.returns-clause-none
+returns-clause-none c = λ none. contrary (takes_write c.args.event.now c.args.self.now.writers) (sym c.takes_write.ensures ∙ c.if-not-takes_write.false) none

@@ -92,7 +92,7 @@ both_of c a p t =
     let statuses_2 = c.deref-3.ensures.value ∙ ap (λ (l : ChangeLists). l.statuses) (c.behind-machine-2.view_is ∙ c.changes-2.ensures ∙ g.changes) in
     let touch : AllByRecursion (IsTouched lost.claim.seat c.deref.result.now c.touched_by-touched.result m) m
     = subst (λ (cs : List StatusChange). AllByRecursion (IsTouched lost.claim.seat cs c.touched_by-touched.result m) m) (statuses_2 ∙ sym statuses)
-    (touched_all c.deref-2.result.now lost.claim.seat c.deref-3.result.now c.touched_by-touched.result c.touched_by-touched.ensures.lost c.touched_by-touched.ensures.told m m
+    (touched_all c.deref-2.result.now lost.claim.seat c.deref-3.result.now c.touched_by-touched.result c.touched_by-touched.ensures m m
     (subst (λ (ss : List Set). HoldBehind ss m m) (sym (c.deref-2.ensures.value ∙ ap (λ (v : Vec Set Global). v.items) c.lose-gone.ensures.behind)) t.told.heads.behind)) in
     heads_turn a p k e g.comes (plain_of a.waiting e t.told.may_end) c.lose-gone.new.self.now.items lost c.lose-gone.result c.seats_told-came.result c.touched_by-touched.result m c.claims.result.now c.deref.result.now
     refl (c.claims.ensures ∙ ap (λ (s : LockState). s.claims) g.state) (c.lose-gone.ensures.lost m (is_moment_now a p k) t.told.heads.heads t.told.writes) statuses c.seats_told-came.ensures touch
