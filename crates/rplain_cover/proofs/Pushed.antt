@@ -1,6 +1,7 @@
 -- Lists with one element more.
-use Rattle.std.proofs.Common.{◌≡◌, ℕ, ◌+◌, ◌<◌, Option, List, [], ◌∷◌, ◌++◌, length, get_or, take, map, sym, ap, ◌∙◌}
+use Rattle.std.proofs.Common.{◌≡◌, ℕ, ◌+◌, ◌<◌, Bool, true, false, cond, Option, List, [], ◌∷◌, ◌++◌, filter, length, get_or, take, map, refl, sym, ap, ◌∙◌}
 use Rattle.std.proofs.lemmas.List.{map_more, map-append}
+use Rattle.std.proofs.lemmas.List.Elements.{filter-append}
 use Rattle.std.specs.List.{filter_map}
 use Rattle.std.specs.declared.vec.Vec.{Vec}
 use Rattle.std.specs.declared.alloc.Global.{Global}
@@ -11,7 +12,7 @@ use Rattle.rplain_cover.specs.Lists.{moments_in}
 use Rattle.rcover.specs.Moments.{Moment}
 use Rattle.rcover.specs.Sections.{different}
 use Rattle.rcover.specs.Lists.{with_different, with_option}
-use Rattle.rcover.proofs.runs.Push.{different_push, different_option}
+use Rattle.rcover.proofs.runs.Push.{append_none, different_push, different_option}
 use Rattle.rcover.proofs.lists.Pushed.{found_more}
 
 -- the lists of claims as far as one more of them
@@ -23,3 +24,11 @@ different_more f ds i d h there = ap different (found_more f ds i d h there) ∙
 
 pub leasts_more : (c : Claim) (ms : List Moment) (m : Moment) → leasts c (ms ++ m ∷ []) ≡ with_different (leasts c ms) (least_of c m)
 leasts_more c ms m = ap different (map-append (least_of c) ms (m ∷ [])) ∙ different_push (map (least_of c) ms) (least_of c m)
+
+-- the elements that pass a test, once there is one more
+pub filter_more : {X : Type 0} (p : X → Bool) (xs : List X) (x : X) → filter p (xs ++ x ∷ []) ≡ cond (p x) (filter p xs ++ x ∷ []) (filter p xs)
+filter_more {X} p xs x = filter-append p xs (x ∷ []) ∙ at (p x) (filter p xs)
+  where
+    at : (b : Bool) (ys : List X) → ys ++ cond b (x ∷ []) [] ≡ cond b (ys ++ x ∷ []) ys
+    at true ys = refl
+    at false ys = append_none ys
