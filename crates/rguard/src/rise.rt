@@ -54,8 +54,8 @@ impl<'a, T: Editable, M: Machine> SectionGuard<'a, T, M, Rising<T>> {
     {
         let SectionGuard { section, kind } = self;
         let Rising { next, alloc } = kind;
-        let section = section.rise(rt, next, alloc);
-        let section = section.wait(rt);
+        let waiting = section.rise(rt, next, alloc);
+        let section = waiting.wait(rt);
         SectionGuard {
             section,
             kind: Writing,
