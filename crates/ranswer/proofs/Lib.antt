@@ -5,3 +5,4 @@ pub mod Streams
 pub mod Runs
 pub mod Watches
 pub mod Promises
+pub mod Tellings

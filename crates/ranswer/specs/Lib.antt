@@ -8,3 +8,4 @@ pub mod Answer
 pub mod Receipts
 pub mod Promise
 pub mod Watched
+pub mod Told

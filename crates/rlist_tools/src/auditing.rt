@@ -4,6 +4,7 @@ ghost use Rattle.io_ends.specs.Faults.{Rose};
 ghost use Rattle.rwatch.specs.Seen.{Seen};
 ghost use Rattle.ranswer.specs.Outputs.{audit_text};
 ghost use Rattle.ranswer.specs.Answer.{ToolAnswer};
+ghost use Rattle.ranswer.specs.Told.{Tells};
 ghost use Rattle.ranswer.specs.Writing.{IsWritten};
 ghost use Rattle.ranswer.specs.declared.command.Command.TheVariants.{Audit};
 ghost use Rattle.rtrace.specs.Collects.{KnowsCount};
@@ -16,14 +17,16 @@ use ranswer::{REPORT_LIMIT, Told, ToolStatus, write_output};
 use rtrace::{AuditCounts, AuditErr, Counting, count_stream};
 use std::alloc::{AllocError, Global};
 
-/// Checks the report that a source has left, as it is read, and writes how many events and how many waits it tells.
+/// Checks the report that a source has left, as it is read, and writes how many events and how many waits it tells. The first
+/// fault of an input that is no right report is put into `told` too, for a person.
 pub fn audit<S: Source, K: Sink>(
     alloc: Global,
     source: &mut S,
     sink: &mut K,
     told: &mut Option<Told>,
 ) -> ToolStatus
-    ensures { (watchers : List Seen) → ToolAnswer S.left S.faults K.written K.faults watchers (Some Audit) source.old source.new sink.old sink.new result }
+    ensures answer { (watchers : List Seen) → ToolAnswer S.left S.faults K.written K.faults watchers (Some Audit) source.old source.new sink.old sink.new result }
+    ensures told { (watchers : List Seen) → Tells watchers (Some Audit) (S.left source.old) told.old told.new result }
 {
     audit_by(alloc, source, sink, &mut Counting::new(alloc), told)
 }
@@ -37,7 +40,8 @@ fn audit_by<S: Source, K: Sink>(
     told: &mut Option<Told>,
 ) -> ToolStatus
     requires { KnowsCount counting.old [] }
-    ensures { (watchers : List Seen) → ToolAnswer S.left S.faults K.written K.faults watchers (Some Audit) source.old source.new sink.old sink.new result }
+    ensures answer { (watchers : List Seen) → ToolAnswer S.left S.faults K.written K.faults watchers (Some Audit) source.old source.new sink.old sink.new result }
+    ensures told { (watchers : List Seen) → Tells watchers (Some Audit) (S.left source.old) told.old told.new result }
 {
     match count_stream(alloc, source, REPORT_LIMIT, counting) {
         Ok(counts) => tell(alloc, counts, sink),

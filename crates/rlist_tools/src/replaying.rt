@@ -5,6 +5,7 @@ ghost use Rattle.rmodel.specs.Steps.{AreAccepted};
 ghost use Rattle.rwatch.specs.Seen.{Seen, told_all};
 ghost use Rattle.rdrill.specs.Drill.{steps_of};
 ghost use Rattle.ranswer.specs.Writing.{IsAnswer, IsWritten};
+ghost use Rattle.ranswer.specs.Told.{TellsBehind, Tells};
 ghost use Rattle.ranswer.specs.Watched.{ReplayWatched};
 ghost use Rattle.ranswer.specs.declared.command.Command.TheVariants.{Replay};
 
@@ -18,7 +19,8 @@ use rwatch::Audience;
 use rwatched::{Recorded, recorded_replay_of};
 use std::alloc::Global;
 
-/// Writes the report of an event list, and tells its steps. Where nobody watches no step is kept.
+/// Writes the report of an event list, and tells its steps. Where nobody watches no step is kept. What a person may be told
+/// beyond the status is put into `told`: the first fault of an input that is no list, or that steps were told.
 pub fn replay<K: Sink, A: Audience>(
     alloc: Global,
     bytes: &[u8],
@@ -28,6 +30,7 @@ pub fn replay<K: Sink, A: Audience>(
 ) -> ToolStatus
     ensures answer { IsAnswer (A.all audience.old) (Some Replay) bytes.now (K.written sink.old) (K.written sink.new) (K.faults sink.new ≡ K.faults sink.old) (Rose (K.faults sink.old) (K.faults sink.new)) (sink.new ≡ sink.old) result }
     ensures watched { ReplayWatched (Some bytes.now) (K.written sink.old) (K.written sink.new) (A.all audience.old) (A.all audience.new) result }
+    ensures told { Tells (A.all audience.old) (Some Replay) (Some bytes.now) told.old told.new result }
 {
     if audience.count() == 0 {
         replay_unwatched(alloc, bytes, sink, told)
@@ -45,6 +48,7 @@ fn replay_unwatched<K: Sink>(
 ) -> ToolStatus
     ensures answer { (watchers : List Seen) → IsAnswer watchers (Some Replay) bytes.now (K.written sink.old) (K.written sink.new) (K.faults sink.new ≡ K.faults sink.old) (Rose (K.faults sink.old) (K.faults sink.new)) (sink.new ≡ sink.old) result }
     ensures watched { ReplayWatched (Some bytes.now) (K.written sink.old) (K.written sink.new) [] [] result }
+    ensures told { TellsBehind told.old (Some Replay) (Some bytes.now) told.old told.new result }
 {
     match replay_of(alloc, bytes) {
         Ok(made) => write_made(&made, sink),
@@ -63,6 +67,7 @@ fn replay_watched<K: Sink, A: Audience>(
 ) -> ToolStatus
     ensures answer { IsAnswer (A.all audience.old) (Some Replay) bytes.now (K.written sink.old) (K.written sink.new) (K.faults sink.new ≡ K.faults sink.old) (Rose (K.faults sink.old) (K.faults sink.new)) (sink.new ≡ sink.old) result }
     ensures watched { ReplayWatched (Some bytes.now) (K.written sink.old) (K.written sink.new) (A.all audience.old) (A.all audience.new) result }
+    ensures told { TellsBehind (Some Told.Steps) (Some Replay) (Some bytes.now) told.old told.new result }
 {
     match recorded_replay_of(alloc, bytes) {
         Ok(made) => {

@@ -4,6 +4,7 @@ ghost use Rattle.io_ends.specs.Faults.{Rose};
 ghost use Rattle.ranswer.specs.Words.{plain_in, IsPlain};
 ghost use Rattle.ranswer.specs.Answer.{ToolAnswer};
 ghost use Rattle.ranswer.specs.Outputs.{is_streamed};
+ghost use Rattle.ranswer.specs.Told.{Tells};
 ghost use Rattle.ranswer.specs.Writing.{IsAnswer};
 ghost use Rattle.ranswer.specs.Watched.{Watched};
 
@@ -33,7 +34,8 @@ pub fn plain_tool<S: Source, K: Sink, A: Audience>(
     told_tool(alloc, words, source, sink, watchers, &mut None)
 }
 
-/// The same; and the first fault of an input that is refused is put into `told` too, for a person.
+/// The same; and what a person may be told beyond the status is put into `told` too: the first fault of an input that is
+/// refused, or that the steps of a list were told to those who watch.
 pub fn told_tool<S: Source, K: Sink, A: Audience>(
     alloc: Global,
     words: &[String],
@@ -44,6 +46,7 @@ pub fn told_tool<S: Source, K: Sink, A: Audience>(
 ) -> ToolStatus
     ensures answer { ToolAnswer S.left S.faults K.written K.faults (A.all audience.old) (plain_in (map string_bytes words.now)) source.old source.new sink.old sink.new result }
     ensures watched { Watched (plain_in (map string_bytes words.now)) (S.left source.old) (K.written sink.old) (K.written sink.new) (A.all audience.old) (A.all audience.new) result }
+    ensures told { Tells (A.all audience.old) (plain_in (map string_bytes words.now)) (S.left source.old) told.old told.new result }
 {
     let Some(command) = plain_of(words) else {
         return ToolStatus::Words;
@@ -70,6 +73,7 @@ fn run_command<K: Sink, A: Audience>(
     requires whole { is_streamed command ≡ false }
     ensures answer { IsAnswer (A.all audience.old) (Some command) bytes.now (K.written sink.old) (K.written sink.new) (K.faults sink.new ≡ K.faults sink.old) (Rose (K.faults sink.old) (K.faults sink.new)) (sink.new ≡ sink.old) result }
     ensures watched { Watched (Some command) (Some bytes.now) (K.written sink.old) (K.written sink.new) (A.all audience.old) (A.all audience.new) result }
+    ensures told { Tells (A.all audience.old) (Some command) (Some bytes.now) told.old told.new result }
 {
     match command {
         Command::Replay => replay(alloc, bytes, sink, audience, told),

@@ -3,6 +3,7 @@ ghost use Rattle.std.specs.Prelude.{◌≡◌, ◌≤◌, Some, List, IfSome};
 ghost use Rattle.io_ends.specs.Faults.{Rose};
 ghost use Rattle.rwatch.specs.Seen.{Seen};
 ghost use Rattle.rbound_text.specs.BoundText.{bounds_text};
+ghost use Rattle.ranswer.specs.Told.{Tells};
 ghost use Rattle.ranswer.specs.Writing.{IsAnswer, IsWritten};
 ghost use Rattle.ranswer.specs.declared.command.Command.TheVariants.{Bound};
 
@@ -13,7 +14,8 @@ use rbound_text::bound_text;
 use rscript::{Script, ScriptErr, read_script};
 use std::alloc::Global;
 
-/// Writes the bounds of the script that an input spells, under a cap, or where none is told under the number of its tasks.
+/// Writes the bounds of the script that an input spells, under a cap, or where none is told under the number of its tasks. The
+/// first fault of an input that is no script is put into `told` too, for a person.
 pub fn bound<K: Sink>(
     alloc: Global,
     cap: Option<u8>,
@@ -22,7 +24,8 @@ pub fn bound<K: Sink>(
     told: &mut Option<Told>,
 ) -> ToolStatus
     requires { IfSome cap (λ m. 1 ≤ m) }
-    ensures { (watchers : List Seen) → IsAnswer watchers (Some (Bound cap)) bytes.now (K.written sink.old) (K.written sink.new) (K.faults sink.new ≡ K.faults sink.old) (Rose (K.faults sink.old) (K.faults sink.new)) (sink.new ≡ sink.old) result }
+    ensures answer { (watchers : List Seen) → IsAnswer watchers (Some (Bound cap)) bytes.now (K.written sink.old) (K.written sink.new) (K.faults sink.new ≡ K.faults sink.old) (Rose (K.faults sink.old) (K.faults sink.new)) (sink.new ≡ sink.old) result }
+    ensures told { (watchers : List Seen) → Tells watchers (Some (Bound cap)) (Some bytes.now) told.old told.new result }
 {
     match read_script(alloc, bytes) {
         Ok(script) => write_bounds(alloc, &script, cap, sink),

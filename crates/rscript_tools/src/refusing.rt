@@ -1,5 +1,5 @@
 // The line of a fault.
-ghost use Rattle.std.specs.Prelude.{◌≡◌};
+ghost use Rattle.std.specs.Prelude.{◌≡◌, ◌≢◌, Some};
 ghost use Rattle.io_ends.specs.Faults.{Rose};
 ghost use Rattle.ranswer.specs.Outputs.{script_line};
 ghost use Rattle.ranswer.specs.Writing.{IsTold};
@@ -9,7 +9,7 @@ use ranswer::{Told, ToolStatus, script_line, write_line};
 use rscript::Code;
 use std::alloc::Global;
 
-/// Writes the line of the fault of a script, and notes it for a person.
+/// Writes the line of the fault of a script, and notes the fault for a person. Where memory runs out before, nothing is noted.
 pub fn refuse_script<K: Sink>(
     alloc: Global,
     line: u64,
@@ -17,12 +17,14 @@ pub fn refuse_script<K: Sink>(
     sink: &mut K,
     told: &mut Option<Told>,
 ) -> ToolStatus
-    ensures { IsTold (script_line line code) (K.written sink.old) (K.written sink.new) (K.faults sink.new ≡ K.faults sink.old) (Rose (K.faults sink.old) (K.faults sink.new)) (sink.new ≡ sink.old) ToolStatus.Script result }
+    ensures written { IsTold (script_line line code) (K.written sink.old) (K.written sink.new) (K.faults sink.new ≡ K.faults sink.old) (Rose (K.faults sink.old) (K.faults sink.new)) (sink.new ≡ sink.old) ToolStatus.Script result }
+    ensures noted { result ≡ ToolStatus.Script → told.new ≡ Some (Told.Script line code) }
+    ensures kept { result ≢ ToolStatus.Script → told.new ≡ told.old }
 {
-    *told = Some(Told::Script { line, code });
     let Ok(text) = script_line(alloc, line, code) else {
         return ToolStatus::NoMemory;
     };
+    *told = Some(Told::Script { line, code });
     write_line(sink, &text);
     ToolStatus::Script
 }

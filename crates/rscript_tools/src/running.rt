@@ -12,6 +12,7 @@ ghost use Rattle.ranswer.specs.Answer.{ToolAnswer};
 ghost use Rattle.ranswer.specs.Promise.{KeepsItsPromise};
 ghost use Rattle.ranswer.specs.Receipts.{RunReceipts, Receipts};
 ghost use Rattle.ranswer.specs.Running.{IsRun};
+ghost use Rattle.ranswer.specs.Told.{Tells};
 ghost use Rattle.ranswer.specs.Writing.{IsAnswer, IsWritten};
 
 use crate::refusing::refuse_script;
@@ -66,6 +67,7 @@ pub fn told_run<R: Threads + Wait + Sync, S: Source, K: Sink, G: Pace>(
 ) -> ToolStatus
     ensures answer { (watchers : List Seen) → ToolAnswer S.left S.faults K.written K.faults watchers (run_in (map string_bytes words.now)) source.old source.new sink.old sink.new result }
     ensures receipts { Receipts (run_in (map string_bytes words.now)) (S.left source.old) (K.written sink.old) (K.written sink.new) receipts.old.items receipts.new.items result }
+    ensures told { (watchers : List Seen) → Tells watchers (run_in (map string_bytes words.now)) (S.left source.old) told.old told.new result }
 {
     if !ask_for_run(words) {
         return ToolStatus::Words;
@@ -88,6 +90,7 @@ fn run_text<R: Threads + Wait + Sync, K: Sink, G: Pace>(
 ) -> ToolStatus
     ensures answer { (watchers : List Seen) → IsAnswer watchers (Some Command.Run) bytes.now (K.written sink.old) (K.written sink.new) (K.faults sink.new ≡ K.faults sink.old) (Rose (K.faults sink.old) (K.faults sink.new)) (sink.new ≡ sink.old) result }
     ensures receipts { RunReceipts (Some bytes.now) (K.written sink.old) (K.written sink.new) receipts.old.items receipts.new.items result }
+    ensures told { (watchers : List Seen) → Tells watchers (Some Command.Run) (Some bytes.now) told.old told.new result }
 {
     match read_script(alloc, bytes) {
         Ok(script) => run_read(rt, alloc, &script, sink, pace, receipts),

@@ -1,4 +1,7 @@
-use Rattle.std.proofs.Common.{Some, sym, subst, arith}
+use Rattle.std.proofs.Common.{◌≡◌, [], Some, length, ap, sym, subst, arith}
+use Rattle.ranswer.proofs.Tellings.{steps_behind}
+use Rattle.ranswer.specs.Told.{Tells, TellsBehind}
+use Rattle.ranswer.specs.declared.command.Command.TheVariants.{Replay}
 use Rattle.ranswer.specs.Watched.{ReplayWatched}
 use Rattle.rlist_tools.proofs.Lists.{nobody}
 use Rattle.rlist_tools.proofs.replaying.replay.Goals as goal
@@ -11,3 +14,16 @@ returns-then-count-eq0-clause-watched g c =
     let many = c.count.ensures in
     subst (λ ws. ReplayWatched (Some c.args.bytes.now) (g.K.Sink.written c.args.sink.now) (g.K.Sink.written c.replay_unwatched.new.sink) ws ws c.replay_unwatched.result)
     (sym (nobody (g.A.Audience.all c.args.audience.now) (omega (arith, many)))) c.replay_unwatched.ensures.watched
+
+pub returns-then-count-eq0-clause-told : goal.returns-then-count-eq0-clause-told
+returns-then-count-eq0-clause-told g c =
+    let many = c.count.ensures in
+    subst (λ ws. Tells ws (Some Replay) (Some c.args.bytes.now) c.args.told.now c.replay_unwatched.new.told c.replay_unwatched.result) (sym (nobody (g.A.Audience.all c.args.audience.now) (omega (arith, many))))
+    c.replay_unwatched.ensures.told
+
+pub returns-else-count-eq0-clause-told : goal.returns-else-count-eq0-clause-told
+returns-else-count-eq0-clause-told g c =
+    let many = c.count.ensures in
+    let some : g.A.Audience.all c.args.audience.now ≡ [] → ⊥ = λ none. (let empty = ap length none in omega (arith, many, empty)) in
+    subst (λ behind. TellsBehind behind (Some Replay) (Some c.args.bytes.now) c.args.told.now c.replay_watched.new.told c.replay_watched.result) (sym (steps_behind (g.A.Audience.all c.args.audience.now) c.args.told.now some))
+    c.replay_watched.ensures.told

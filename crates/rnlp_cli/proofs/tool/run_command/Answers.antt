@@ -1,5 +1,6 @@
 use Rattle.std.proofs.Common.{Some, refl}
 use Rattle.ranswer.proofs.Outcomes.{written}
+use Rattle.ranswer.proofs.Tellings.{written_tells}
 use Rattle.ranswer.specs.Outputs.{drill_text}
 use Rattle.ranswer.specs.declared.command.Command.TheVariants.{Drill}
 use Rattle.rnlp_cli.proofs.tool.run_command.Goals as goal
@@ -11,7 +12,7 @@ pub returns-in-Replay-clause-watched : goal.returns-in-Replay-clause-watched
 returns-in-Replay-clause-watched g c = rw c.in-Replay.is c.replay.ensures.watched
 
 pub returns-in-Bound-clause-answer : goal.returns-in-Bound-clause-answer
-returns-in-Bound-clause-answer g c = rw c.in-Bound.is (c.bound.ensures (g.A.Audience.all c.args.audience.now))
+returns-in-Bound-clause-answer g c = rw c.in-Bound.is (c.bound.ensures.answer (g.A.Audience.all c.args.audience.now))
 
 pub returns-in-Bound-clause-watched : goal.returns-in-Bound-clause-watched
 returns-in-Bound-clause-watched g c = rw c.in-Bound.is refl
@@ -22,3 +23,13 @@ returns-in-Drill-clause-answer g c =
 
 pub returns-in-Drill-clause-watched : goal.returns-in-Drill-clause-watched
 returns-in-Drill-clause-watched g c = rw c.in-Drill.is c.drill_tool.ensures.watched
+
+pub returns-in-Replay-clause-told : goal.returns-in-Replay-clause-told
+returns-in-Replay-clause-told g c = rw c.in-Replay.is c.replay.ensures.told
+
+pub returns-in-Bound-clause-told : goal.returns-in-Bound-clause-told
+returns-in-Bound-clause-told g c = rw c.in-Bound.is (c.bound.ensures.told (g.A.Audience.all c.args.audience.now))
+
+pub returns-in-Drill-clause-told : goal.returns-in-Drill-clause-told
+returns-in-Drill-clause-told g c =
+    rw c.in-Drill.is (written_tells _ _ _ _ _ _ c.args.told.now (Some (Drill c.in-Drill.count)) (Some c.args.bytes.now) c.args.told.now c.args.told.now c.drill_tool.result refl (λ same. refl) c.drill_tool.ensures.written)

@@ -1,7 +1,11 @@
-use Rattle.std.proofs.Common.{Option, Some, sym, ap, ◌∙◌, subst}
+use Rattle.std.proofs.Common.{Option, Some, map, sym, ap, ◌∙◌, subst}
+use Rattle.std.specs.Prelude.{string_bytes}
 use Rattle.ranswer.proofs.ToolAnswers.{answered, unread}
+use Rattle.ranswer.proofs.Tellings.{tells_left, unread_tells}
 use Rattle.ranswer.proofs.Watches.{unread_watched, watched_left}
 use Rattle.ranswer.specs.Answer.{ToolAnswer}
+use Rattle.ranswer.specs.Words.{plain_in}
+use Rattle.ranswer.specs.Told.{Tells, told_behind}
 use Rattle.ranswer.specs.Watched.{Watched}
 use Rattle.ranswer.specs.declared.command.Command.{Command}
 use Rattle.ranswer.proofs.Streams.{streamed_is}
@@ -29,4 +33,21 @@ returns-then-is_streamed-clause-answer g c =
     let command = streamed_is c.in-Some.command (sym c.is_streamed.ensures ∙ c.if-is_streamed.true) in
     let asked = (sym c.plain_of.ensures.asked ∙ c.in-Some.is) ∙ ap Some command in
     subst (λ (o : Option Command). ToolAnswer g.S.Source.left g.S.Source.faults g.K.Sink.written g.K.Sink.faults (g.A.Audience.all c.args.audience.now) o c.args.source.now c.audit.new.source c.args.sink.now c.audit.new.sink c.audit.result)
-    (sym asked) (c.audit.ensures (g.A.Audience.all c.args.audience.now))
+    (sym asked) (c.audit.ensures.answer (g.A.Audience.all c.args.audience.now))
+
+pub returns-in-Ok-clause-told : goal.returns-in-Ok-clause-told
+returns-in-Ok-clause-told g c =
+    let read = rw (← c.deref.ensures.value) at c.in-Ok.ensures.read in
+    subst (λ o. Tells (g.A.Audience.all c.args.audience.now) o (g.S.Source.left c.args.source.now) c.args.told.now c.run_command.new.told c.run_command.result)
+    (sym (sym c.plain_of.ensures.asked ∙ c.in-Some.is))
+    (tells_left c.in-Some.command (g.S.Source.left c.args.source.now) c.deref.result.now _ c.args.told.now c.run_command.new.told c.run_command.result read.whole c.run_command.ensures.told)
+
+pub returns-in-Err-clause-told : goal.returns-in-Err-clause-told
+returns-in-Err-clause-told g c = unread_tells g.S.Source.left g.S.Source.faults (Some c.in-Some.command) _ _ (told_behind (plain_in (map string_bytes c.args.words.now)) (g.A.Audience.all c.args.audience.now) c.args.told.now) (plain_in (map string_bytes c.args.words.now)) (g.S.Source.left c.args.source.now) c.args.told.now c.in-Err.status c.in-Err.ensures.not_read
+
+pub returns-then-is_streamed-clause-told : goal.returns-then-is_streamed-clause-told
+returns-then-is_streamed-clause-told g c =
+    let command = streamed_is c.in-Some.command (sym c.is_streamed.ensures ∙ c.if-is_streamed.true) in
+    let asked = (sym c.plain_of.ensures.asked ∙ c.in-Some.is) ∙ ap Some command in
+    subst (λ (o : Option Command). Tells (g.A.Audience.all c.args.audience.now) o (g.S.Source.left c.args.source.now) c.args.told.now c.audit.new.told c.audit.result)
+    (sym asked) (c.audit.ensures.told (g.A.Audience.all c.args.audience.now))

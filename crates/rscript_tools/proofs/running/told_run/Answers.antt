@@ -1,7 +1,9 @@
-use Rattle.std.proofs.Common.{sym, subst}
+use Rattle.std.proofs.Common.{Some, sym, subst}
 use Rattle.ranswer.proofs.ToolAnswers.{answered}
 use Rattle.ranswer.proofs.Runs.{receipts_left}
+use Rattle.ranswer.proofs.Tellings.{tells_left, unread_tells}
 use Rattle.ranswer.specs.Receipts.{Receipts}
+use Rattle.ranswer.specs.Told.{Tells}
 use Rattle.ranswer.specs.declared.command.Command.TheVariants.{Run}
 use Rattle.rscript_tools.proofs.running.told_run.Goals as goal
 
@@ -14,3 +16,14 @@ returns-in-Ok-clause-receipts g c =
     subst (λ o. Receipts o (g.S.Source.left c.args.source.now) (g.K.Sink.written c.args.sink.now) (g.K.Sink.written c.run_text.new.sink) c.args.receipts.now.items c.run_text.new.receipts.items c.run_text.result)
     (sym c.if-not-ask_for_run.ensures)
     (receipts_left (g.S.Source.left c.args.source.now) c.deref.result.now _ _ _ _ c.run_text.result read.whole c.run_text.ensures.receipts)
+
+pub returns-in-Ok-clause-told : goal.returns-in-Ok-clause-told
+returns-in-Ok-clause-told g c = λ watchers.
+    let read = rw (← c.deref.ensures.value) at c.in-Ok.ensures.read in
+    subst (λ o. Tells watchers o (g.S.Source.left c.args.source.now) c.args.told.now c.run_text.new.told c.run_text.result) (sym c.if-not-ask_for_run.ensures)
+    (tells_left Run (g.S.Source.left c.args.source.now) c.deref.result.now c.args.told.now c.args.told.now c.run_text.new.told c.run_text.result read.whole (c.run_text.ensures.told watchers))
+
+pub returns-in-Err-clause-told : goal.returns-in-Err-clause-told
+returns-in-Err-clause-told g c = λ watchers.
+    subst (λ o. Tells watchers o (g.S.Source.left c.args.source.now) c.args.told.now c.args.told.now c.in-Err.status) (sym c.if-not-ask_for_run.ensures)
+    (unread_tells g.S.Source.left g.S.Source.faults (Some Run) _ _ c.args.told.now (Some Run) (g.S.Source.left c.args.source.now) c.args.told.now c.in-Err.status c.in-Err.ensures.not_read)
