@@ -1,5 +1,5 @@
 -- What the whole program answers.
-use Rattle.std.specs.Prelude.{◌≡◌, ◌⊎◌, ℕ, Bool, false, List, [], Option, Some, None}
+use Rattle.std.specs.Prelude.{◌≡◌, ◌⊎◌, ℕ, Bool, true, false, List, [], Option, Some, None}
 use Rattle.io_ends.specs.Faults.{Rose}
 use Rattle.rforms.specs.Reports.{Entry}
 use Rattle.ranswer.specs.Words.{command_in}
@@ -7,12 +7,51 @@ use Rattle.ranswer.specs.Writing.{IsWritten}
 use Rattle.ranswer.specs.Answer.{ToolAnswer}
 use Rattle.rwatch.specs.Seen.{Seen}
 use Rattle.ranswer.specs.Receipts.{Receipts}
+use Rattle.ranswer.specs.Told.{Tells}
 use Rattle.ranswer.specs.Watched.{Watched}
 use Rattle.ranswer.specs.declared.command.Command.{Command}
-use Rattle.ranswer.specs.declared.command.Command.TheVariants.{Replay}
+use Rattle.ranswer.specs.declared.command.Command.TheVariants.{Run, Replay, Audit, Bound, Drill}
 use Rattle.ranswer.specs.declared.status.ToolStatus.{ToolStatus}
 use Rattle.ranswer.specs.declared.status.ToolStatus.TheVariants as status
+use Rattle.ranswer.specs.declared.told.Told.{Told}
 use Rattle.redge.specs.Words.{own_text}
+
+-- the words ask for a replay
+abbrev pub is_replay : Option Command → Bool
+is_replay None = false
+is_replay (Some Run) = false
+is_replay (Some Replay) = true
+is_replay (Some Audit) = false
+is_replay (Some (Bound cap)) = false
+is_replay (Some (Drill count)) = false
+
+-- nobody watches a replay that no terminal shows
+unfoldable pub is_unwatched : Bool → Option Command → Bool
+is_unwatched true asked = false
+is_unwatched false asked = is_replay asked
+
+-- nothing was touched
+abbrev pub IsUntouched : {S K : Type 0} → S → S → K → K → List (List Entry) → List (List Entry) → List Seen → List Seen → Type 0
+IsUntouched source source_after sink sink_after receipts receipts_after watchers watchers_after =
+    (source_after ≡ source) × (sink_after ≡ sink) × (receipts_after ≡ receipts) × (watchers_after ≡ watchers)
+
+-- those who watch what is answered: nobody where it is `unwatched`
+abbrev pub watching : Bool → List Seen → List Seen
+watching true watchers = []
+watching false watchers = watchers
+
+-- what a person is told of the program's own text is nothing more, and of what a tool answers what the tool tells
+abbrev pub TellsBy : Option (List ℕ) → Option Command → List Seen → Option (List ℕ) → Option Told → Option Told → ToolStatus → Type 0
+TellsBy (Some text) asked watchers left before after answer = after ≡ before
+TellsBy None asked watchers left before after answer = Tells watchers asked left before after answer
+
+-- what a person is told beyond the status of what the program answers to words
+abbrev pub ProgramTells : List (List ℕ) → List Seen → Option (List ℕ) → Option Told → Option Told → ToolStatus → Type 0
+ProgramTells words watchers left before after answer = TellsBy (own_text words) (command_in words) watchers left before after answer
+
+-- the same where what is counted of a replay is shown on a terminal alone
+abbrev pub ShownTells : Bool → List (List ℕ) → List Seen → Option (List ℕ) → Option Told → Option Told → ToolStatus → Type 0
+ShownTells on_terminal words watchers left before after answer = ProgramTells words (watching (is_unwatched on_terminal (command_in words)) watchers) left before after answer
 
 -- of a source, the bytes that are left and how often it failed; of a sink, the bytes that were written and how often it failed
 module _ {S K : Type 0} (left : S → Option (List ℕ)) (reads : S → ℕ) (written : K → Option (List ℕ)) (writes : K → ℕ) where
@@ -31,21 +70,20 @@ module _ {S K : Type 0} (left : S → Option (List ℕ)) (reads : S → ℕ) (wr
   ProgramAnswer words source source_after sink sink_after receipts receipts_after watchers watchers_after answer =
       AnswersBy (own_text words) (command_in words) source source_after sink sink_after receipts receipts_after watchers watchers_after answer
 
-  -- a replay that no terminal shows is answered with nobody watching
-  pub record AnsweredUnwatched (on_terminal : Bool) (words : List (List ℕ)) (source source_after : S) (sink sink_after : K) (receipts receipts_after : List (List Entry)) (watchers watchers_after : List Seen) (answer : ToolStatus) : Type 0 where
-    pub unshown : on_terminal ≡ false
-    pub replay : command_in words ≡ Some Replay
-    pub answered : (heard : List Seen) × ProgramAnswer words source source_after sink sink_after receipts receipts_after [] heard answer
-    pub untold : watchers_after ≡ watchers
+  -- what the program answers to words with these watchers, or where it is `unwatched` with nobody in their place
+  abbrev pub WatchedAnswer : Bool → List (List ℕ) → S → S → K → K → List (List Entry) → List (List Entry) → List Seen → List Seen → ToolStatus → Type 0
+  WatchedAnswer false words source source_after sink sink_after receipts receipts_after watchers watchers_after answer =
+      ProgramAnswer words source source_after sink sink_after receipts receipts_after watchers watchers_after answer
+  WatchedAnswer true words source source_after sink sink_after receipts receipts_after watchers watchers_after answer =
+      ((heard : List Seen) × ProgramAnswer words source source_after sink sink_after receipts receipts_after [] heard answer) × (watchers_after ≡ watchers)
 
   -- what the program answers to words, which shows what is counted of a replay on a terminal alone
   abbrev pub ShownAnswer : Bool → List (List ℕ) → S → S → K → K → List (List Entry) → List (List Entry) → List Seen → List Seen → ToolStatus → Type 0
   ShownAnswer on_terminal words source source_after sink sink_after receipts receipts_after watchers watchers_after answer =
-      ProgramAnswer words source source_after sink sink_after receipts receipts_after watchers watchers_after answer
-      ⊎ AnsweredUnwatched on_terminal words source source_after sink sink_after receipts receipts_after watchers watchers_after answer
+      WatchedAnswer (is_unwatched on_terminal (command_in words)) words source source_after sink sink_after receipts receipts_after watchers watchers_after answer
 
   -- how a run ended: with no words to be had, wrong words or want of memory, and nothing was touched; else as its words are answered
   abbrev pub RunAnswer : Bool → S → S → K → K → List (List Entry) → List (List Entry) → List Seen → List Seen → ToolStatus → Type 0
   RunAnswer on_terminal source source_after sink sink_after receipts receipts_after watchers watchers_after answer =
-      (((answer ≡ status.Words) ⊎ (answer ≡ status.NoMemory)) × (source_after ≡ source) × (sink_after ≡ sink) × (receipts_after ≡ receipts) × (watchers_after ≡ watchers))
+      (((answer ≡ status.Words) ⊎ (answer ≡ status.NoMemory)) × IsUntouched source source_after sink sink_after receipts receipts_after watchers watchers_after)
       ⊎ ((words : List (List ℕ)) × ShownAnswer on_terminal words source source_after sink sink_after receipts receipts_after watchers watchers_after answer)

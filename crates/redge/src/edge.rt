@@ -1,15 +1,14 @@
 // The edge of the program: all of `main` but its handles.
-ghost use Rattle.std.specs.Prelude.{◌≡◌, ◌≢◌, ◌⊎◌, true, Some, map, string_bytes, drop, IfErr};
+ghost use Rattle.std.specs.Prelude.{◌≡◌, ◌≢◌, ◌⊎◌, map, string_bytes, drop, IfOk, IfErr};
 ghost use Rattle.std.specs.Process.{exit_status};
 ghost use Rattle.ranswer.specs.Status.{status_number};
 ghost use Rattle.ranswer.specs.Words.{command_in};
-ghost use Rattle.ranswer.specs.declared.command.Command.TheVariants.{Replay};
-ghost use Rattle.redge.specs.Program.{ProgramAnswer, RunAnswer, ShownAnswer};
+ghost use Rattle.redge.specs.Program.{ProgramAnswer, ProgramTells, RunAnswer, ShownAnswer, ShownTells, IsUntouched, is_replay, is_unwatched};
 
 use crate::explain::explain;
 use crate::own::own_text;
 use io_ends::{Sink, Source};
-use ranswer::{ToolStatus, are_for_run, write_output};
+use ranswer::{Command, ToolStatus, are_for_run, plain_of, write_output};
 use rguard::Receipt;
 use rnlp_cli::{Told, told_run, told_tool};
 use rrun::Pace;
@@ -47,22 +46,53 @@ pub fn run<
         × RunAnswer S.left S.faults K.written K.faults on_terminal source.old source.new sink.old sink.new receipts.old.items receipts.new.items (A.all audience.old) (A.all audience.new) status }
 {
     let mut told = None;
-    let status = match words_of(rt) {
+    let status = had_answer(
+        rt,
+        &words_of(rt),
+        source,
+        sink,
+        pace,
+        receipts,
+        audience,
+        on_terminal,
+        &mut told,
+    );
+    explain(rt, status, told, audience, on_terminal);
+    ExitCode::from(status.number())
+}
+
+// Answers the words that are to be had; where there are none, by the status that says why, and nothing is touched.
+fn had_answer<R: AllocGlobal + Threads + Wait + Sync, S: Source, K: Sink, G: Pace, A: Audience>(
+    rt: &R,
+    words: &Result<Vec<String>, ToolStatus>,
+    source: &mut S,
+    sink: &mut K,
+    pace: &G,
+    receipts: &mut Vec<Receipt<Edit>>,
+    audience: &mut A,
+    on_terminal: bool,
+    told: &mut Option<Told>,
+) -> ToolStatus
+    ensures answer { IfOk words.now (λ had. ShownAnswer S.left S.faults K.written K.faults on_terminal (map string_bytes had.items) source.old source.new sink.old sink.new receipts.old.items receipts.new.items (A.all audience.old) (A.all audience.new) result) }
+    ensures told { IfOk words.now (λ had. ShownTells on_terminal (map string_bytes had.items) (A.all audience.old) (S.left source.old) told.old told.new result) }
+    ensures status { IfErr words.now (λ status. result ≡ status) }
+    ensures untouched { IfErr words.now (λ _. IsUntouched source.old source.new sink.old sink.new receipts.old.items receipts.new.items (A.all audience.old) (A.all audience.new)) }
+    ensures untold { IfErr words.now (λ _. told.new ≡ told.old) }
+{
+    match words {
         Ok(words) => shown_answer(
             rt,
-            &words,
+            words,
             source,
             sink,
             pace,
             receipts,
             audience,
             on_terminal,
-            &mut told,
+            told,
         ),
-        Err(status) => status,
-    };
-    explain(rt, status, told, audience, on_terminal);
-    ExitCode::from(status.number())
+        Err(status) => *status,
+    }
 }
 
 // Answers the words; where no terminal shows what is counted of a replay, to nobody who watches.
@@ -77,27 +107,32 @@ fn shown_answer<R: AllocGlobal + Threads + Wait + Sync, S: Source, K: Sink, G: P
     on_terminal: bool,
     told: &mut Option<Told>,
 ) -> ToolStatus
-    ensures { ShownAnswer S.left S.faults K.written K.faults on_terminal (map string_bytes words.now) source.old source.new sink.old sink.new receipts.old.items receipts.new.items (A.all audience.old) (A.all audience.new) result }
+    ensures answer { ShownAnswer S.left S.faults K.written K.faults on_terminal (map string_bytes words.now) source.old source.new sink.old sink.new receipts.old.items receipts.new.items (A.all audience.old) (A.all audience.new) result }
+    ensures told { ShownTells on_terminal (map string_bytes words.now) (A.all audience.old) (S.left source.old) told.old told.new result }
 {
     let alloc = rt.alloc();
-    if on_terminal || !ask_for_replay(words) {
+    if is_unwatched(on_terminal, words) {
+        let nobody = &mut Watchers::new(Vec::new(alloc));
+        told_answer(rt, alloc, words, source, sink, pace, receipts, nobody, told)
+    } else {
         told_answer(
             rt, alloc, words, source, sink, pace, receipts, audience, told,
         )
-    } else {
-        let nobody = &mut Watchers::new(Vec::new(alloc));
-        told_answer(rt, alloc, words, source, sink, pace, receipts, nobody, told)
     }
+}
+
+// Whether the words ask for a replay that no terminal shows.
+fn is_unwatched(on_terminal: bool, words: &[String]) -> bool
+    ensures { result ≡ is_unwatched on_terminal (command_in (map string_bytes words.now)) }
+{
+    !on_terminal && ask_for_replay(words)
 }
 
 // Whether the words ask for a replay.
 fn ask_for_replay(words: &[String]) -> bool
-    ensures { result ≡ true → command_in (map string_bytes words.now) ≡ Some Replay }
+    ensures { result ≡ is_replay (command_in (map string_bytes words.now)) }
 {
-    match words {
-        [word] => word.as_str() == "replay",
-        _ => false,
-    }
+    !are_for_run(words) && matches!(plain_of(words), Some(Command::Replay))
 }
 
 /// Answers the words that ask about the program itself, and else runs the tool that they are for.
@@ -130,7 +165,8 @@ fn told_answer<R: Threads + Wait + Sync, S: Source, K: Sink, G: Pace, A: Audienc
     audience: &mut A,
     told: &mut Option<Told>,
 ) -> ToolStatus
-    ensures { ProgramAnswer S.left S.faults K.written K.faults (map string_bytes words.now) source.old source.new sink.old sink.new receipts.old.items receipts.new.items (A.all audience.old) (A.all audience.new) result }
+    ensures answer { ProgramAnswer S.left S.faults K.written K.faults (map string_bytes words.now) source.old source.new sink.old sink.new receipts.old.items receipts.new.items (A.all audience.old) (A.all audience.new) result }
+    ensures told { ProgramTells (map string_bytes words.now) (A.all audience.old) (S.left source.old) told.old told.new result }
 {
     if let Some(text) = own_text(words) {
         return write_output(sink, text);
