@@ -1,6 +1,6 @@
 //! The copies that a section edits.
-ghost use Rattle.std.specs.Prelude.{◌≡◌, ◌<◌, ◌++◌, ◌∷◌, [], true, IsTrue, IsSome, IfOk, OnOk, OnErr, Some, option_copied, length};
-ghost use Rattle.rstate.specs.Lent.{at_place, has, places, index_of, replaced, lent_value};
+ghost use Rattle.std.specs.Prelude.{◌≡◌, ◌<◌, IsSome, IfOk, OnOk, OnErr, Some, option_copied, length};
+ghost use Rattle.rstate.specs.Lent.{at_place, index_of, replaced};
 ghost use Rattle.rcopies.specs.Copies.{value_among, with_copy, shares_of, with_shares, CanReplace};
 
 use rstate::{Lent, Shares};

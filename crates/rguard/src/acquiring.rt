@@ -1,7 +1,7 @@
 //! Waiting until a wait is over.
-ghost use Rattle.std.specs.Prelude.{◌≡◌, true, [], IfOk, IfErr};
-ghost use Rattle.rguard.specs.Seats.{IsOf, IsIdle, SuitsSeat, Goes, bare};
-ghost use Rattle.rguard.specs.Looks.{HasAwaited, HasAcquired, fields_of};
+ghost use Rattle.std.specs.Prelude.{[], IfOk, IfErr};
+ghost use Rattle.rguard.specs.Seats.{IsOf, IsIdle, SuitsSeat, Goes};
+ghost use Rattle.rguard.specs.Looks.{HasAwaited, HasAcquired};
 
 use crate::guard::{Guard, guard_of};
 use crate::lock::Lock;

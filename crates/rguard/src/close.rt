@@ -1,11 +1,6 @@
 //! The end of a runtime.
-ghost use Rattle.std.specs.Prelude.{◌≡◌, ℕ, ◌<◌, Some, All, Any, length, slice_get, map};
-ghost use mathlib.Core.List.{IsPrefix};
+ghost use Rattle.std.specs.Prelude.{◌≡◌, ℕ, ◌<◌, All, Any, map};
 ghost use Rattle.std.specs.Arc.{arc_value};
-ghost use Rattle.rclaim.specs.Events.{seat_of};
-ghost use Rattle.rlock.specs.Known.{entries_by};
-ghost use Rattle.rvalue.specs.Histories.{value_of};
-ghost use Rattle.rstate.specs.Histories.{Beginning, IsLawfulFrom};
 ghost use Rattle.rguard.specs.Seats.{IsOf, IsIdle};
 ghost use Rattle.rguard.specs.Closing.{IsClosedBy};
 

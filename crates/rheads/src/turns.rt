@@ -1,5 +1,5 @@
 // The heads of writes, gone on with over an event that brings no claim.
-ghost use Rattle.std.specs.Prelude.{◌≡◌, ◌≢◌, ◌≤◌, ◌<◌, ◌++◌, ◌∷◌, ◌&&◌, ◌==◌, if◌then◌else◌, ℕ, true, false, Some, length, slice_get};
+ghost use Rattle.std.specs.Prelude.{◌≡◌, ◌≢◌, ◌≤◌, ◌<◌, ◌++◌, ◌∷◌, ◌&&◌, ◌==◌, if◌then◌else◌, ℕ, true, Some, length, slice_get};
 ghost use Rattle.std.specs.List.{AllByRecursion};
 ghost use Rattle.std.specs.FinSet.{contains, is_subset};
 ghost use Rattle.rmodel.specs.WellFormed.{EachPair, Rises, Distinct};

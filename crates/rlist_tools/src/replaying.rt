@@ -1,5 +1,5 @@
 // Replays, and what they tell those who watch.
-ghost use Rattle.std.specs.Prelude.{◌≡◌, ◌≢◌, ◌++◌, Some, List, [], map, length};
+ghost use Rattle.std.specs.Prelude.{◌≡◌, ◌++◌, Some, List, [], map};
 ghost use Rattle.io_ends.specs.Faults.{Rose};
 ghost use Rattle.rmodel.specs.Steps.{AreAccepted};
 ghost use Rattle.rwatch.specs.Seen.{Seen, told_all};

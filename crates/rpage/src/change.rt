@@ -1,5 +1,5 @@
 // The lines of what a step changes.
-ghost use Rattle.std.specs.Prelude.{◌≡◌, ◌++◌, ◌∷◌, [], ◌+◌, ◌≤◌, length, take, map, codes};
+ghost use Rattle.std.specs.Prelude.{◌≡◌, ◌++◌, ◌+◌, ◌≤◌, length, take, map, codes};
 ghost use Rattle.rforms.specs.Texts.{text_of, line_text};
 ghost use Rattle.rforms.specs.Lines.{spelled};
 ghost use Rattle.rforms.specs.SetFields.{name_at};

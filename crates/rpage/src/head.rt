@@ -1,5 +1,5 @@
 // How a report begins: what its head declares.
-ghost use Rattle.std.specs.Prelude.{◌≡◌, ◌++◌, map, length, OnOk, IfOk, Some};
+ghost use Rattle.std.specs.Prelude.{◌≡◌, ◌++◌, map, OnOk, IfOk, Some};
 ghost use Rattle.rforms.specs.Lines.{HasResource, HasGroup, HasTask};
 ghost use Rattle.rforms.specs.Reports.{declared_lines};
 ghost use Rattle.rpage.specs.Told.{told};

@@ -1,7 +1,7 @@
 // Pieces of lines, put at a place of a page. Each answers the place behind it.
 //
 // A place goes by value from piece to piece, and the room was made ahead, so that a piece of known length is a store or two.
-ghost use Rattle.std.specs.Prelude.{◌≡◌, ◌++◌, ◌∷◌, [], ◌+◌, ◌≤◌, length, take, decimal};
+ghost use Rattle.std.specs.Prelude.{◌≡◌, ◌++◌, ◌+◌, ◌≤◌, length, take, decimal};
 ghost use Rattle.rforms.specs.Texts.{behind_comma};
 ghost use Rattle.rforms.specs.SetFields.{set_text};
 

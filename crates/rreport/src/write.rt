@@ -1,14 +1,10 @@
 // Writing a report to a sink.
-ghost use Rattle.std.specs.Prelude.{◌≡◌, ◌≤◌, ◌++◌, [], map, IfOk, OnOk, OnErr};
+ghost use Rattle.std.specs.Prelude.{◌≡◌, ◌≤◌, ◌++◌, IfOk, OnOk, OnErr};
 ghost use Rattle.io_ends.specs.Faults.{Rose};
 ghost use Rattle.io_ends.specs.Ends.{Appends, AppendsPrefix};
-ghost use Rattle.rforms.specs.Fields.{Names};
-ghost use Rattle.rforms.specs.Heads.{names_of};
-ghost use Rattle.rforms.specs.Reports.{history_lines};
 ghost use Rattle.rforms.specs.Texts.{report_text};
 ghost use Rattle.rforms.specs.Written.{MayBeWritten};
 ghost use Rattle.rreport.specs.Report.{told_by, IsOverResources, HasItsLedgers};
-ghost use Rattle.rpage.specs.Told.{told};
 ghost use Rattle.rreport.specs.declared.write.WriteErr.TheVariants as cause;
 
 use crate::history::history_of;

@@ -1,5 +1,5 @@
 //! A task with its seat, and how all of them are done.
-ghost use Rattle.std.specs.Prelude.{◌≡◌, ◌<◌, ℕ, Some, List, length, slice_get};
+ghost use Rattle.std.specs.Prelude.{◌≡◌, ◌<◌, Some, List, length, slice_get};
 ghost use Rattle.rscript.specs.declared.statement.Statement.{Statement};
 ghost use Rattle.rrun.specs.Jobs.{IsReady, IsDone, AreReady, AreDone};
 

@@ -1,5 +1,5 @@
 // The reader of a script, record by record.
-ghost use Rattle.std.specs.Prelude.{◌≡◌, ◌≢◌, ◌<◌, ◌≤◌, ◌++◌, ◌∷◌, [], ◌==◌, length, None, Some, true, false, IsTrue, OnOk, IfOk, IfErr, IfSome};
+ghost use Rattle.std.specs.Prelude.{◌≡◌, ◌≢◌, ◌<◌, ◌≤◌, ◌++◌, ◌∷◌, [], ◌==◌, length, None, Some, true, false, IsTrue, OnOk, IfErr, IfSome};
 ghost use Rattle.std.specs.FinSet.{empty};
 ghost use Rattle.csv.specs.Records.{fields_of};
 ghost use Rattle.rset.specs.Sets.{all_below};

@@ -1,5 +1,5 @@
 //! What a section does, whatever the kind of its guard.
-ghost use Rattle.std.specs.Prelude.{◌≡◌, ◌++◌, ◌∷◌, [], false, true, IfOk, OnErr, IfErr, ◌⊎◌};
+ghost use Rattle.std.specs.Prelude.{◌≡◌, ◌++◌, ◌∷◌, [], true, IfOk, OnErr, IfErr};
 ghost use Rattle.rclaim.specs.declared.event.Event.TheVariants.{Finish};
 ghost use Rattle.rvalue.specs.declared.act.Act.TheVariants.{Edited, Shown};
 ghost use Rattle.rvalue.specs.Ledgers.{value_after, is_taken};

@@ -1,7 +1,7 @@
 //! The statements of a task, one after another.
-ghost use Rattle.std.specs.Prelude.{◌≡◌, IfOk, IfErr};
+ghost use Rattle.std.specs.Prelude.{IfOk, IfErr};
 ghost use Rattle.rguard.specs.Seats.{IsOf, IsIdle};
-ghost use Rattle.rsection.specs.Working.{section_made, FitsAt, AreWholeAt};
+ghost use Rattle.rsection.specs.Working.{FitsAt, AreWholeAt};
 ghost use Rattle.rsection.specs.Desks.{IsAt, seat_in, section_in, HasStepped, HasLeft};
 ghost use Rattle.rsection.specs.Runs.{HasRun, HasBrokenOff};
 

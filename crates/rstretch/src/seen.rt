@@ -4,7 +4,6 @@ ghost use Rattle.std.specs.Option.{option_to_list};
 ghost use Rattle.rclaim.specs.declared.claim.Claim.{Claim};
 ghost use Rattle.rset.specs.declared.TheConstants.{SEATS};
 ghost use Rattle.rbound.specs.declared.which.Which.TheVariants.{First};
-ghost use Rattle.rmodel.specs.Claims.{conflicts, conflicts_on};
 ghost use Rattle.rcover.specs.Ended.{wait_end};
 ghost use Rattle.rstretch.specs.Kept.{kept_in, length_by, HasRoom, AreLong, AreOf};
 ghost use Rattle.rstretch.specs.Last.{first_at};

@@ -1,12 +1,12 @@
 // A follower: the waits of a lock, followed event by event beside a machine that is there.
-ghost use Rattle.std.specs.Prelude.{◌≡◌, ◌≤◌, ◌<◌, ◌^◌, ◌*◌, ◌↔◌, [], true, false, ℕ, IfOk, IfErr, OnOk, OnErr, IsOk, Some, List, length, vec_capacity};
+ghost use Rattle.std.specs.Prelude.{◌≡◌, ◌≤◌, ◌<◌, ◌^◌, ◌*◌, ◌↔◌, [], true, false, ℕ, IfOk, IfErr, OnOk, OnErr, IsOk, Some, length, vec_capacity};
 ghost use Rattle.std.specs.List.{AllByRecursion};
 ghost use Rattle.rset.specs.declared.TheConstants.{SEATS};
 ghost use Rattle.rexpand.specs.Groups.{ReadGroups};
 ghost use Rattle.rclaim.specs.Events.{IsNormalEvent};
 ghost use Rattle.rclaim.specs.declared.event.Event.{Event};
 ghost use Rattle.rmodel.specs.Changes.{changes_between, AreActive};
-ghost use Rattle.rmodel.specs.Steps.{Fits, Accepts, Comes, Steps, next, refusal};
+ghost use Rattle.rmodel.specs.Steps.{Fits, Accepts, Steps, next, refusal};
 ghost use Rattle.rstretch.specs.Kept.{HasRoom};
 ghost use Rattle.rwaits.specs.declared.following.Following.{Following};
 ghost use Rattle.rwaits.specs.Follow.{IsEmpty};
