@@ -8,6 +8,8 @@ mod bounds;
 #[cfg(test)]
 mod devices;
 #[cfg(test)]
+mod expected;
+#[cfg(test)]
 mod limits;
 #[cfg(test)]
 mod reports;

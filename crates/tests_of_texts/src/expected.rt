@@ -1,0 +1,92 @@
+// What a person is told to be due where a report has another line.
+use io_ends::{MemSink, MemSource};
+use rnlp_cli::{Told, ToolStatus, told_tool};
+use rwatch::Watchers;
+use std::alloc::Global;
+use std::test::Fail;
+
+// Two tasks over two resources, and the issue of the first of them.
+const ISSUED: &[u8] =
+    b"rnlp,1\nresource,a\nresource,b\ntask,t\ntask,u\ncap,2\nissue,t,write,a+b,2\n";
+
+// The second task waits for the first, which edits a resource and finishes.
+const FINISHED: &[u8] =
+    b"now,t,write,satisfied\ngrant,t,a+b\nissue,u,read,b,1\nnow,u,read,entitled\nfinish,t\nadd,a,5,yes\nnow,u,read,satisfied\ngrant,u,b\n";
+
+// The wait of the second task is told, and its section ends.
+const OVER: &[u8] = b"wait,u,first,0,1,2,0,1,2\nfinish,u\nledger,a,5,1\n";
+
+// Whether an audit of these parts, one behind another, tells that this line is due.
+fn expects(alloc: Global, parts: &[&[u8]], line: &str) -> Result<bool, Fail> {
+    let mut report = Vec::new(alloc);
+    for part in parts {
+        report.extend_from_slice(part)?;
+    }
+    let mut words = Vec::new(alloc);
+    words.push(String::from_str(alloc, "audit")?)?;
+    let mut source = MemSource::new(report, Vec::new(alloc));
+    let mut sink = MemSink::new(alloc, 64, Vec::new(alloc))?;
+    let mut nobody = Watchers::new(Vec::new(alloc));
+    let mut told = None;
+    let status = told_tool(
+        alloc,
+        &words,
+        &mut source,
+        &mut sink,
+        &mut nobody,
+        &mut told,
+    );
+    Ok(status == ToolStatus::Trace && is_due(&told, line))
+}
+
+// Whether this line is told to be due.
+fn is_due(told: &Option<Told>, line: &str) -> bool {
+    match told {
+        Some(
+            Told::List {
+                fault: _,
+                expected: Some(due),
+            },
+        ) => due.as_str() == line,
+        _ => false,
+    }
+}
+
+#[test]
+fn the_change_that_is_due_is_told(rt: HostRuntime) -> Result<(), Fail> {
+    let alloc = rt.alloc();
+    let status = expects(
+        alloc,
+        &[ISSUED, b"now,t,write,entitled\n"],
+        "now,t,write,satisfied",
+    )?;
+    let grant = expects(
+        alloc,
+        &[ISSUED, b"now,t,write,satisfied\ngrant,t,a\n"],
+        "grant,t,a+b",
+    )?;
+    assert!(rt; status && grant);
+    Ok(())
+}
+
+#[test]
+fn the_wait_that_is_due_is_told(rt: HostRuntime) -> Result<(), Fail> {
+    let wait = expects(
+        rt.alloc(),
+        &[ISSUED, FINISHED, b"end\n"],
+        "wait,u,first,0,1,2 and its bound",
+    )?;
+    assert!(rt; wait);
+    Ok(())
+}
+
+#[test]
+fn the_ledger_that_is_due_is_told(rt: HostRuntime) -> Result<(), Fail> {
+    let ledger = expects(
+        rt.alloc(),
+        &[ISSUED, FINISHED, OVER, b"ledger,b,1,0\n"],
+        "ledger,b,0,0",
+    )?;
+    assert!(rt; ledger);
+    Ok(())
+}
