@@ -1,6 +1,6 @@
 """What run and count share: the lists of lists.rs, and the reports that are due for them.
 
-Each list is written by lists.rs, which settles it by a model of its own; the report of the program must be the model's, byte
+Each list is written by lists.rs, which settles it by the model of model.rs; the report of the program must be the model's, byte
 for byte."""
 import os
 import subprocess

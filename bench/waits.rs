@@ -1,15 +1,24 @@
-//! The waits of a history by the words of the rules, for the model of lists.rs: which end, what covers them, what bounds them.
-//! All lengths are 1, as they are in its lists.
-use crate::{write_changes, write_event, Claim, Event, Kind, Lock, Status};
+//! The waits of a history by the words of the rules, for the model of model.rs: which end, what covers them, what bounds them.
+use crate::model::{write_changes, write_event, Claim, Event, Kind, Lock, Status};
 use std::collections::{BTreeMap, HashMap, HashSet};
 use std::io::{Result, Write};
 
 /// Which wait of its request it is.
 #[derive(Clone, Copy, PartialEq)]
-enum Stage {
+pub enum Stage {
     First,
     Rise,
     Ask,
+}
+
+impl Stage {
+    pub fn word(self) -> &'static str {
+        match self {
+            Stage::First => "first",
+            Stage::Rise => "rise",
+            Stage::Ask => "ask",
+        }
+    }
 }
 
 /// A claim by its stamp, and whether it is a write.
@@ -32,14 +41,24 @@ struct Run {
 
 /// A claim that some request has, as far as bounds ask.
 #[derive(Clone, Copy, PartialEq, Eq, Hash)]
-struct Need {
+pub struct Need {
     seat: usize,
     kind: Kind,
     write: bool,
     reads: u64,
     writes: u64,
     places: u64,
+    length: u64,
 }
+
+impl Need {
+    pub fn of(c: &Claim) -> Need {
+        Need { seat: c.seat, kind: c.kind, write: c.write, reads: c.reads, writes: c.writes, places: c.places, length: c.length }
+    }
+}
+
+/// How many sections count as reads, how many as writes, and what their lengths come to.
+pub type Sections = (usize, usize, u64);
 
 /// Which wait the claim at a place of the list has, if it waits. That of an upgrade's write half begins with its rise.
 fn wait_at(claims: &[Claim], i: usize) -> Option<Stage> {
@@ -92,12 +111,13 @@ impl Run {
         }
     }
 
-    /// The sections of its cover: how many count as reads, and how many as writes.
-    fn cover(&self) -> (usize, usize) {
+    /// The sections of its cover, where each claim has the length that is told.
+    fn cover(&self, length: &HashMap<Id, u64>) -> Sections {
         let taken = |s: &Stretch| s.throughout.as_ref().map(|all| *all.iter().min().expect("one is satisfied throughout"));
         let reads: HashSet<_> = self.stretches.iter().filter_map(taken).collect();
-        let writes: HashSet<_> = self.stretches.iter().filter(|s| s.satisfied).map(|s| s.keeper).collect();
-        (reads.len(), writes.len())
+        let writes: HashSet<_> = self.stretches.iter().filter(|s| s.satisfied).filter_map(|s| s.keeper).collect();
+        let units = reads.iter().chain(&writes).map(|id| length[id]).sum();
+        (reads.len(), writes.len(), units)
     }
 }
 
@@ -107,6 +127,7 @@ pub struct History {
     text: Vec<u8>,
     runs: BTreeMap<usize, Run>,
     needs: HashSet<Need>,
+    length: HashMap<Id, u64>,
     /// Where a bound is due, and of which wait.
     gaps: Vec<(usize, Claim, Stage)>,
 }
@@ -119,8 +140,8 @@ impl History {
         write_event(&mut self.text, event)?;
         write_changes(&mut self.text, &before, &lock.claims)?;
         if let Event::Issue(seat, ..) = event {
-            let own = lock.claims.iter().filter(|c| c.seat == seat);
-            self.needs.extend(own.map(|c| Need { seat, kind: c.kind, write: c.write, reads: c.reads, writes: c.writes, places: c.places }));
+            self.needs.extend(lock.of(seat).map(Need::of));
+            self.length.extend(lock.of(seat).map(|c| ((c.stamp, c.write), c.length)));
         }
         self.follow(&lock.claims)
     }
@@ -131,13 +152,9 @@ impl History {
         let ended: Vec<_> = self.runs.iter().filter(|(stamp, run)| !goes_on(**stamp, run)).map(|(stamp, _)| *stamp).collect();
         for stamp in ended {
             let run = self.runs.remove(&stamp).expect("it went on");
-            let word = match run.stage {
-                Stage::First => "first",
-                Stage::Rise => "rise",
-                Stage::Ask => "ask",
-            };
-            let (reads, writes) = run.cover();
-            write!(self.text, "wait,t{},{word},{reads},{writes},{}", run.claim.seat, reads + writes)?;
+            let word = run.stage.word();
+            let (reads, writes, units) = run.cover(&self.length);
+            write!(self.text, "wait,t{},{word},{reads},{writes},{units}", run.claim.seat)?;
             self.gaps.push((self.text.len(), run.claim, run.stage));
         }
         let least = least_of_lines(claims);
@@ -150,13 +167,35 @@ impl History {
         Ok(())
     }
 
+    /// How much is told so far.
+    pub fn told(&self) -> usize {
+        self.text.len()
+    }
+
+    /// The lines that were told from there on, those of waits without their bounds.
+    pub fn lines_from(&self, mut at: usize) -> Vec<String> {
+        let mut parts = Vec::new();
+        let ends = self.gaps.iter().map(|gap| gap.0).filter(|to| *to > at).chain([self.text.len()]);
+        for to in ends.collect::<Vec<_>>() {
+            let part = std::str::from_utf8(&self.text[at..to]).expect("names are letters");
+            parts.extend(part.lines().map(str::to_string));
+            at = to;
+        }
+        parts
+    }
+
+    /// The bounds of the waits that were told, by all needs.
+    pub fn bounds(&self, cap: usize) -> Vec<Sections> {
+        let mut bounds = Bounds::of(&self.needs, cap);
+        self.gaps.iter().map(|(_, claim, stage)| bounds.of_wait(claim, *stage)).collect()
+    }
+
     /// Writes what was told, with the bounds by all needs.
     pub fn write(&self, out: &mut impl Write, cap: usize) -> Result<()> {
-        let (mut bounds, mut at) = (Bounds::of(&self.needs, cap), 0);
-        for (to, claim, stage) in &self.gaps {
+        let mut at = 0;
+        for ((to, ..), (reads, writes, units)) in self.gaps.iter().zip(self.bounds(cap)) {
             out.write_all(&self.text[at..*to])?;
-            let (reads, writes) = bounds.of_wait(claim, *stage);
-            writeln!(out, ",{reads},{writes},{}", reads + writes)?;
+            writeln!(out, ",{reads},{writes},{units}")?;
             at = *to;
         }
         out.write_all(&self.text[at..])
@@ -164,17 +203,17 @@ impl History {
 }
 
 /// The bounds of waits by what all requests need; those that were asked for once are kept.
-struct Bounds<'a> {
+pub struct Bounds<'a> {
     needs: &'a HashSet<Need>,
     cap: usize,
     zones: Vec<u64>,
     /// What each seat reads.
     reads: [u64; 64],
-    kept: HashMap<(u8, usize, u64), (usize, usize)>,
+    kept: HashMap<(u8, usize, u64), Sections>,
 }
 
 impl<'a> Bounds<'a> {
-    fn of(needs: &'a HashSet<Need>, cap: usize) -> Bounds<'a> {
+    pub fn of(needs: &'a HashSet<Need>, cap: usize) -> Bounds<'a> {
         let (mut zones, mut reads): (Vec<u64>, _) = (Vec::new(), [0; 64]);
         for need in needs {
             reads[need.seat] |= need.reads;
@@ -185,7 +224,7 @@ impl<'a> Bounds<'a> {
         Bounds { needs, cap, zones, reads, kept: HashMap::new() }
     }
 
-    fn of_wait(&mut self, c: &Claim, stage: Stage) -> (usize, usize) {
+    pub fn of_wait(&mut self, c: &Claim, stage: Stage) -> Sections {
         let key = match stage {
             Stage::Ask => (0, c.seat, c.asked & c.writes),
             _ if c.write => (1, c.seat, *self.zones.iter().find(|z| **z & c.places != 0).expect("it was told")),
@@ -195,7 +234,7 @@ impl<'a> Bounds<'a> {
             return *found;
         }
         let found = match key.0 {
-            0 => (usize::from(self.needs.iter().any(|n| n.seat != c.seat && n.reads & key.2 != 0)), 0),
+            0 => self.of_ask(c.seat, key.2),
             1 => self.of_write(c.seat, key.2),
             _ => self.of_read(c.seat, key.2),
         };
@@ -203,20 +242,43 @@ impl<'a> Bounds<'a> {
         found
     }
 
-    fn of_write(&self, seat: usize, zone: u64) -> (usize, usize) {
-        let there = || self.needs.iter().filter(|n| n.seat != seat && n.places & zone != 0);
-        let writers: HashSet<_> = there().filter(|n| n.write).map(|n| n.seat).collect();
-        let readers: HashSet<_> = there().filter(|n| !n.write).map(|n| n.seat).collect();
-        let w = writers.len().min(self.cap - 1);
-        let rises = there().any(|n| n.kind == Kind::Upgrade);
-        let few = !rises && (w == self.cap - 1 || readers.is_subset(&writers));
-        (if readers.is_empty() { 0 } else if few { w } else { w + 1 }, w)
+    fn of_ask(&self, seat: usize, part: u64) -> Sections {
+        let readers = || self.needs.iter().filter(|n| n.seat != seat && n.reads & part != 0);
+        (usize::from(readers().next().is_some()), 0, longest(readers()))
     }
 
-    fn of_read(&self, seat: usize, reads: u64) -> (usize, usize) {
-        let keepers = || self.needs.iter().filter(|v| v.write && v.seat != seat && v.writes & reads != 0);
-        let read_by_others = |than: usize| (0..64).filter(|t| *t != seat && *t != than).fold(0, |all, t| all | self.reads[t]);
-        let held_up = keepers().any(|v| v.kind == Kind::Upgrade || read_by_others(v.seat) & v.writes != 0);
-        (usize::from(held_up), usize::from(keepers().next().is_some()))
+    fn of_write(&self, seat: usize, zone: u64) -> Sections {
+        let there = || self.needs.iter().filter(|n| n.seat != seat && n.places & zone != 0);
+        let readers: HashSet<_> = there().filter(|n| !n.write).map(|n| n.seat).collect();
+        let mut writers = [None; 64];
+        for n in there().filter(|n| n.write) {
+            writers[n.seat] = writers[n.seat].max(Some(n.length));
+        }
+        let mut lengths: Vec<u64> = writers.iter().flatten().copied().collect();
+        lengths.sort_by(|a, b| b.cmp(a));
+        let w = lengths.len().min(self.cap - 1);
+        let rises = there().any(|n| n.kind == Kind::Upgrade);
+        let few = !rises && (w == self.cap - 1 || readers.iter().all(|r| writers[*r].is_some()));
+        let r = if readers.is_empty() { 0 } else if few { w } else { w + 1 };
+        (r, w, lengths[..w].iter().sum::<u64>() + r as u64 * longest(there().filter(|n| !n.write)))
     }
+
+    fn of_read(&self, seat: usize, reads: u64) -> Sections {
+        let keepers = || self.needs.iter().filter(|v| v.write && v.seat != seat && v.writes & reads != 0);
+        let Some(length) = keepers().map(|v| v.length).max() else { return (0, 0, 0) };
+        // What is read below a keeper by a task that is neither its own nor the reader's.
+        let read_by_others = |than: usize| (0..64).filter(|t| *t != seat && *t != than).fold(0, |all, t| all | self.reads[t]);
+        let own_half = |v: &Need| v.kind == Kind::Upgrade;
+        if !keepers().any(|v| own_half(v) || read_by_others(v.seat) & v.writes != 0) {
+            return (0, 1, length);
+        }
+        let under = |c: &Need, v: &Need| c.reads & v.writes != 0 && (c.seat != v.seat || own_half(v) && !c.write && c.kind == v.kind && c.reads == v.writes);
+        let holders = self.needs.iter().filter(|c| c.seat != seat && keepers().any(|v| under(c, v)));
+        (1, 1, length + longest(holders))
+    }
+}
+
+/// The longest of some needs; 0 where there is none.
+fn longest<'a>(needs: impl Iterator<Item = &'a Need>) -> u64 {
+    needs.map(|n| n.length).max().unwrap_or(0)
 }

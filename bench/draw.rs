@@ -1,0 +1,94 @@
+//! What generated inputs are drawn from: sets, lengths, requests, and what a field is spoiled with.
+use crate::model::Dice;
+
+/// Fields that are none, or none at their place.
+pub const SPOILT: [&str; 14] =
+    ["", "-", "zz", "R0", "r99", "t99", "0", "1", "64", "65", "1000001", "00000000000000000000001", "18446744073709551616", "r0+-"];
+
+/// The set of so many resources.
+pub fn all(resources: usize) -> u64 {
+    u64::MAX >> (64 - resources.max(1))
+}
+
+impl Dice {
+    /// The dice of the input of this number.
+    pub fn of(number: u64) -> Dice {
+        let mut dice = Dice(number.wrapping_mul(0x9E37_79B9_7F4A_7C15) | 1);
+        for _ in 0..8 {
+            dice.below(2);
+        }
+        dice
+    }
+
+    /// Once in so many times; never for 0.
+    pub fn once_in(&mut self, times: usize) -> bool {
+        times > 0 && self.below(times) == 0
+    }
+
+    /// A member of a set.
+    pub fn member(&mut self, of: u64) -> usize {
+        let members: Vec<_> = (0..64).filter(|l| of >> l & 1 == 1).collect();
+        members[self.below(members.len())]
+    }
+
+    /// Some of the members of a set, at least one and at most so many; none of the empty set.
+    pub fn some(&mut self, of: u64, most: usize) -> u64 {
+        let count = if of == 0 { 0 } else { 1 + self.below(most) };
+        (0..count).fold(0, |all, _| all | 1 << self.member(of))
+    }
+
+    /// A set as a field, in some order, at times with repeats.
+    pub fn field(&mut self, set: u64) -> String {
+        let mut names: Vec<_> = (0..64).filter(|l| set >> l & 1 == 1).map(|l| format!("r{l}")).collect();
+        if names.is_empty() {
+            return "-".to_string();
+        }
+        for i in 1..names.len() {
+            let other = self.below(i + 1);
+            names.swap(i, other);
+        }
+        if self.below(8) == 0 {
+            names.push(names[0].clone());
+        }
+        names.join("+")
+    }
+
+    fn length(&mut self) -> String {
+        match self.below(20) {
+            0 => "1000000".to_string(),
+            1 => format!("000{}", self.below(100)),
+            _ => self.below(12).to_string(),
+        }
+    }
+
+    /// The kind of a request with its sets and lengths, as fields; one that is spoiled may be about nothing, undeclared, or have a
+    /// first part outside its sets.
+    pub fn request(&mut self, resources: usize, groups: &[u64], spoilt: bool) -> String {
+        let whole = all(resources);
+        let (mut reads, mut writes) = (self.some(whole, 3), self.some(whole, 3));
+        let length = self.length();
+        if self.below(4) == 0 {
+            reads = 0;
+        }
+        if spoilt && self.below(3) == 0 {
+            writes = 0;
+        }
+        let declared = match groups.len() {
+            _ if spoilt => writes,
+            0 => self.some(whole, 1),
+            count => groups[self.below(count)],
+        };
+        let part = self.some(declared, 4);
+        let (r, w, s) = (self.field(reads), self.field(writes), self.field(part));
+        match self.below(5) {
+            0 => format!("read,{s},{length}"),
+            1 => format!("write,{w},{length}"),
+            2 => format!("mixed,{r},{w},{length}"),
+            3 => format!("upgrade,{s},{length},{}", self.length()),
+            _ => {
+                let first = if spoilt { self.some(whole, 2) & !reads } else { self.some(reads | writes, 2) };
+                format!("nested,{r},{w},{},{length}", self.field(first))
+            }
+        }
+    }
+}
