@@ -15,6 +15,11 @@ fault_count tries = if tries.interruptions == 2 ^ 64 - 1 then 2 ^ 64 - 1 else tr
 abbrev pub untried : Tries
 untried = record { faults = 0; interruptions = 0 }
 
+-- a device, and what it told so far
+pub record TriedDevice (D : Type 0) : Type 0 where
+  pub device : D
+  pub tries : Tries
+
 -- a call that was tried until the device did it or failed: no fault stands behind an answer, one behind a failure, unless the device was given up
 abbrev pub IsTried : Bool → Tries → Tries → Type 0
 IsTried false before after = (after.faults ≡ before.faults) × (before.interruptions ≤ after.interruptions) × (after.interruptions < 2 ^ 64 - 1)

@@ -11,7 +11,7 @@ use std::io::{ErrorKind, Read};
 use std::marker::Model;
 use std::rt::Stdin;
 
-/// A reader as a source. A call that was interrupted is made again. It tells no bytes. A contract sees what the reader told of faults.
+/// A reader as a source. A call that was interrupted is made again. As a source it tells no bytes. A contract sees the reader, and what it told of faults.
 #[derive(Drop)]
 pub struct ReaderSource<R: Read> {
     reader: Tried<R>,
@@ -19,11 +19,11 @@ pub struct ReaderSource<R: Read> {
 
 impl<R: Read> Model for ReaderSource<R> {
     ghost use Rattle.std.specs.Prelude.{◌<◌, ◌^◌};
-    ghost use Rattle.io_ends.specs.Tries.{Tries};
+    ghost use Rattle.io_ends.specs.Tries.{TriedDevice};
 
-    ghost Value = { Tries };
+    ghost Value = { TriedDevice R };
 
-    ghost view = { λ s. record { faults = s.reader.faults; interruptions = s.reader.interruptions } };
+    ghost view = { λ s. record { device = s.reader.device; tries = record { faults = s.reader.faults; interruptions = s.reader.interruptions } } };
 
     ghost invariant = { λ s. (s.reader.faults < 2 ^ 64) × (s.reader.interruptions < 2 ^ 64) };
 }
@@ -31,7 +31,7 @@ impl<R: Read> Model for ReaderSource<R> {
 impl<R: Read> ReaderSource<R> {
     /// A reader that told nothing yet.
     pub fn new(reader: R) -> ReaderSource<R>
-        ensures { result ≡ untried }
+        ensures { result ≡ record { device = reader; tries = untried } }
     {
         ReaderSource {
             reader: Tried::new(reader),
@@ -42,14 +42,19 @@ impl<R: Read> ReaderSource<R> {
 impl<R: Read> Source for ReaderSource<R> {
     ghost left = { λ _. None };
 
-    ghost faults = { λ s. fault_count s };
+    ghost faults = { λ s. fault_count s.tries };
 
     fn read(&mut self, buf: &mut [u8]) -> Result<usize, Failed>
         ensures given { IfOk result (Gives None None buf.old buf.new) }
-        ensures quiet { OnOk result (fault_count self.new ≡ fault_count self.old) }
-        ensures failed { OnErr result (Rose (fault_count self.old) (fault_count self.new)) }
-        ensures counted { fault_count self.old ≤ fault_count self.new }
-        ensures cause { IsTried (is_err result) self.old self.new }
+        ensures quiet { OnOk result (fault_count self.new.tries ≡ fault_count self.old.tries) }
+        ensures failed { OnErr result (Rose (fault_count self.old.tries) (fault_count self.new.tries)) }
+        ensures counted { fault_count self.old.tries ≤ fault_count self.new.tries }
+        ensures cause { IsTried (is_err result) self.old.tries self.new.tries }
+
+        // Of a reader whose bytes are known it gave what it answers, and nothing after a failure; nothing is the end.
+        ensures consumed { IfOk result (λ n. Consumes (R.remaining self.old.device) (R.remaining self.new.device) (take n buf.new)) }
+        ensures end { IfOk result (λ n. n ≡ 0 → 0 < length buf.old → IsAtEnd (R.remaining self.new.device)) }
+        ensures unchanged { OnErr result (Keeps (R.remaining self.old.device) (R.remaining self.new.device)) }
     {
         self.reader.read(buf)
     }

@@ -12,8 +12,8 @@ use std::marker::Model;
 use std::rt::Stdout;
 
 /// A writer as a sink. A call that was interrupted is made again, and to take nothing of a piece that is not empty is a
-/// fault. It tells no bytes. A contract sees what the writer told of faults. Nothing is buffered here: what `write` took
-/// was handed to the writer.
+/// fault. As a sink it tells no bytes. A contract sees the writer, and what it told of faults. Nothing is buffered here:
+/// what `write` took was handed to the writer.
 #[derive(Drop)]
 pub struct WriterSink<W: Write> {
     writer: Tried<W>,
@@ -21,11 +21,11 @@ pub struct WriterSink<W: Write> {
 
 impl<W: Write> Model for WriterSink<W> {
     ghost use Rattle.std.specs.Prelude.{◌<◌, ◌^◌};
-    ghost use Rattle.io_ends.specs.Tries.{Tries};
+    ghost use Rattle.io_ends.specs.Tries.{TriedDevice};
 
-    ghost Value = { Tries };
+    ghost Value = { TriedDevice W };
 
-    ghost view = { λ s. record { faults = s.writer.faults; interruptions = s.writer.interruptions } };
+    ghost view = { λ s. record { device = s.writer.device; tries = record { faults = s.writer.faults; interruptions = s.writer.interruptions } } };
 
     ghost invariant = { λ s. (s.writer.faults < 2 ^ 64) × (s.writer.interruptions < 2 ^ 64) };
 }
@@ -33,7 +33,7 @@ impl<W: Write> Model for WriterSink<W> {
 impl<W: Write> WriterSink<W> {
     /// A writer that told nothing yet.
     pub fn new(writer: W) -> WriterSink<W>
-        ensures { result ≡ untried }
+        ensures { result ≡ record { device = writer; tries = untried } }
     {
         WriterSink {
             writer: Tried::new(writer),
@@ -44,14 +44,18 @@ impl<W: Write> WriterSink<W> {
 impl<W: Write> Sink for WriterSink<W> {
     ghost written = { λ _. None };
 
-    ghost faults = { λ s. fault_count s };
+    ghost faults = { λ s. fault_count s.tries };
 
     fn write(&mut self, piece: &[u8]) -> Result<usize, Failed>
         ensures taken { IfOk result (Takes None None piece.now) }
-        ensures quiet { OnOk result (fault_count self.new ≡ fault_count self.old) }
-        ensures failed { OnErr result (Rose (fault_count self.old) (fault_count self.new)) }
-        ensures counted { fault_count self.old ≤ fault_count self.new }
-        ensures cause { IsTried (is_err result) self.old self.new }
+        ensures quiet { OnOk result (fault_count self.new.tries ≡ fault_count self.old.tries) }
+        ensures failed { OnErr result (Rose (fault_count self.old.tries) (fault_count self.new.tries)) }
+        ensures counted { fault_count self.old.tries ≤ fault_count self.new.tries }
+        ensures cause { IsTried (is_err result) self.old.tries self.new.tries }
+
+        // Of a writer whose bytes are known it appended what it answers, and nothing after a failure.
+        ensures appended { IfOk result (λ n. Appends (W.contents self.old.device) (W.contents self.new.device) (take n piece.now)) }
+        ensures unchanged { OnErr result (Keeps (W.contents self.old.device) (W.contents self.new.device)) }
     {
         self.writer.write(piece)
     }
