@@ -51,7 +51,7 @@ fn work<R: Wait, M: Machine, G: Pace>(
     }
 }
 
-/// Does all jobs, each in a thread of its own, and those for which there is no thread one after another.
+/// Does all jobs. It asks for a thread for each; how many there are is not said, and where none can be made they are done one after another.
 pub(crate) fn work_all<R: Threads + Wait + Sync, M: Machine, G: Pace>(
     rt: &R,
     alloc: Global,

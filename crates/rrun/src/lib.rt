@@ -1,4 +1,4 @@
-//! The tasks of a script, each carried out by a thread of its own at one runtime.
+//! The tasks of a script, carried out on threads at one runtime.
 #![tactic(auto)]
 
 mod jobs;

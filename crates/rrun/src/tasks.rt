@@ -1,4 +1,4 @@
-//! The tasks of a script, each on a thread of its own.
+//! The tasks of a script, on threads.
 ghost use Rattle.std.specs.Prelude.{◌≡◌, ◌≤◌, ◌+◌, [], map, length, vec_capacity, All, IsSome, IfOk, IfErr};
 ghost use Rattle.rrun.specs.Tasks.{AreSeatsFor};
 ghost use Rattle.rrun.specs.Endings.{waiting, resting, AreEnded};
@@ -22,8 +22,8 @@ pub struct Ended<M: Machine> {
     pub stopped: bool,
 }
 
-/// Runs the tasks of a script at a runtime over what the script declares: each with the seat of its number, on a thread of its own. Where no
-/// thread can be made the tasks are run one after another.
+/// Runs the tasks of a script at a runtime over what the script declares: each with the seat of its number. It asks for a thread for each; how
+/// many there are is not said, and where none can be made the tasks are run one after another.
 ///
 /// # Errors
 ///

@@ -105,7 +105,7 @@ module _ {M : Type 0} where
   pub at_end : (seat : SeatOf Ledger Edit) (steps : List Statement) (i : ℕ) (desk : Desk M) → length steps ≤ i → IsBehind {M = M} seat (take i steps) (drop i steps) desk → (b : Beginning Ledger) → seat.opening ≡ Some b → section_in desk ≡ None
   at_end seat steps i desk over h b opens = subst (AreWhole b.groups.q b.groups.groups (section_in desk)) (drop_all i steps over) (h.whole b opens)
 
-  pub broken_there : (seat : SeatOf Ledger Edit) (steps ahead : List Statement) (i : ℕ) (desk : Desk M) (later : SeatOf Ledger Edit) → i ≤ length steps → IsBehind {M = M} seat (take i steps) ahead desk → HasLeft (seat_in desk) later
+  pub broken_there : (seat : SeatOf Ledger Edit) (steps ahead : List Statement) (i : ℕ) (desk : Desk M) (later : SeatOf Ledger Edit) → i < length steps → IsBehind {M = M} seat (take i steps) ahead desk → HasLeft (seat_in desk) later
       → HasBrokenOff steps seat later
   broken_there seat steps ahead i desk later some h left = record {
     more = h.more ++ left.more;

@@ -1,5 +1,5 @@
 -- Runs: the entries that the statements of a task make, up to the answers that its acts get.
-use Rattle.std.specs.Prelude.{◌≡◌, ◌≤◌, ℕ, List, [], ◌∷◌, ◌++◌, map, take, length, Option, Some, None}
+use Rattle.std.specs.Prelude.{◌≡◌, ◌<◌, ℕ, List, [], ◌∷◌, ◌++◌, map, take, length, Option, Some, None}
 use Rattle.rclaim.specs.declared.event.Event.{Event}
 use Rattle.rclaim.specs.declared.event.Event.TheVariants as events
 use Rattle.rvalue.specs.declared.act.Act.{Act}
@@ -61,10 +61,10 @@ abbrev pub broken_off : ℕ → Option Section → List Told
 broken_off n None = []
 broken_off n (Some section) = record { event = events.Finish n; deeds = [] } ∷ []
 
--- *A partial run*: the entries are what the first statements make, and the end of the section that is open behind them
+-- *A partial run*: the entries are what the first statements make, and the end of the section that is open behind them. It is never the whole run: one statement at least was not carried out
 pub record IsPartialRunOf (n : ℕ) (statements : List Statement) (entries : List (EntryFields Edit)) : Type 0 where
   pub count : ℕ
-  pub some : count ≤ length statements
+  pub some : count < length statements
   pub are : map told_by entries ≡ run_of n [] (take count statements) ++ broken_off n (section_after (take count statements))
 
 -- ---- what a seat has done

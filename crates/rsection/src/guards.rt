@@ -2,9 +2,10 @@
 ghost use Rattle.std.specs.Prelude.{◌≡◌, ◌++◌, ◌∷◌, [], true, IfOk, OnErr, IfErr};
 ghost use Rattle.rclaim.specs.declared.event.Event.TheVariants.{Finish};
 ghost use Rattle.rvalue.specs.declared.act.Act.TheVariants.{Edited, Shown};
+ghost use Rattle.rvalue.specs.declared.ledger.Ledger.{Ledger};
 ghost use Rattle.rvalue.specs.Ledgers.{value_after, is_taken};
 ghost use Rattle.rguard.specs.Seats.{Goes, IsIdle, bare};
-ghost use Rattle.rguard.specs.Guards.{HasSeenLawful, HasSeenOwn, Holding, HoldingToWrite};
+ghost use Rattle.rguard.specs.Guards.{HasSeenLawful, HasSeenOwn, HasValue, Holding, HoldingToWrite};
 ghost use Rattle.rlent.specs.Sections.{may_edit};
 ghost use Rattle.rguard.specs.Looks.{fields_of, kind_of};
 
@@ -28,7 +29,7 @@ pub(crate) fn seat_of<'g, 'a, M: Machine>(guard: &'g Guard<'a, Ledger, M>) -> &'
     }
 }
 
-/// Shows a resource that is held.
+/// Shows a resource that is held, and answers its number.
 ///
 /// # Errors
 ///
@@ -41,6 +42,7 @@ pub(crate) fn show<M: Machine>(
     requires { Holding (fields_of guard.old).seat place }
     ensures kind { kind_of guard.new ≡ kind_of guard.old }
     ensures act { IfOk result (λ number. fields_of guard.new ≡ record (fields_of guard.old) { acts = (fields_of guard.old).acts ++ Shown place number ∷ [] }) }
+    ensures number { IfOk result (λ number. (value : Ledger) × HasValue value_after (fields_of guard.old) place value × (number ≡ value.balance)) }
     ensures err { OnErr result (fields_of guard.new ≡ fields_of guard.old) }
 {
     match guard {
@@ -51,7 +53,7 @@ pub(crate) fn show<M: Machine>(
     }
 }
 
-/// Edits a resource that is held for writing, by a guard that may edit.
+/// Edits a resource that is held for writing, by a guard that may edit, and answers whether the edit was taken.
 ///
 /// # Errors
 ///
@@ -66,6 +68,7 @@ pub(crate) fn edit<M: Machine>(
     requires held { HoldingToWrite (fields_of guard.old).seat place }
     ensures kind { kind_of guard.new ≡ kind_of guard.old }
     ensures act { IfOk result (λ done. fields_of guard.new ≡ record (fields_of guard.old) { acts = (fields_of guard.old).acts ++ Edited place edit done ∷ [] }) }
+    ensures done { IfOk result (λ done. (value : Ledger) × HasValue value_after (fields_of guard.old) place value × (done ≡ is_taken value edit)) }
     ensures err { OnErr result (fields_of guard.new ≡ fields_of guard.old) }
 {
     match guard {

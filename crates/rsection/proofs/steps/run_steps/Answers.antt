@@ -1,4 +1,4 @@
-use Rattle.std.proofs.Common.{drop, arith, rules}
+use Rattle.std.proofs.Common.{drop, rules}
 use Rattle.rsection.proofs.Running.{behind_none, fits_there, behind_more, broken_there, not_busy, at_end}
 use Rattle.rsection.proofs.steps.run_steps.Goals as goal
 
@@ -11,7 +11,7 @@ step-requires-clause-fits g c κs within =
 
 pub returns-in_err-desk-clause-broken : goal.returns-in_err-desk-clause-broken
 returns-in_err-desk-clause-broken g c =
-    let h = broken_there c.args.seat c.args.steps.now (drop c.loop-statement.statement-index c.args.steps.now) c.loop-statement.statement-index c.loop-statement.desk (c.in_err-desk.field-0.0).0 (omega arith) c.loop-statement.invariant c.in_err-desk.ensures.err in
+    let h = broken_there c.args.seat c.args.steps.now (drop c.loop-statement.statement-index c.args.steps.now) c.loop-statement.statement-index c.loop-statement.desk (c.in_err-desk.field-0.0).0 c.loop-statement-test.true c.loop-statement.invariant c.in_err-desk.ensures.err in
     search rules
 
 pub loop-statement-preserved : goal.loop-statement-preserved
