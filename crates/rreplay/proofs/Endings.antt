@@ -25,11 +25,12 @@ use Rattle.rreport.specs.Behind.{past_in, IsToldWhole}
 use Rattle.rreport.specs.Gathered.{KnowsGathered}
 use Rattle.rreport.specs.Report.{ReportFields}
 use Rattle.rpage.specs.Told.{told, leaves_from}
-use Rattle.rreport.proofs.Parts.{parts_are}
+use Rattle.rreport.proofs.Parts.{parts_are, ledgers_are as told_ledgers}
 use Rattle.rwaits.specs.Past.{begun}
 use Rattle.rreading.specs.Knows.{Knows}
 use Rattle.rreading.specs.declared.reading.Reading.{Reading}
 use Rattle.rreplay.specs.Names.{names_read}
+use Rattle.rreplay.specs.Parts.{ArePartsOf}
 use Rattle.rreplay.specs.Replaying.{KnowsTelling, IsToldToEnd}
 use Rattle.rreplay.specs.declared.replaying.Telling.{Telling}
 use Rattle.rreplay.proofs.Replays.{names_are}
@@ -115,3 +116,17 @@ made_are reading s names head history ending groups k ended own there e f g =
     (ap (λ (o : ReadGroups). o.groups) (one_some (sym there ∙ groups_are false reading s k ended)))
     (λ i. cap_or (k.tasks i) (k.cap i)) refl (ledgers_are false reading s k) e
     (f ∙ ap (λ n. told n (history_lines true (bound_in (head_in s) (entries_in s)) (head_in s) [] (entries_in s))) (sym own)) g
+
+-- and each of them is its part of that text
+pub made_parts : (reading : Reading) (s : SoFar) (names : Names) (head history ending : List ℕ) (groups : ReadGroups) → Knows false reading s → is_ended s ≡ true → names ≡ names_in s
+    → reading.groups ≡ Some groups → head ≡ told names (declared_lines names.resources groups.groups names.tasks (Some (cap_or reading.tasks reading.cap)))
+    → history ≡ told (names_in s) (history_lines true (bound_in (head_in s) (entries_in s)) (head_in s) [] (entries_in s)) → ending ≡ told names (leaves_from 0 reading.ledgers.items ++ Ends ∷ [])
+    → ArePartsOf (told_in s) head history ending
+made_parts reading s names head history ending groups k ended own there e f g =
+    let grouped : groups.groups ≡ s.groups = ap (λ (o : ReadGroups). o.groups) (one_some (sym there ∙ groups_are false reading s k ended)) in
+    record {
+      is_head = e ∙ (λ i. told (own i) (declared_lines (own i).resources (grouped i) (own i).tasks (Some (cap_or (k.tasks i) (k.cap i)))));
+      is_history = f;
+      is_ending = g ∙ (λ i. told (own i) (leaves_from 0 (ledgers_are false reading s k i) ++ Ends ∷ []))
+          ∙ ap (λ lines. told (names_in s) (lines ++ Ends ∷ [])) (told_ledgers (head_in s) (entries_in s));
+    }

@@ -1,3 +1,4 @@
 pub mod Names
 pub mod Followed
 pub mod Replaying
+pub mod Parts

@@ -24,6 +24,7 @@ ghost use Rattle.rreading.specs.Knows.{changes_in};
 ghost use Rattle.rreading.specs.Takes.{Adds};
 ghost use Rattle.rreplay.specs.Followed.{AreFollowed, IsTold};
 ghost use Rattle.rreplay.specs.Names.{names_read};
+ghost use Rattle.rreplay.specs.Parts.{ArePartsOf};
 ghost use Rattle.rreplay.specs.Replaying.{KnowsReplay, IsToldToEnd};
 
 use csv::ByteRecord;
@@ -119,14 +120,17 @@ impl Replaying {
         }
     }
 
-    /// The report of the list that was taken to its end. The text of the history is given away.
+    /// The report of the list that was taken to its end. The text of the history is given away, and all else stays.
     ///
     /// # Errors
     ///
-    /// Want of memory.
+    /// Want of memory. The text of the history may be lost then.
     pub fn made(&mut self) -> Result<Replayed, AllocError>
         requires { (s : SoFar) × KnowsReplay self.old s × (is_ended s ≡ true) }
-        ensures { IfOk result (λ made. (s : SoFar) → KnowsReplay self.old s → is_ended s ≡ true → made.head ++ (made.history ++ made.ending) ≡ report_text (told_in s)) }
+        ensures text { IfOk result (λ made. (s : SoFar) → KnowsReplay self.old s → is_ended s ≡ true
+            → (made.head ++ (made.history ++ made.ending) ≡ report_text (told_in s)) × ArePartsOf (told_in s) made.head made.history made.ending) }
+        ensures given { OnOk result (self.new.history ≡ []) }
+        ensures kept { self.new ≡ record self.old { history = self.new.history } }
     {
         match &self.telling {
             Some(telling) => made_of(self.alloc, &mut self.history, telling, &self.reading),
@@ -227,7 +231,9 @@ fn made_of(
     reading: &Reading,
 ) -> Result<Replayed, AllocError>
     requires { (s : SoFar) × IsToldToEnd text.old telling.now reading.now s }
-    ensures { IfOk result (λ made. (s : SoFar) → IsToldToEnd text.old telling.now reading.now s → made.head ++ (made.history ++ made.ending) ≡ report_text (told_in s)) }
+    ensures text { IfOk result (λ made. (s : SoFar) → IsToldToEnd text.old telling.now reading.now s
+        → (made.head ++ (made.history ++ made.ending) ≡ report_text (told_in s)) × ArePartsOf (told_in s) made.head made.history made.ending) }
+    ensures given { OnOk result (text.new ≡ []) }
 {
     let head = head_with(alloc, &telling.names, reading)?;
     let ending = ending_with(alloc, &telling.names, reading)?;
@@ -321,7 +327,7 @@ fn ending_with(alloc: Global, names: &NameRows, reading: &Reading) -> Result<Pag
 ///
 /// The first fault of a text that is no event list, or want of memory.
 pub fn replay_of(alloc: Global, bytes: &[u8]) -> Result<Replayed, TextErr>
-    ensures made { IfOk result (λ made. (report : Report) × IsTextOf false bytes.now report × (made.head ++ (made.history ++ made.ending) ≡ report_text report)) }
+    ensures made { IfOk result (λ made. (report : Report) × IsTextOf false bytes.now report × (made.head ++ (made.history ++ made.ending) ≡ report_text report) × ArePartsOf report made.head made.history made.ending) }
     ensures bad { (fault : Fault Code) → result ≡ Err (TextErr.Bad fault) → IsFirstFault false bytes.now fault }
 {
     replay_by(alloc, bytes, &mut Replaying::new(alloc))
@@ -330,7 +336,7 @@ pub fn replay_of(alloc: Global, bytes: &[u8]) -> Result<Replayed, TextErr>
 // The same, by a taker that has taken nothing.
 fn replay_by(alloc: Global, bytes: &[u8], taker: &mut Replaying) -> Result<Replayed, TextErr>
     requires { KnowsReplay taker.old nothing_yet }
-    ensures made { IfOk result (λ made. (report : Report) × IsTextOf false bytes.now report × (made.head ++ (made.history ++ made.ending) ≡ report_text report)) }
+    ensures made { IfOk result (λ made. (report : Report) × IsTextOf false bytes.now report × (made.head ++ (made.history ++ made.ending) ≡ report_text report) × ArePartsOf report made.head made.history made.ending) }
     ensures bad { (fault : Fault Code) → result ≡ Err (TextErr.Bad fault) → IsFirstFault false bytes.now fault }
 {
     match take_text(alloc, bytes, taker) {

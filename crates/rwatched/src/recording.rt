@@ -10,6 +10,7 @@ ghost use Rattle.rforms.specs.Texts.{IsTextOf, report_text};
 ghost use Rattle.rforms.specs.declared.fault.Code.{Code};
 ghost use Rattle.rforms.specs.declared.fault.Fault.{Fault};
 ghost use Rattle.rreading.specs.Knows.{Knows};
+ghost use Rattle.rreplay.specs.Parts.{ArePartsOf};
 ghost use Rattle.rwatched.specs.Recording.{KnowsSteps};
 ghost use Rattle.rwatched.specs.Stepping.{AreStepsOf};
 
@@ -81,7 +82,8 @@ impl Recording {
     // The report of the list that was taken to its end, and its steps. The events are given away.
     fn made(&mut self) -> Result<Recorded, AllocError>
         requires { (s : SoFar) × KnowsSteps self.old s × (is_ended s ≡ true) }
-        ensures text { IfOk result (λ made. (s : SoFar) → KnowsSteps self.old s → is_ended s ≡ true → made.replayed.head ++ (made.replayed.history ++ made.replayed.ending) ≡ report_text (told_in s)) }
+        ensures text { IfOk result (λ made. (s : SoFar) → KnowsSteps self.old s → is_ended s ≡ true
+            → (made.replayed.head ++ (made.replayed.history ++ made.replayed.ending) ≡ report_text (told_in s)) × ArePartsOf (told_in s) made.replayed.head made.replayed.history made.replayed.ending) }
         ensures steps { IfOk result (λ made. (s : SoFar) → KnowsSteps self.old s → is_ended s ≡ true → IsAtHead (told_in s) made.steps) }
     {
         let machine = machine_of(self.alloc, &self.replaying.reading)?;
@@ -145,7 +147,7 @@ fn machine_of(alloc: Global, reading: &Reading) -> Result<Plain, AllocError>
 ///
 /// The first fault of a text that is no event list, or want of memory.
 pub fn recorded_replay_of(alloc: Global, bytes: &[u8]) -> Result<Recorded, TextErr>
-    ensures made { IfOk result (λ made. (report : Report) × IsTextOf false bytes.now report × (made.replayed.head ++ (made.replayed.history ++ made.replayed.ending) ≡ report_text report) × AreStepsOf report made.steps) }
+    ensures made { IfOk result (λ made. (report : Report) × IsTextOf false bytes.now report × (made.replayed.head ++ (made.replayed.history ++ made.replayed.ending) ≡ report_text report) × AreStepsOf report made.steps × ArePartsOf report made.replayed.head made.replayed.history made.replayed.ending) }
     ensures bad { (fault : Fault Code) → result ≡ Err (TextErr.Bad fault) → IsFirstFault false bytes.now fault }
 {
     recorded_replay_by(alloc, bytes, &mut Recording::new(alloc))
@@ -158,7 +160,7 @@ fn recorded_replay_by(
     taker: &mut Recording,
 ) -> Result<Recorded, TextErr>
     requires { KnowsSteps taker.old nothing_yet }
-    ensures made { IfOk result (λ made. (report : Report) × IsTextOf false bytes.now report × (made.replayed.head ++ (made.replayed.history ++ made.replayed.ending) ≡ report_text report) × AreStepsOf report made.steps) }
+    ensures made { IfOk result (λ made. (report : Report) × IsTextOf false bytes.now report × (made.replayed.head ++ (made.replayed.history ++ made.replayed.ending) ≡ report_text report) × AreStepsOf report made.steps × ArePartsOf report made.replayed.head made.replayed.history made.replayed.ending) }
     ensures bad { (fault : Fault Code) → result ≡ Err (TextErr.Bad fault) → IsFirstFault false bytes.now fault }
 {
     match take_text(alloc, bytes, taker) {

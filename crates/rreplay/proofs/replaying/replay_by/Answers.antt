@@ -16,10 +16,12 @@ pub returns-in-Ok-made-clause-made : goal.returns-in-Ok-made-clause-made
 returns-in-Ok-made-clause-made c =
     let h = c.in-Ok.ensures.taken in
     let spelled = taken_spells KnowsReplay c.args.bytes.now c.take_text.new.taker h in
-    let ended = taken_ended false KnowsReplay c.args.bytes.now c.take_text.new.taker h in (
+    let ended = taken_ended false KnowsReplay c.args.bytes.now c.take_text.new.taker h in
+    let text = c.in-Ok-made.ensures.text (read_all false h.rows) h.knows ended in (
       told_in (read_all false h.rows),
       (h.rows, h.are, spelled),
-      c.in-Ok-made.ensures (read_all false h.rows) h.knows ended,
+      text.0,
+      text.1,
     )
 
 pub returns-in-Err-clause-bad : goal.returns-in-Err-clause-bad

@@ -17,11 +17,13 @@ pub returns-in-Ok-made-clause-made : goal.returns-in-Ok-made-clause-made
 returns-in-Ok-made-clause-made c =
     let h = c.in-Ok.ensures.taken in
     let spelled = taken_spells KnowsSteps c.args.bytes.now c.take_text.new.taker h in
-    let ended = taken_ended false KnowsSteps c.args.bytes.now c.take_text.new.taker h in (
+    let ended = taken_ended false KnowsSteps c.args.bytes.now c.take_text.new.taker h in
+    let text = c.in-Ok-made.ensures.text (read_all false h.rows) h.knows ended in (
       told_in (read_all false h.rows),
       (h.rows, h.are, spelled),
-      c.in-Ok-made.ensures.text (read_all false h.rows) h.knows ended,
+      text.0,
       steps_are (told_in (read_all false h.rows)) _ spelled.lawful (c.in-Ok-made.ensures.steps (read_all false h.rows) h.knows ended),
+      text.1,
     )
 
 pub returns-in-Err-clause-bad : goal.returns-in-Err-clause-bad

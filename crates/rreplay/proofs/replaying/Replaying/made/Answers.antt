@@ -14,8 +14,8 @@ made_of-requires-in-None c =
       },
     )
 
-pub returns-in_ok-telling-in-None : goal.returns-in_ok-telling-in-None
-returns-in_ok-telling-in-None c =
+pub returns-in_ok-telling-in-None-clause-text : goal.returns-in_ok-telling-in-None-clause-text
+returns-in_ok-telling-in-None-clause-text c =
     let telling = c.in_ok-telling-in-None in
     if_ok_weaker c.made_of-in-None.result
     (λ made parts s k ended.
@@ -25,4 +25,4 @@ returns-in_ok-telling-in-None c =
       history = k.history;
       told = told_none telling.telling c.args.self.now.reading s k.reading ended telling.ensures.names telling.ensures.gathered (k.untold c.in-None.is);
     }))
-    c.made_of-in-None.ensures
+    c.made_of-in-None.ensures.text
