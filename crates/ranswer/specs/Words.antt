@@ -1,5 +1,5 @@
 -- The forms of the words behind the program's name, and what they ask for.
-use Rattle.std.specs.Prelude.{ℕ, ◌≤◌, ⊤, ◌&&◌, nat_le, List, [], ◌∷◌, length, Option, Some, None, IfSome, option_map, option_and_then, codes, if◌then◌else◌}
+use Rattle.std.specs.Prelude.{ℕ, ◌≤◌, ⊤, Bool, false, ◌&&◌, nat_le, List, [], ◌∷◌, length, Option, Some, None, IfSome, option_map, option_and_then, codes, if◌then◌else◌}
 use Rattle.std.specs.Str.{bytes_eq}
 use Rattle.rforms.specs.Numbers.{cap_told, number_told}
 use Rattle.ranswer.specs.declared.command.Command.{Command}
@@ -52,6 +52,11 @@ IsPlain Replay = ⊤
 IsPlain Audit = ⊤
 IsPlain (Bound cap) = IfSome cap (λ m. 1 ≤ m)
 IsPlain (Drill count) = count ≤ most_events
+
+-- the first of them is `run`
+abbrev pub begins_with_run : List (List ℕ) → Bool
+begins_with_run [] = false
+begins_with_run (word ∷ words) = bytes_eq word (codes "run")
 
 -- what they ask of the program: the first word says of which tool
 abbrev pub command_in : List (List ℕ) → Option Command

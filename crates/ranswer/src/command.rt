@@ -1,6 +1,6 @@
 // The words after the program's name, and what they ask for.
 ghost use Rattle.std.specs.Prelude.{◌≡◌, ◌≤◌, option_map, Some, None, IfSome, map, string_bytes, if◌then◌else◌};
-ghost use Rattle.ranswer.specs.Words.{command_in, run_in, plain_in, bounds_under, cap_in, events_within, events_told, most_events, IsPlain};
+ghost use Rattle.ranswer.specs.Words.{begins_with_run, command_in, run_in, plain_in, bounds_under, cap_in, events_within, events_told, most_events, IsPlain};
 ghost use Rattle.ranswer.specs.Outputs.{limit_of, is_streamed};
 
 use rdrill::MOST_EVENTS;
@@ -56,7 +56,8 @@ impl Command {
 
 /// Whether the words are for the tool that waits for its workers: the first of them is `run`.
 pub fn are_for_run(words: &[String]) -> bool
-    ensures { command_in (map string_bytes words.now) ≡ (if result then run_in (map string_bytes words.now) else plain_in (map string_bytes words.now)) }
+    ensures first { result ≡ begins_with_run (map string_bytes words.now) }
+    ensures asked { command_in (map string_bytes words.now) ≡ (if result then run_in (map string_bytes words.now) else plain_in (map string_bytes words.now)) }
 {
     match words {
         [word, ..] => word.as_str() == "run",
