@@ -1,2 +1,4 @@
 pub mod Words
+pub mod Meanings
 pub mod Program
+pub mod Progress

@@ -87,3 +87,10 @@ module _ {S K : Type 0} (left : S → Option (List ℕ)) (reads : S → ℕ) (wr
   RunAnswer on_terminal source source_after sink sink_after receipts receipts_after watchers watchers_after answer =
       (((answer ≡ status.Words) ⊎ (answer ≡ status.NoMemory)) × IsUntouched source source_after sink sink_after receipts receipts_after watchers watchers_after)
       ⊎ ((words : List (List ℕ)) × ShownAnswer on_terminal words source source_after sink sink_after receipts receipts_after watchers watchers_after answer)
+
+  -- how a run ended, and what a person may be told of it beyond its status: with no words to be had nothing, and else what is told of the words that it answers
+  abbrev pub RunTells : Bool → S → S → K → K → List (List Entry) → List (List Entry) → List Seen → List Seen → ToolStatus → Option Told → Type 0
+  RunTells on_terminal source source_after sink sink_after receipts receipts_after watchers watchers_after answer told =
+      (((answer ≡ status.Words) ⊎ (answer ≡ status.NoMemory)) × (told ≡ None) × IsUntouched source source_after sink sink_after receipts receipts_after watchers watchers_after)
+      ⊎ ((words : List (List ℕ)) × ShownAnswer on_terminal words source source_after sink sink_after receipts receipts_after watchers watchers_after answer
+      × ShownTells on_terminal words watchers (left source) None told answer)

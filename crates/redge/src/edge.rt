@@ -1,9 +1,9 @@
 // The edge of the program: all of `main` but its handles.
-ghost use Rattle.std.specs.Prelude.{◌≡◌, ◌≢◌, ◌⊎◌, map, string_bytes, drop, IfOk, IfErr};
+ghost use Rattle.std.specs.Prelude.{◌≡◌, ◌≢◌, ◌⊎◌, map, string_bytes, drop, IfOk, IfErr, IsOkAnd};
 ghost use Rattle.std.specs.Process.{exit_status};
 ghost use Rattle.ranswer.specs.Status.{status_number};
 ghost use Rattle.ranswer.specs.Words.{command_in};
-ghost use Rattle.redge.specs.Program.{ProgramAnswer, ProgramTells, RunAnswer, ShownAnswer, ShownTells, IsUntouched, is_replay, is_unwatched};
+ghost use Rattle.redge.specs.Program.{ProgramAnswer, ProgramTells, RunAnswer, RunTells, ShownAnswer, ShownTells, IsUntouched, is_replay, is_unwatched};
 
 use crate::explain::explain;
 use crate::own::own_text;
@@ -45,6 +45,24 @@ pub fn run<
     ensures { (status : ToolStatus) × (exit_status result ≡ status_number status)
         × RunAnswer S.left S.faults K.written K.faults on_terminal source.old source.new sink.old sink.new receipts.old.items receipts.new.items (A.all audience.old) (A.all audience.new) status }
 {
+    let (status, told) = answered(rt, source, sink, pace, receipts, audience, on_terminal);
+    let status = explain(rt, status, told, audience, on_terminal);
+    ExitCode::from(status.number())
+}
+
+// Answers the words that the program was started with, and what a person may be told of it beyond the status.
+fn answered<R: Env + AllocGlobal + Threads + Wait + Sync, S: Source, K: Sink, G: Pace, A: Audience>(
+    rt: &R,
+    source: &mut S,
+    sink: &mut K,
+    pace: &G,
+    receipts: &mut Vec<Receipt<Edit>>,
+    audience: &mut A,
+    on_terminal: bool,
+) -> (ToolStatus, Option<Told>)
+    ensures answer { RunAnswer S.left S.faults K.written K.faults on_terminal source.old source.new sink.old sink.new receipts.old.items receipts.new.items (A.all audience.old) (A.all audience.new) result.0 }
+    ensures told { RunTells S.left S.faults K.written K.faults on_terminal source.old source.new sink.old sink.new receipts.old.items receipts.new.items (A.all audience.old) (A.all audience.new) result.0 result.1 }
+{
     let mut told = None;
     let status = had_answer(
         rt,
@@ -57,8 +75,7 @@ pub fn run<
         on_terminal,
         &mut told,
     );
-    explain(rt, status, told, audience, on_terminal);
-    ExitCode::from(status.number())
+    (status, told)
 }
 
 // Answers the words that are to be had; where there are none, by the status that says why, and nothing is touched.
@@ -183,12 +200,30 @@ fn told_answer<R: Threads + Wait + Sync, S: Source, K: Sink, G: Pace, A: Audienc
 pub fn words_of<R: Env + AllocGlobal>(rt: &R) -> Result<Vec<String>, ToolStatus>
     ensures { IfErr result (λ status. (status ≡ ToolStatus.Words) ⊎ (status ≡ ToolStatus.NoMemory)) }
 {
+    words_in(all_words(rt))
+}
+
+// All that the program was started with, its name too, or what kept it from being had.
+fn all_words<R: Env + AllocGlobal>(rt: &R) -> Result<Vec<String>, ErrorKind> {
     match env::args(rt) {
         Ok(args) => match args.collect(rt.alloc()) {
-            Ok(all) => Ok(behind_name(all)),
-            Err(_) => Err(ToolStatus::NoMemory),
+            Ok(all) => Ok(all),
+            Err(_) => Err(ErrorKind::OutOfMemory),
         },
-        Err(e) => Err(status_without_words(e.kind())),
+        Err(e) => Err(e.kind()),
+    }
+}
+
+// Of all that was given the words after the name, or the status where nothing is to be had.
+fn words_in(given: Result<Vec<String>, ErrorKind>) -> Result<Vec<String>, ToolStatus>
+    ensures words { IfOk given (λ all. IsOkAnd result (λ words. words.items ≡ drop 1 all.items)) }
+    ensures no_text { IfErr given (λ kind. kind ≡ ErrorKind.InvalidData → result ≡ Err ToolStatus.Words) }
+    ensures other { IfErr given (λ kind. kind ≢ ErrorKind.InvalidData → result ≡ Err ToolStatus.NoMemory) }
+    ensures status { IfErr result (λ status. (status ≡ ToolStatus.Words) ⊎ (status ≡ ToolStatus.NoMemory)) }
+{
+    match given {
+        Ok(all) => Ok(behind_name(all)),
+        Err(kind) => Err(status_without_words(kind)),
     }
 }
 

@@ -1,4 +1,7 @@
 // What a person is told on standard error.
+ghost use Rattle.std.specs.Prelude.{◌≡◌, option_map};
+ghost use Rattle.redge.specs.Meanings.{status_meaning, kind_word, script_meaning, list_meaning, refusal_meaning};
+
 use ranswer::ToolStatus;
 use rclaim::RequestErr;
 use rforms::{Code, Fault, Refusal};
@@ -9,14 +12,16 @@ use rwatch::{Audience, WatchKind};
 use std::io;
 
 /// Tells a person what a status means, and of a refused input what is wrong with which record, and which line is due there;
-/// on a terminal also what was counted of the steps that were told.
+/// on a terminal also what was counted of the steps that were told. It hands the status on that it told.
 pub fn explain<A: Audience>(
     rt: &impl Eprint,
     status: ToolStatus,
     told: Option<Told>,
     audience: &A,
     on_terminal: bool,
-) {
+) -> ToolStatus
+    ensures { result ≡ status }
+{
     match told {
         Some(Told::Steps) => {
             let _ = explain_status(rt, status);
@@ -37,22 +42,32 @@ pub fn explain<A: Audience>(
             let _ = explain_status(rt, status);
         }
     }
+    status
 }
 
 fn explain_status(rt: &impl Eprint, status: ToolStatus) -> io::Result<()> {
-    let meaning = match status {
-        ToolStatus::Done => return Ok(()),
-        ToolStatus::Words => {
-            "no such form. The forms are rnlp run < SCRIPT, rnlp replay < LIST, rnlp audit < REPORT, rnlp bound [M] < SCRIPT, and rnlp drill N. rnlp --help tells all"
-        }
-        ToolStatus::ReadFault => "standard input failed",
-        ToolStatus::WriteFault => "standard output failed",
-        ToolStatus::Script => "the input is no script",
-        ToolStatus::TooLong => "the input is too long",
-        ToolStatus::NoMemory => "out of memory",
-        ToolStatus::Trace => "the input is no event list, or no right report",
-    };
-    rt.eprintln(format_args!("rnlp: {meaning}"))
+    match meaning_of_status(status) {
+        Some(meaning) => rt.eprintln(format_args!("rnlp: {meaning}")),
+        None => Ok(()),
+    }
+}
+
+// What a status means; of one that is done nothing is told.
+fn meaning_of_status(status: ToolStatus) -> Option<&'static str>
+    ensures { option_map (λ text. text.now) result ≡ status_meaning status }
+{
+    match status {
+        ToolStatus::Done => None,
+        ToolStatus::Words => Some(
+            "no such form. The forms are rnlp run < SCRIPT, rnlp replay < LIST, rnlp audit < REPORT, rnlp bound [M] < SCRIPT, and rnlp drill N. rnlp --help tells all",
+        ),
+        ToolStatus::ReadFault => Some("standard input failed"),
+        ToolStatus::WriteFault => Some("standard output failed"),
+        ToolStatus::Script => Some("the input is no script"),
+        ToolStatus::TooLong => Some("the input is too long"),
+        ToolStatus::NoMemory => Some("out of memory"),
+        ToolStatus::Trace => Some("the input is no event list, or no right report"),
+    }
 }
 
 fn explain_counts<A: Audience>(rt: &impl Eprint, audience: &A) -> io::Result<()> {
@@ -64,7 +79,9 @@ fn explain_counts<A: Audience>(rt: &impl Eprint, audience: &A) -> io::Result<()>
     Ok(())
 }
 
-fn word_of(kind: WatchKind) -> &'static str {
+fn word_of(kind: WatchKind) -> &'static str
+    ensures { result.now ≡ kind_word kind }
+{
     match kind {
         WatchKind::Issues => "issues",
         WatchKind::Finishes => "finishes",
@@ -93,7 +110,9 @@ fn explain_fault(rt: &impl Eprint, fault: Fault) -> io::Result<()> {
     }
 }
 
-fn meaning_in_script(code: ScriptCode) -> &'static str {
+fn meaning_in_script(code: ScriptCode) -> &'static str
+    ensures { result.now ≡ script_meaning code }
+{
     match code {
         ScriptCode::BadField =>
             "it is no record of a script, has another number of fields, or the version is not 1",
@@ -116,7 +135,9 @@ fn meaning_in_script(code: ScriptCode) -> &'static str {
     }
 }
 
-fn meaning_of(code: Code) -> &'static str {
+fn meaning_of(code: Code) -> &'static str
+    ensures { result.now ≡ list_meaning code }
+{
     match code {
         Code::BadField =>
             "it is no record of this input, or a name, a number or a word of it is bad",
@@ -132,7 +153,9 @@ fn meaning_of(code: Code) -> &'static str {
     }
 }
 
-fn meaning_of_refusal(refusal: Refusal) -> &'static str {
+fn meaning_of_refusal(refusal: Refusal) -> &'static str
+    ensures { result.now ≡ refusal_meaning refusal }
+{
     match refusal {
         Refusal::Step(Refused::SeatBusy) => "the task has a request already",
         Refusal::Step(Refused::Full) => "as many requests are incomplete as the cap allows",

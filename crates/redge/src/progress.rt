@@ -1,10 +1,13 @@
 // A source that tells a person how far it was read.
-ghost use Rattle.std.specs.Prelude.{◌≡◌};
+ghost use Rattle.std.specs.Prelude.{◌≡◌, ◌+◌, ◌-◌, ◌^◌, min, if◌then◌else◌};
+ghost use Rattle.redge.specs.Progress.{is_due};
 
 use io_ends::{Failed, Source};
 
 // So many bytes are read from one word to a person to the next: more than any input may have but a long report.
 const STEP: u64 = 1 << 27;
+
+const _: () = prove!(STEP == 134_217_728);
 
 /// A source that gives what another gives, and on a terminal tells a person how many bytes were read: each time that 128 MiB
 /// more were, and at the end of such a long input. A contract sees the other source alone.
@@ -21,7 +24,7 @@ pub struct Progress<'a, R: Eprint, S: Source + Drop> {
 impl<'a, R: Eprint, S: Source + Drop> Progress<'a, R, S> {
     /// A source of which nothing was read yet.
     pub fn new(rt: &'a R, source: S, on_terminal: bool) -> Progress<'a, R, S>
-        ensures { result.source ≡ source }
+        ensures { (result.source ≡ source) × (result.on_terminal ≡ on_terminal) × (result.read ≡ 0) × (result.told ≡ 0) }
     {
         Progress {
             rt,
@@ -34,7 +37,9 @@ impl<'a, R: Eprint, S: Source + Drop> Progress<'a, R, S> {
 
     // Counts bytes, and tells a person where that is due. That standard error fails changes nothing.
     fn count(&mut self, bytes: usize)
-        ensures { self.new.source ≡ self.old.source }
+        ensures read { self.new.read ≡ min (self.old.read + bytes) (2 ^ 64 - 1) }
+        ensures told { self.new.told ≡ (if is_due self.new.read self.old.told bytes then self.new.read else self.old.told) }
+        ensures kept { self.new ≡ record self.old { read = self.new.read; told = self.new.told } }
     {
         self.read = self.read.saturating_add(bytes as u64);
         let more = self.read.saturating_sub(self.told) >= STEP;

@@ -14,5 +14,5 @@ returns-in-Some-clause-answer g c =
 pub returns-then-are_for_run-clause-told : goal.returns-then-are_for_run-clause-told
 returns-then-are_for_run-clause-told g c =
     subst (λ o. TellsBy o (command_in (map string_bytes c.args.words.now)) (g.A.Audience.all c.args.audience.now) (g.S.Source.left c.args.source.now) c.args.told.now c.told_run.new.told c.told_run.result) c.in_default.ensures
-    (subst (λ o. Tells (g.A.Audience.all c.args.audience.now) o (g.S.Source.left c.args.source.now) c.args.told.now c.told_run.new.told c.told_run.result) (sym c.if-are_for_run.ensures)
+    (subst (λ o. Tells (g.A.Audience.all c.args.audience.now) o (g.S.Source.left c.args.source.now) c.args.told.now c.told_run.new.told c.told_run.result) (sym c.if-are_for_run.ensures.asked)
     (c.told_run.ensures.told (g.A.Audience.all c.args.audience.now)))
