@@ -5,6 +5,8 @@
 //! `lists NAME N replay` reads such a list, and writes its report: the same work as `rnlp replay`, with nothing proved.
 //! `lists drill N drill` draws a drill of N events, and writes its summary, as `rnlp drill N` does.
 mod model;
+// answers.rs uses all of it.
+#[allow(dead_code)]
 mod waits;
 
 use model::{write_event, Claim, Dice, Event, Kind, Lock, Request, Status};
