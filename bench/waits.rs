@@ -207,21 +207,18 @@ pub struct Bounds<'a> {
     needs: &'a HashSet<Need>,
     cap: usize,
     zones: Vec<u64>,
-    /// What each seat reads.
-    reads: [u64; 64],
     kept: HashMap<(u8, usize, u64), Sections>,
 }
 
 impl<'a> Bounds<'a> {
     pub fn of(needs: &'a HashSet<Need>, cap: usize) -> Bounds<'a> {
-        let (mut zones, mut reads): (Vec<u64>, _) = (Vec::new(), [0; 64]);
+        let mut zones: Vec<u64> = Vec::new();
         for need in needs {
-            reads[need.seat] |= need.reads;
             let met = zones.iter().filter(|z| **z & need.places != 0).fold(need.places, |all, z| all | z);
             zones.retain(|z| z & need.places == 0);
             zones.push(met);
         }
-        Bounds { needs, cap, zones, reads, kept: HashMap::new() }
+        Bounds { needs, cap, zones, kept: HashMap::new() }
     }
 
     pub fn of_wait(&mut self, c: &Claim, stage: Stage) -> Sections {
@@ -266,15 +263,14 @@ impl<'a> Bounds<'a> {
     fn of_read(&self, seat: usize, reads: u64) -> Sections {
         let keepers = || self.needs.iter().filter(|v| v.write && v.seat != seat && v.writes & reads != 0);
         let Some(length) = keepers().map(|v| v.length).max() else { return (0, 0, 0) };
-        // What is read below a keeper by a task that is neither its own nor the reader's.
-        let read_by_others = |than: usize| (0..64).filter(|t| *t != seat && *t != than).fold(0, |all, t| all | self.reads[t]);
-        let own_half = |v: &Need| v.kind == Kind::Upgrade;
-        if !keepers().any(|v| own_half(v) || read_by_others(v.seat) & v.writes != 0) {
-            return (0, 1, length);
-        }
-        let under = |c: &Need, v: &Need| c.reads & v.writes != 0 && (c.seat != v.seat || own_half(v) && !c.write && c.kind == v.kind && c.reads == v.writes);
-        let holders = self.needs.iter().filter(|c| c.seat != seat && keepers().any(|v| under(c, v)));
-        (1, 1, length + longest(holders))
+        let mut written = [0; 64];
+        keepers().for_each(|v| written[v.seat] |= v.writes);
+        // A claim holds up a keeper of another task that writes what it reads, or as read half its own write half.
+        let of_others = |t: usize| (0..64).filter(|s| *s != t).fold(0, |all, s| all | written[s]);
+        let beneath: Vec<u64> = (0..64).map(of_others).collect();
+        let own_half = |c: &Need| c.kind == Kind::Upgrade && !c.write && c.reads & reads != 0;
+        let holders = || self.needs.iter().filter(|c| c.seat != seat && (c.reads & beneath[c.seat] != 0 || own_half(c)));
+        (usize::from(holders().next().is_some()), 1, length + longest(holders()))
     }
 }
 
