@@ -1,7 +1,9 @@
 // What claims leave behind that go.
-ghost use Rattle.std.specs.Prelude.{◌≡◌, IfSome, not, filter, position, vec_capacity};
+ghost use Rattle.std.specs.Prelude.{◌≡◌, ℕ, true, Some, None, IfSome, not, filter, position, slice_index_or, vec_capacity};
 ghost use Rattle.rsettle.specs.Sweep.{IsLone, none_gone, with_left, left_by, is_of, is_read_of};
+ghost use Rattle.rmodel.specs.Claims.{is_read_half};
 ghost use Rattle.rmodel.specs.WellFormed.{EachPair, Distinct};
+ghost use Rattle.rmodel.specs.declared.claimed.Claimed.{Claimed};
 
 use crate::list::{remove_read_half, remove_seat};
 use rmodel::{Claimed, is_read_half};
@@ -77,7 +79,8 @@ fn left_by_read_half(claims: &[Claimed], seat: u8, read: ResourceSet) -> Left
 /// The place of the first claim of a seat, if that is no read half: the seat has no other then.
 fn lone_place(claims: &[Claimed], seat: u8, place: Option<usize>) -> Option<usize>
     requires { place ≡ position (is_of seat) claims.now }
-    ensures { IfSome result (IsLone (is_of seat) claims.now) }
+    ensures lone { IfSome result (IsLone (is_of seat) claims.now) }
+    ensures none { result ≡ None → (i : ℕ) (d : Claimed) → place ≡ Some i → is_read_half (slice_index_or claims.now i d).claim ≡ true }
 {
     let i = place?;
     if is_read_half(&claims[i].claim) {

@@ -1,5 +1,5 @@
 // The changes of a step.
-ghost use Rattle.std.specs.Prelude.{◌≡◌, ◌<◌, ◌≤◌, ◌++◌, IsTrue, length};
+ghost use Rattle.std.specs.Prelude.{◌≡◌, ◌↔◌, ◌<◌, ◌≤◌, ◌++◌, IsTrue, length};
 ghost use Rattle.std.specs.List.{AllZip};
 ghost use Rattle.rmodel.specs.Changes.{SameClaim};
 ghost use Rattle.std.specs.Option.{option_to_list};
@@ -70,8 +70,7 @@ pub(crate) fn tell_claim(was: &Claimed, now: &Claimed, changes: &mut Changes)
 
 /// Whether a claim is as far as the same claim before, and as much is granted to it.
 fn is_as_it_was(was: &Claimed, now: &Claimed) -> bool
-    ensures status { IsTrue result → now.now.status ≡ was.now.status }
-    ensures granted { IsTrue result → now.now.granted ≡ was.now.granted }
+    ensures { IsTrue result ↔ ((now.now.status ≡ was.now.status) × (now.now.granted ≡ was.now.granted)) }
 {
     (was.status == now.status) & (was.granted == now.granted)
 }
