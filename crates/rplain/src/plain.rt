@@ -29,7 +29,7 @@ const MARKS: usize = SEATS as usize;
 #[derive(Drop)]
 pub struct Plain {
     claims: Vec<Claimed>,
-    // Where there is no mark, the seat has no claim.
+    // A seat is marked exactly where it has a claim.
     marks: [bool; MARKS],
     // How many of the claims are read halves of upgrades.
     halves: usize,

@@ -35,7 +35,7 @@ use Rattle.rmodel.proofs.settling.Settlement.{settles_settled}
 use Rattle.rsettle.proofs.settling.Own.{first_tells}
 use Rattle.rmodel.proofs.reaching.Soundness.{count_first, passed, same_claims, sound_changed, read_of_half}
 
-unequal : (m n : ℕ) → (m == n) ≡ false → m ≢ n
+pub unequal : (m n : ℕ) → (m == n) ≡ false → m ≢ n
 unequal m n h e = true≢false (sym (eq-eqb m n e) ∙ h)
 
 and_true : (b : Bool) → (b && true) ≡ b
@@ -341,7 +341,7 @@ rises s seat accepted = from_not (may_rise s.claims seat) (passed _ _ _ (passed 
 
 -- ---- and what an event leaves settles to the same claims
 
-next_same : (s : LockState) (e : Event) → IsSound s → Comes s e → AllZip SameClaim (changed s e).claims (next s e).claims
+pub next_same : (s : LockState) (e : Event) → IsSound s → Comes s e → AllZip SameClaim (changed s e).claims (next s e).claims
 next_same s e sound comes =
     let ys = (changed s e).claims in
     same_given ys (settled ys) (same_claims ys (settled ys) (settles_settled ys (sound_changed s e sound comes).well_formed))

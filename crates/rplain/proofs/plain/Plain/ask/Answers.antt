@@ -5,10 +5,11 @@ use Rattle.std.specs.List.{count_by}
 use Rattle.rclaim.specs.declared.claim.Claim.{Claim}
 use Rattle.rmodel.specs.Claims.{is_read_half}
 use Rattle.rplain.proofs.stepping.Marked.{marked_next, halves_next, same_halves}
+use Rattle.rplain.proofs.stepping.OnlyMarks.{only_next, same_only}
 use Rattle.rmodel.proofs.ListFacts.{all_of_zip}
 use Rattle.rmodel.specs.Changes.{SameClaim, status_changes, grant_changes}
 use Rattle.rmodel.specs.State.{LockState}
-use Rattle.rplain.specs.Plain.{state_of, AreMarked}
+use Rattle.rplain.specs.Plain.{state_of, AreMarked, AreOnlyMarks}
 use Rattle.rmodel.specs.Reached.{IsReached}
 use Rattle.rmodel.specs.Steps.{changed, given, asking}
 use Rattle.rplain.proofs.stepping.PlainSteps.{kept_comes, taken, ask_settled}
@@ -48,6 +49,9 @@ invariant_of-self c =
           (marked_next (state_of a) e c.self.invariant.reached.sound comes a.marks
           (all_of_zip (λ x. get_or a.marks x.claim.seat false ≡ true) SameClaim (λ y. get_or a.marks y.claim.seat false ≡ true) (λ x y h same. ap (λ (k : Claim). get_or a.marks k.seat false) same ∙ h)
           a.claims.items (map (asking c.args.seat c.args.set) a.claims.items) c.self.invariant.marks (asking_same c.args.seat c.args.set a.claims.items)));
+      only = subst (λ (xs : List Claimed). AreOnlyMarks a.marks xs) (sym (c.give_once.ensures.items ∙ ap given (c.ask.ensures.items ∙ sym same)))
+          (only_next (state_of a) e c.self.invariant.reached.sound comes a.marks
+          (same_only a.marks a.claims.items (map (asking c.args.seat c.args.set) a.claims.items) (asking_same c.args.seat c.args.set a.claims.items) c.self.invariant.only));
       halves = c.self.invariant.halves ∙ same_halves a.claims.items (map (asking c.args.seat c.args.set) a.claims.items) (asking_same c.args.seat c.args.set a.claims.items)
           ∙ halves_next (state_of a) e c.self.invariant.reached.sound comes ∙ ap (count_by (λ x. is_read_half x.claim)) (sym (c.give_once.ensures.items ∙ ap given (c.ask.ensures.items ∙ sym same)));
       some_cap = c.self.invariant.some_cap;

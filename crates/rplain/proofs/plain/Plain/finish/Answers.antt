@@ -6,8 +6,9 @@ use Rattle.std.specs.List.{count_by}
 use Rattle.rmodel.specs.Claims.{is_read_half}
 use Rattle.rmodel.specs.Holds.{may_rise}
 use Rattle.rplain.proofs.stepping.Marked.{marked_next, halves_next, finished_marked, finished_halves, as_number}
+use Rattle.rplain.proofs.stepping.OnlyMarks.{finished_only, only_next}
 use Rattle.rmodel.specs.Changes.{status_changes, grant_changes}
-use Rattle.rplain.specs.Plain.{state_of, AreMarked}
+use Rattle.rplain.specs.Plain.{state_of, AreMarked, AreOnlyMarks}
 use Rattle.rmodel.specs.Reached.{IsReached}
 use Rattle.rmodel.specs.Settling.{settled}
 use Rattle.rmodel.specs.State.{LockState}
@@ -78,6 +79,9 @@ invariant_of-self c =
       seen = c.settle_any.ensures.seen;
       marks = subst (λ (xs : List Claimed). AreMarked (set a.marks c.args.seat false) xs) (sym (c.settle_any.ensures.items ∙ ap (λ xs. given (settled xs)) c.take_seat-left.ensures.items))
           (marked_next (state_of a) e c.self.invariant.reached.sound comes (set a.marks c.args.seat false) (finished_marked a.marks a.claims.items c.args.seat c.self.invariant.marks));
+      only = subst (λ (xs : List Claimed). AreOnlyMarks (set a.marks c.args.seat false) xs) (sym (c.settle_any.ensures.items ∙ ap (λ xs. given (settled xs)) c.take_seat-left.ensures.items))
+          (only_next (state_of a) e c.self.invariant.reached.sound comes (set a.marks c.args.seat false)
+          (finished_only a.marks a.claims.items c.args.seat (let there = comes.fits in let seats = c.self.invariant.seats in omega arith) c.self.invariant.only));
       halves =
           let gone = finished_halves c.args.seat a.claims.items c.self.invariant.reached.sound.one_each in
           let next = halves_next (state_of a) e c.self.invariant.reached.sound comes in

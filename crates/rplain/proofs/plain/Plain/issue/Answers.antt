@@ -4,8 +4,9 @@ use Rattle.rmodel.specs.declared.claimed.Claimed.{Claimed}
 use Rattle.rclaim.specs.Changes.{ChangeLists}
 use Rattle.std.proofs.Math.ListN.{set}
 use Rattle.std.specs.List.{count_by}
-use Rattle.rplain.specs.Plain.{AreMarked}
+use Rattle.rplain.specs.Plain.{AreMarked, AreOnlyMarks}
 use Rattle.rplain.proofs.stepping.Marked.{issued_marked, marked_next, issued_halves, halves_next, as_number}
+use Rattle.rplain.proofs.stepping.OnlyMarks.{issued_only, only_next}
 use Rattle.rmodel.specs.Changes.{status_changes, grant_changes}
 use Rattle.rmodel.specs.Claims.{waiting, claims_of, is_upgrade, is_read_half}
 use Rattle.rmodel.specs.State.{LockState}
@@ -58,6 +59,8 @@ invariant_of-self c =
       marks = subst (λ (xs : List Claimed). AreMarked (set a.marks c.args.seat true) xs) (sym is)
           (marked_next (state_of a) e sound comes (set a.marks c.args.seat true)
           (issued_marked a.marks a.claims.items a.groups.groups a.issued c.args.seat r (let there = comes.fits.seat_there in let seats = c.self.invariant.seats in omega arith) c.self.invariant.marks));
+      only = subst (λ (xs : List Claimed). AreOnlyMarks (set a.marks c.args.seat true) xs) (sym is)
+          (only_next (state_of a) e sound comes (set a.marks c.args.seat true) (issued_only a.marks a.claims.items a.groups.groups a.issued c.args.seat r c.self.invariant.only));
       halves = (λ i. c.self.invariant.halves i + (as_number c.is_upgrade.result ∙ ap (λ b. cond b 1 0) (c.is_upgrade.ensures ∙ ap is_upgrade c.kind.ensures.value)) i)
           ∙ sym (issued_halves a.claims.items a.groups.groups a.issued c.args.seat r) ∙ halves_next (state_of a) e sound comes ∙ ap (count_by (λ x. is_read_half x.claim)) (sym is);
       some_cap = c.self.invariant.some_cap;

@@ -4,8 +4,9 @@ use Rattle.rmodel.specs.declared.claimed.Claimed.{Claimed}
 use Rattle.std.specs.List.{count_by}
 use Rattle.rmodel.specs.Claims.{is_read_half}
 use Rattle.rplain.proofs.stepping.Marked.{marked_next, halves_next, risen_halves, rises}
+use Rattle.rplain.proofs.stepping.OnlyMarks.{risen_only, only_next}
 use Rattle.rmodel.specs.Changes.{status_changes, grant_changes}
-use Rattle.rplain.specs.Plain.{state_of, AreMarked}
+use Rattle.rplain.specs.Plain.{state_of, AreMarked, AreOnlyMarks}
 use Rattle.rmodel.specs.Reached.{IsReached}
 use Rattle.rmodel.specs.Settling.{settled}
 use Rattle.rmodel.specs.State.{LockState}
@@ -74,6 +75,9 @@ invariant_of-self c =
       seen = c.settle.ensures.seen;
       marks = subst (λ (xs : List Claimed). AreMarked (a.marks) xs) (sym (c.settle.ensures.items ∙ ap (λ xs. given (settled xs)) c.take_read_half-left.ensures.items))
           (marked_next (state_of a) e c.self.invariant.reached.sound comes (a.marks) (all_filter (λ x. get_or a.marks x.claim.seat false ≡ true) (λ x. not (is_read_of c.args.seat x)) a.claims.items c.self.invariant.marks));
+      only = subst (λ (xs : List Claimed). AreOnlyMarks a.marks xs) (sym (c.settle.ensures.items ∙ ap (λ xs. given (settled xs)) c.take_read_half-left.ensures.items))
+          (only_next (state_of a) e c.self.invariant.reached.sound comes a.marks
+          (risen_only a.marks a.claims.items c.args.seat c.self.invariant.reached.sound.one_each (rises (state_of a) c.args.seat comes.accepted) c.self.invariant.only));
       halves =
           let were = c.self.invariant.halves in
           let gone = risen_halves c.args.seat a.claims.items c.self.invariant.reached.sound.one_each (rises (state_of a) c.args.seat comes.accepted) in

@@ -4,6 +4,7 @@ use Rattle.rmodel.specs.declared.claimed.Claimed.{Claimed}
 use Rattle.std.specs.List.{count_by}
 use Rattle.rmodel.specs.Claims.{is_read_half}
 use Rattle.rplain.proofs.stepping.Marked.{none_marked}
+use Rattle.rplain.proofs.stepping.OnlyMarks.{none_only}
 use Rattle.rset.specs.declared.TheConstants.{SEATS}
 use Rattle.rsettle.specs.NewClaim.{seen_of}
 use Rattle.rsettle.proofs.settling.SweepSteps.{seen_none}
@@ -20,6 +21,7 @@ invariant_of-result c = record {
       (reached_opening c.args.groups c.args.seats c.args.cap);
   seen = c.no_seen.ensures ∙ seen_none ∙ ap seen_of (sym c.in_ok-with_capacity.ensures.items);
   marks = none_marked (replicate SEATS false) _ c.in_ok-with_capacity.ensures.items;
+  only = none_only SEATS _;
   halves = sym (ap (count_by (λ x. is_read_half x.claim)) c.in_ok-with_capacity.ensures.items);
   some_cap = c.requires.cap.0;
   within = within_none _ _ c.in_ok-with_capacity.ensures.items;
