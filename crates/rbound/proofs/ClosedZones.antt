@@ -1,15 +1,15 @@
--- Zones are closed.
+-- Zones are closed, and no closed set that has their places leaves any of theirs out.
 use Rattle.std.proofs.Common.{◌≡◌, ◌≤◌, ◌<◌, ℕ, suc, zero, Bool, true, false, not, ◌||◌, cond, List, [], ◌∷◌, length, map, fold, filter, refl, sym, ap, subst, ◌∙◌, inl, inr, arith}
 use Rattle.std.proofs.lemmas.Bool.{or_parts}
 use Rattle.std.specs.FinSet.{union, is_subset}
 use Rattle.std.specs.List.{list_any}
 use Rattle.rset.specs.Sets.{Set, meets}
-use Rattle.rset.proofs.SetLemmas.{within_reflexive, within_transitive, within_union_left, within_union_right}
-use Rattle.rmodel.proofs.ListFacts.{Among, contrary, in_filter, none_among}
+use Rattle.rset.proofs.SetLemmas.{within_reflexive, within_transitive, within_union_left, within_union_right, union_within, meets_within_right}
+use Rattle.rmodel.proofs.ListFacts.{Among, contrary, among_filter, in_filter, none_among}
 use Rattle.rmodel.proofs.settling.OneSettlement.{both_cases}
 use Rattle.rmodel.proofs.reaching.Came.{in_map}
 use Rattle.rbound.specs.Needs.{Needed}
-use Rattle.rbound.specs.Zones.{joined, joined_in_rounds, all_places, zone_of, ZonesAreClosed}
+use Rattle.rbound.specs.Zones.{joined, joined_in_rounds, all_places, zone_of, IsClosed, ZonesAreClosed}
 
 module _ (z : Set) where
   abbrev join : Set → Set → Set
@@ -89,9 +89,42 @@ length_map : {X Y : Type 0} (f : X → Y) (xs : List X) → length (map f xs) �
 length_map f [] = omega arith
 length_map f (x ∷ xs) = let rest = length_map f xs in omega arith
 
+-- ---- the zone is the least closed set that has the places
+
+joined_within : (ps : List Set) (z all s : Set) → ((p : Set) → Among p ps → meets p s ≡ true → is_subset p s ≡ true) → is_subset z s ≡ true → is_subset all s ≡ true
+    → is_subset (fold (λ all p. cond (meets p z) (union all p) all) all ps) s ≡ true
+joined_within [] z all s closed h a = a
+joined_within (p ∷ ps) z all s closed h a =
+    joined_within ps z (cond (meets p z) (union all p) all) s (λ q there. closed q (inr there)) h
+    (both_cases (meets p z)
+    (λ m. subst (λ (b : Bool). is_subset (cond b (union all p) all) s ≡ true) (sym m) (union_within all p s a (closed p (inl refl) (meets_within_right p z s h m))))
+    (λ m. subst (λ (b : Bool). is_subset (cond b (union all p) all) s ≡ true) (sym m) a))
+
+rounds_within : (k : ℕ) (z s : Set) (ps : List Set) → ((p : Set) → Among p ps → meets p s ≡ true → is_subset p s ≡ true) → is_subset z s ≡ true → is_subset (joined_in_rounds k z ps) s ≡ true
+rounds_within zero z s ps closed h = h
+rounds_within (suc k) z s ps closed h =
+    rounds_within k (joined z ps) s (filter (λ p. not (meets p z)) ps)
+    (λ p there. closed p ((among_filter (λ p. not (meets p z)) ps p there).0))
+    (joined_within ps z z s closed h h)
+
+places_among : (ns : List Needed) (p : Set) → Among p (all_places ns) → (n : Needed) × Among n ns × (p ≡ n.claim.places)
+places_among [] p there = absurd there
+places_among (n ∷ ns) p (inl same) = (n, inl refl, same)
+places_among (n ∷ ns) p (inr later) = let found = places_among ns p later in (found.0, inr found.1, found.2)
+
+pub zone_within : (ns : List Needed) (places s : Set) → IsClosed ns s → is_subset places s ≡ true → is_subset (zone_of ns places) s ≡ true
+unfolding zone_of
+zone_within ns places s closed h =
+    rounds_within (length ns) places s (all_places ns)
+    (λ p there m.
+    let found = places_among ns p there in
+    subst (λ (x : Set). is_subset x s ≡ true) (sym found.2) (closed found.0 found.1 (subst (λ (x : Set). meets x s ≡ true) found.2 m)))
+    h
+
 pub zones_are_closed : ZonesAreClosed
 unfolding zone_of
 zones_are_closed ns places = record {
   has = rounds_more (length ns) places (all_places ns);
   closed = λ n there h. rounds_closed (length ns) places (all_places ns) (length_map (λ n. n.claim.places) ns) n.claim.places (in_map (λ (n : Needed). n.claim.places) ns n there) h;
+  least = zone_within ns places;
 }

@@ -5,12 +5,12 @@ use Rattle.std.specs.FinSet.{union, is_subset}
 use Rattle.std.specs.List.{list_any}
 use Rattle.rset.specs.Sets.{Set, meets}
 use Rattle.rset.proofs.SetLemmas.{within_reflexive, within_transitive, within_both, within_union_left, within_union_right, union_within, meets_within_right}
-use Rattle.rmodel.proofs.ListFacts.{Among, contrary, none_among, among_filter, passing}
+use Rattle.rmodel.proofs.ListFacts.{Among, contrary, none_among, passing}
 use Rattle.rmodel.proofs.settling.OneSettlement.{both_cases}
 use Rattle.rbound.specs.Needs.{Needed}
-use Rattle.rbound.specs.Zones.{joined, joined_in_rounds, all_places, zone_of, is_there, IsClosed}
+use Rattle.rbound.specs.Zones.{zone_of, is_there, IsClosed}
 use Rattle.rbound.specs.Sweeps.{swept}
-use Rattle.rbound.proofs.ClosedZones.{zones_are_closed}
+use Rattle.rbound.proofs.ClosedZones.{zone_within, zones_are_closed}
 
 abbrev take_in : Set → Needed → Set
 take_in all n = cond (meets n.claim.places all) (union all n.claim.places) all
@@ -126,37 +126,7 @@ fewer_outside ns z grows =
     (swept_stays ns z (λ n there now. both_cases (is_there z n) (λ t. t) (λ f. contrary (is_there (swept ns z) n && not (is_there z n)) (and_from _ _ now (ap not f)) (none_among (λ n. is_there (swept ns z) n && not (is_there z n)) ns n none there))))
     grows)
 
--- ---- the zone is the least closed set that has the places
-
-joined_within : (ps : List Set) (z all s : Set) → ((p : Set) → Among p ps → meets p s ≡ true → is_subset p s ≡ true) → is_subset z s ≡ true → is_subset all s ≡ true
-    → is_subset (fold (λ all p. cond (meets p z) (union all p) all) all ps) s ≡ true
-joined_within [] z all s closed h a = a
-joined_within (p ∷ ps) z all s closed h a =
-    joined_within ps z (cond (meets p z) (union all p) all) s (λ q there. closed q (inr there)) h
-    (both_cases (meets p z)
-    (λ m. subst (λ (b : Bool). is_subset (cond b (union all p) all) s ≡ true) (sym m) (union_within all p s a (closed p (inl refl) (meets_within_right p z s h m))))
-    (λ m. subst (λ (b : Bool). is_subset (cond b (union all p) all) s ≡ true) (sym m) a))
-
-rounds_within : (k : ℕ) (z s : Set) (ps : List Set) → ((p : Set) → Among p ps → meets p s ≡ true → is_subset p s ≡ true) → is_subset z s ≡ true → is_subset (joined_in_rounds k z ps) s ≡ true
-rounds_within zero z s ps closed h = h
-rounds_within (suc k) z s ps closed h =
-    rounds_within k (joined z ps) s (filter (λ p. not (meets p z)) ps)
-    (λ p there. closed p ((among_filter (λ p. not (meets p z)) ps p there).0))
-    (joined_within ps z z s closed h h)
-
-places_among : (ns : List Needed) (p : Set) → Among p (all_places ns) → (n : Needed) × Among n ns × (p ≡ n.claim.places)
-places_among [] p there = absurd there
-places_among (n ∷ ns) p (inl same) = (n, inl refl, same)
-places_among (n ∷ ns) p (inr later) = let found = places_among ns p later in (found.0, inr found.1, found.2)
-
-pub zone_within : (ns : List Needed) (places s : Set) → IsClosed ns s → is_subset places s ≡ true → is_subset (zone_of ns places) s ≡ true
-unfolding zone_of
-zone_within ns places s closed h =
-    rounds_within (length ns) places s (all_places ns)
-    (λ p there m.
-    let found = places_among ns p there in
-    subst (λ (x : Set). is_subset x s ≡ true) (sym found.2) (closed found.0 found.1 (subst (λ (x : Set). meets x s ≡ true) found.2 m)))
-    h
+-- ---- what grows by sweeps
 
 -- some places grew: they have those they began with, and lie in each closed set that has these
 pub record HasGrown (ns : List Needed) (places z : Set) : Type 0 where

@@ -30,11 +30,12 @@ is_there zone n = is_subset n.claim.places zone
 abbrev pub IsClosed : List Needed → Set → Type 0
 IsClosed ns zone = (n : Needed) → Among n ns → meets n.claim.places zone ≡ true → is_there zone n ≡ true
 
--- the zone of some places
+-- the zone of some places: the least closed set that has them all
 pub record IsZone (ns : List Needed) (places zone : Set) : Type 0 where
   pub has : is_subset places zone ≡ true
   pub closed : IsClosed ns zone
+  pub least : (s : Set) → IsClosed ns s → is_subset places s ≡ true → is_subset zone s ≡ true
 
--- each zone is closed
+-- each zone is closed, and the least such set
 abbrev pub ZonesAreClosed : Type 0
 ZonesAreClosed = (ns : List Needed) (places : Set) → IsZone ns places (zone_of ns places)

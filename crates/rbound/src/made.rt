@@ -1,5 +1,5 @@
 // The claims that a request makes, and where they stand among those of all tasks.
-ghost use Rattle.std.specs.Prelude.{◌≡◌, ◌≤◌, ◌<◌, ◌+◌, ◌∷◌, ◌++◌, List, IsTrue, length, take, drop, option_to_list, vec_capacity};
+ghost use Rattle.std.specs.Prelude.{◌≡◌, ◌≤◌, ◌<◌, ◌+◌, ◌-◌, ◌∷◌, ◌++◌, ℕ, List, IsTrue, length, take, drop, slice_index_or, option_to_list, vec_capacity};
 ghost use Rattle.std.specs.List.{insert, AllByRecursion};
 ghost use Rattle.rset.specs.Sets.{all_below};
 ghost use Rattle.rclaim.specs.Requests.{IsNormal};
@@ -90,6 +90,8 @@ pub(crate) fn place_behind(claims: &[Needed], task: u8) -> usize
     ensures place { (before behind : List Needed) → claims.now ≡ before ++ behind
         → AllByRecursion (λ n. n.claim.seat ≤ task) before → AllByRecursion (λ n. task < n.claim.seat) behind
         → result ≡ length before }
+    ensures later { (i : ℕ) (d : Needed) → result ≤ i → i < length claims.now → task < (slice_index_or claims.now i d).claim.seat }
+    ensures last { (d : Needed) → 0 < result → (slice_index_or claims.now (result - 1) d).claim.seat ≤ task }
 {
     let mut at = claims.len();
     while at > 0 && claims[at - 1].claim.seat > task {

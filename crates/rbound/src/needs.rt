@@ -1,9 +1,10 @@
 // What tasks need, with the claims that this makes kept beside it.
-ghost use Rattle.std.specs.Prelude.{◌≡◌, ◌≤◌, ◌<◌, ◌==◌, ◌&&◌, ◌∷◌, Some, IfOk, OnOk, OnErr, IsTrue, true, length, slice_get, option_to_list};
+ghost use Rattle.std.specs.Prelude.{◌≡◌, ◌≤◌, ◌<◌, ◌==◌, ◌&&◌, ◌∷◌, ℕ, Some, IfOk, IsOk, OnOk, OnErr, IsTrue, true, length, slice_get, option_to_list};
 ghost use Rattle.rset.specs.Sets.{all_below};
 ghost use Rattle.rbound.specs.Needs.{first_need, write_need};
 ghost use Rattle.rbound.specs.Zones.{zone_of};
 ghost use Rattle.rbound.specs.Bounds.{numbers_in};
+ghost use Rattle.rbound.specs.declared.which.Which.TheVariants.{Ask};
 ghost use Rattle.rbound.specs.Kept.{tasks_in, AreFine, AreClaimsOf, write_among};
 ghost use Rattle.rbound.specs.Sound.{AreSound};
 ghost use Rattle.rbound.specs.TaskNeeds.{none_needed, with_request, with_ask, requests_of, last_is_nested, kind_at, asks_at, needed_in, bound_of};
@@ -204,11 +205,12 @@ fn write_among(first: Needed, second: Option<Needed>) -> Option<Needed>
 }
 
 /// The bound of a wait of the request number `k` of a task, both counted from 0, where no more than `cap` requests may be
-/// incomplete. All claims are looked through for it.
+/// incomplete. All claims are looked through for it. That of a rise is the bound of the request's write claim, of whatever kind
+/// the request is; where it has no write claim, or no ask of that number, all numbers are 0.
 ///
 /// # Errors
 ///
-/// Want of memory.
+/// Want of memory; never for an ask.
 pub fn bound_of(
     alloc: Global,
     needs: &Needs,
@@ -220,7 +222,8 @@ pub fn bound_of(
     requires cap { 1 ≤ cap }
     requires task { task < length needs.now.tasks }
     requires number { k < length (requests_of needs.now.tasks task) }
-    ensures { IfOk result (λ b. numbers_in b ≡ bound_of needs.now cap task k which) }
+    ensures value { IfOk result (λ b. numbers_in b ≡ bound_of needs.now cap task k which) }
+    ensures succeeds { (i : ℕ) → which ≡ Ask i → IsOk result }
 {
     let tasks = needs.tasks();
     let claims = needs.claims();

@@ -13,8 +13,7 @@ use Rattle.rmodel.proofs.settling.OneSettlement.{both_cases}
 use Rattle.rbound.specs.Needs.{Needed}
 use Rattle.rbound.specs.Zones.{zone_of, IsClosed}
 use Rattle.rbound_table.specs.PlaceZones.{zone_at, places_in}
-use Rattle.rbound.proofs.ClosedZones.{zones_are_closed}
-use Rattle.rbound.proofs.SweptZones.{zone_within}
+use Rattle.rbound.proofs.ClosedZones.{zone_within, zones_are_closed}
 
 one_within : (s : Set) (l : ℕ) → contains s l ≡ true → is_subset (insert empty l) s ≡ true
 one_within s l h = insert_within empty s l (within_empty s) h

@@ -15,8 +15,7 @@ use Rattle.rbound.specs.Needs.{Needed}
 use Rattle.rbound.specs.Zones.{zone_of, IsClosed}
 use Rattle.rbound.specs.Bounds.{greatest, largest, one_if, tasks_of, reads_there, writes_there, upgrades_there, is_writer, writes_of, all_may_write, none_beside, reads_of, write_length, units_of, write_bound, can_hold_up, may_keep, may_delay, read_bound, may_bar, ask_bound, bound_by}
 use Rattle.rbound.specs.Sound.{AreSound}
-use Rattle.rbound.proofs.ClosedZones.{zones_are_closed}
-use Rattle.rbound.proofs.SweptZones.{zone_within}
+use Rattle.rbound.proofs.ClosedZones.{zone_within, zones_are_closed}
 
 -- they differ in no more than their stamps and lengths
 pub record SameClaim (a b : Claim) : Type 0 where
