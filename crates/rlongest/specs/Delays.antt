@@ -1,6 +1,7 @@
 -- Of each resource and each task, the longest claim of another task that can hold up a write of the resource by a further one.
-use Rattle.std.specs.Prelude.{ℕ, List, [], map, fold, slice_index_or, Option, None}
+use Rattle.std.specs.Prelude.{◌==◌, ℕ, List, [], map, fold, find, slice_index_or, Option, None}
 use Rattle.std.specs.List.{range_with_len}
+use Rattle.std.specs.Option.{option_eq}
 use Rattle.rset.specs.Sets.{rising}
 use Rattle.rset.specs.declared.TheConstants.{RESOURCES}
 use Rattle.rbound.specs.Longest.{longer}
@@ -45,6 +46,10 @@ delay_at rows tasks l me = beside tasks me (λ writer. two_at (holders_at rows w
 -- the longest of all that can hold up a write of the resource
 abbrev pub top_at : List (List TwoLongest) → ℕ → ℕ → Option ℕ
 top_at rows tasks l = fold (λ most writer. longer most (longer (holders_at rows writer l).longest (holders_at rows writer l).next)) None (range_with_len 0 tasks)
+
+-- the first writer whose writes of the resource a claim of this length can hold up, where there is one
+abbrev pub writer_held : List (List TwoLongest) → ℕ → ℕ → Option ℕ → Option ℕ
+writer_held rows tasks l top = find (λ writer. option_eq (λ a b. a == b) (holders_at rows writer l).longest top) (range_with_len 0 tasks)
 
 -- at each resource, for each task
 abbrev pub delays_in : Tables → ℕ → List (List (Option ℕ))

@@ -4,7 +4,7 @@ ghost use Rattle.std.specs.List.{range_with_len};
 ghost use Rattle.rset.specs.declared.TheConstants.{RESOURCES};
 ghost use Rattle.rlongest.specs.Two.{no_length};
 ghost use Rattle.rlongest.specs.Lengths.{rows_in};
-ghost use Rattle.rlongest.specs.Delays.{all_leaders, readers_of, held_by, held, holders_in, holders_at, delay_at, top_at, delays_in};
+ghost use Rattle.rlongest.specs.Delays.{all_leaders, readers_of, held_by, held, holders_in, holders_at, delay_at, top_at, writer_held, delays_in};
 
 use crate::leaders::{Leaders, leaders_at, led_beside};
 use crate::table::{Cell, cell_at};
@@ -115,9 +115,10 @@ fn top_at(rows: &[Vec<TwoLongest>], tasks: u8, l: u8) -> Option<u32>
     })
 }
 
-/// A writer whose writes of the resource a claim of this length can hold up, where there is one.
+/// The first writer whose writes of the resource a claim of this length can hold up, where there is one.
 fn writer_held(rows: &[Vec<TwoLongest>], tasks: u8, l: u8, top: Option<u32>) -> Option<u8>
-    ensures { IfSome result (λ writer. writer < tasks) }
+    ensures within { IfSome result (λ writer. writer < tasks) }
+    ensures value { result ≡ writer_held (rows_in rows.now) tasks l top }
 {
     (0..tasks).find(|writer| holders_at(rows, *writer, l).longest == top)
 }

@@ -7,7 +7,7 @@ use rbound::longer;
 /// The longest length, a task that has it, and the longest of all other tasks.
 #[derive(Clone, Copy)]
 pub struct TwoLongest {
-    /// A task that has the longest; 0 where no task has any.
+    /// A task that has the longest; where no task has any, one of those told of, or 0.
     pub task: u8,
     /// The longest of all tasks, in turns; none where no task has any.
     pub longest: Option<u32>,
