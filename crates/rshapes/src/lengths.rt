@@ -1,5 +1,5 @@
 // Requests of one shape, and the greater of their lengths.
-ghost use Rattle.std.specs.Prelude.{◌≡◌, true};
+ghost use Rattle.std.specs.Prelude.{◌≡◌, ◌&&◌, nat_le, true};
 ghost use Rattle.rshapes.specs.Shapes.{same_shape, lengthened};
 
 use crate::key::kind_number;
@@ -17,7 +17,8 @@ pub(crate) fn same_shape(a: &Request, b: &Request) -> bool
 
 /// Whether a request has no smaller lengths than another.
 pub(crate) fn is_as_long(known: &Request, other: &Request) -> bool
-    ensures { result ≡ true → lengthened known.now other.now ≡ known.now }
+    ensures exact { result ≡ (nat_le other.now.len known.now.len && nat_le other.now.later known.now.later) }
+    ensures stays { result ≡ true → lengthened known.now other.now ≡ known.now }
 {
     other.len() <= known.len() && other.later() <= known.later()
 }

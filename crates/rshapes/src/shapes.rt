@@ -1,5 +1,5 @@
 // The shapes of the requests of tasks, as a history grows.
-ghost use Rattle.std.specs.Prelude.{◌≡◌, ◌≤◌, ◌<◌, [], true, IfOk, OnOk, OnErr, length};
+ghost use Rattle.std.specs.Prelude.{◌≡◌, ◌≤◌, ◌<◌, [], true, IfOk, OnOk, OnErr, length, slice_index_or, slice_set};
 ghost use Rattle.rbound.specs.Bounds.{numbers_in};
 ghost use Rattle.rbound.specs.TaskNeeds.{requests_of, bound_of};
 ghost use Rattle.rshapes.specs.Shapes.{with_shape, shape_index, with_shape_ask, ask_index, task_at, is_nested_at};
@@ -161,16 +161,20 @@ impl Shapes {
     }
 }
 
-/// What was noted of a task last.
-fn place_in(last: &[usize], task: u8) -> usize {
+/// What was noted of a task last; 0 where nothing was.
+fn place_in(last: &[usize], task: u8) -> usize
+    ensures { result ≡ slice_index_or last.now task 0 }
+{
     match last.get(usize::from(task)) {
         Some(place) => *place,
         None => 0,
     }
 }
 
-/// Notes a place of a task.
-fn note(last: &mut [usize], task: u8, place: usize) {
+/// Notes a place of a task. Where there is no such task, nothing is noted.
+fn note(last: &mut [usize], task: u8, place: usize)
+    ensures { last.new ≡ slice_set last.old task place }
+{
     let at = usize::from(task);
     if at < last.len() {
         last[at] = place;

@@ -7,4 +7,4 @@ returns-then-not-is_as_long c = entry_taken c.args.entries.now.items c.args.plac
 
 -- no length is greater: the entry stays
 pub returns-else-not-is_as_long : goal.returns-else-not-is_as_long
-returns-else-not-is_as_long c = entry_taken c.args.entries.now.items c.args.place c.index_mut-entry.result.now _ c.args.request.now c.index_mut-entry.ensures.value refl (sym (c.is_as_long.ensures c.if-not-is_as_long.false)) refl
+returns-else-not-is_as_long c = entry_taken c.args.entries.now.items c.args.place c.index_mut-entry.result.now _ c.args.request.now c.index_mut-entry.ensures.value refl (sym (c.is_as_long.ensures.stays c.if-not-is_as_long.false)) refl
