@@ -7,8 +7,8 @@ use Rattle.rclaim.specs.declared.claim.Claim.{Claim}
 use Rattle.rmodel.specs.declared.claimed.Claimed.{Claimed}
 use Rattle.rmodel.specs.Laws.{keeps_out}
 use Rattle.rmodel.specs.WellFormed.{Among, EachPair}
-use Rattle.rcover.specs.Line.{least_of, leasts, kept_moments, read_for, write_sections}
-use Rattle.rcover.specs.Moments.{Moment, is_claim}
+use Rattle.rcover.specs.Line.{least_of, is_least, leasts, kept_moments, read_for, write_sections}
+use Rattle.rcover.specs.Moments.{Moment, is_claim, holds_at}
 use Rattle.rcover.specs.Sections.{Covers, keeper_of, moments_without, read_sections, ask_sections}
 
 -- at a moment an entitled or satisfied write keeps the read claim c waiting, and it is v alone
@@ -25,6 +25,8 @@ pub record IsReadCovered (c : Claim) (ms : List Moment) : Type 0 where
   pub keeper : Claim
   pub is_keeper : keeper_of c ms ≡ Some keeper
   pub kept : AllByRecursion (IsKeptBy c keeper) ms
+  -- once it is satisfied it is so to the end of the wait
+  pub stays : EachPair (λ m n. holds_at keeper m ≡ true → holds_at keeper n ≡ true) ms
   -- one of its sections goes on at each moment
   pub covered : Covers (read_sections c ms) ms
   -- one section is taken that counts as a read where the write is not satisfied at some moment, and else none; and one at most that counts as a write
@@ -45,6 +47,8 @@ pub record IsWriteCovered (c : Claim) (ms : List Moment) : Type 0 where
   pub rises : EachPair (λ m n. (least_of c m).stamp ≤ (least_of c n).stamp) ms
   -- each of them but the claim itself is of another seat, and each of a seat of its own
   pub other_seats : AreOfOtherSeats c (leasts c ms)
+  -- once one of them is satisfied as the least it is so as long as it is the least
+  pub stays : AllByRecursion (λ d. EachPair (λ m n. is_least c d m ≡ true → is_least c d n ≡ true → holds_at d m ≡ true → holds_at d n ≡ true) ms) (leasts c ms)
   -- a read is taken for each that is not satisfied at some moment at which it is the least
   pub reads_exist : AllByRecursion (λ d. kept_moments c d ms ≢ [] → is_some (read_for c ms d) ≡ true) (leasts c ms)
   -- one of its sections goes on at each moment

@@ -57,7 +57,8 @@ fn waits_in(which: Which, moment: &[Claimed], x: &Claimed) -> bool
     }
 }
 
-/// Whether a claim stands at a moment, in this wait of its request.
+/// Whether a claim stands at a moment, in this wait of its request. Of an ask the number is not looked at: one ask alone of a
+/// request is pending.
 pub fn stands(which: Which, c: &Claim, moment: &[Claimed]) -> bool
     ensures { result ≡ stands (waits_in which) c.now moment.now }
 {

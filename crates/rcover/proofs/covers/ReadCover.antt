@@ -13,6 +13,7 @@ use Rattle.rmodel.specs.Reached.{IsReached}
 use Rattle.rmodel.specs.Rules.{is_kept_out}
 use Rattle.rmodel.specs.State.{LockState}
 use Rattle.rmodel.specs.Steps.{next, AreAccepted}
+use Rattle.rmodel.specs.WellFormed.{EachPair}
 use Rattle.rmodel.proofs.ListFacts.{Among, all_at, all_from, any_among, among_filter, in_filter, among_behind, passing}
 use Rattle.rmodel.proofs.settling.Keeping.{not_false}
 use Rattle.rmodel.proofs.settling.OneSettlement.{both_cases}
@@ -106,6 +107,24 @@ stops_once v s (e ∷ es) reached accepted active =
     held : (b : Bool) → not b ≡ false → b ≡ true
     held true h = refl
     held false h = sym h
+
+-- so it is at each moment, once it is at the first
+satisfied_each : (v : Claim) (s : LockState) (es : List Event) → IsReached s → AreAccepted s es → AllByRecursion (IsActiveWrite v) (moments s es) → Sat v s.claims → AllByRecursion (λ n. holds_at v n ≡ true) (moments s es)
+satisfied_each v s [] reached accepted active sat = (holds_sat v s.claims sat, tt)
+satisfied_each v s (e ∷ es) reached accepted active sat =
+    let a = active.1.0 in
+    let sat' = sat_next s e reached accepted.0 v sat (record { at = a.at; among = a.among; is = a.is }) in
+    (holds_sat v s.claims sat, satisfied_each v (next s e) es (reached_next s e reached accepted.0) accepted.1 active.1 sat')
+
+pub stays_satisfied : (v : Claim) (s : LockState) (es : List Event) → IsReached s → AreAccepted s es → AllByRecursion (IsActiveWrite v) (moments s es) → EachPair (λ m n. holds_at v m ≡ true → holds_at v n ≡ true) (moments s es)
+stays_satisfied v s [] reached accepted active = (tt, tt)
+stays_satisfied v s (e ∷ es) reached accepted active = (
+  all_from (λ n. holds_at v s.claims ≡ true → holds_at v n ≡ true) (moments (next s e) es) (λ n later holds.
+      let a = active.0 in
+      all_at (λ n. holds_at v n ≡ true) (moments s (e ∷ es)) n
+      (satisfied_each v s (e ∷ es) reached accepted active (sat_holds s reached v a.write (record { at = a.at; among = a.among; is = a.is }) holds)) (inr later)),
+  stays_satisfied v (next s e) es (reached_next s e reached accepted.0) accepted.1 active.1,
+)
 
 -- a claim that is taken for a read: at some moment the write is entitled, and the claim satisfied and in conflict with it
 pub record IsTakenRead (v : Claim) (ms : List Moment) (x : Claim) : Type 0 where
@@ -241,6 +260,7 @@ read_covered s es reached accepted c waits =
       keeper = k.keeper;
       is_keeper = k.is_keeper;
       kept = k.kept;
+      stays = stays_satisfied k.keeper s es reached accepted k.active;
       covered = facts.covered;
       one_read = facts.reads.one_read;
       no_read = facts.reads.no_read;

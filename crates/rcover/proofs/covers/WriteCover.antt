@@ -9,6 +9,7 @@ use Rattle.rmodel.specs.Reached.{IsReached}
 use Rattle.rmodel.specs.Rules.{is_earlier_write}
 use Rattle.rmodel.specs.State.{LockState}
 use Rattle.rmodel.specs.Steps.{AreAccepted}
+use Rattle.rmodel.specs.WellFormed.{EachPair}
 use Rattle.rmodel.proofs.ListFacts.{Among, contrary, false_from, all_at, all_from, any_among, among_filter, in_filter, among_behind, passing, pairs_with}
 use Rattle.rmodel.proofs.settling.Keeping.{not_false}
 use Rattle.rmodel.proofs.settling.OneSettlement.{both_cases}
@@ -20,7 +21,7 @@ use Rattle.rcover.specs.Sections.{Covers, holder_of}
 use Rattle.rcover.specs.Waits.{WriteWaits}
 use Rattle.rcover.proofs.lists.Different.{among_different, in_different, are_different, filter_within, different_shorter, filter_map_shorter, in_filter_map, one_less}
 use Rattle.rcover.proofs.lists.Found.{all_both, all_so, not_empty, list_parts}
-use Rattle.rcover.proofs.runs.LineOverTime.{line_of_first, least_rises, IsThatLeast, stops_least}
+use Rattle.rcover.proofs.runs.LineOverTime.{line_of_first, least_rises, IsThatLeast, stops_least, stays_held}
 use Rattle.rcover.proofs.runs.Moments.{at_moments, is_itself, is_other, are_one, holds_one, sat_holds}
 use Rattle.rcover.proofs.runs.Taken.{taken, IsTaken}
 use Rattle.rcover.proofs.runs.Throughout.{IsHeldThroughout, IsEntitledAndHeld, held_throughout}
@@ -191,6 +192,8 @@ module _ (c : Claim) (s : LockState) (es : List Event) (reached : IsReached s) (
   write_covered = record {
     rises = least_rises c s es reached accepted each_there;
     other_seats = of_other_seats;
+    stays = all_from (λ d. EachPair (λ m n. is_least c d m ≡ true → is_least c d n ≡ true → holds_at d m ≡ true → holds_at d n ≡ true) ms) (leasts c ms)
+        (λ d there. stays_held c d s es reached accepted each_there (that_least d there));
     reads_exist = all_from (λ d. kept_moments c d ms ≢ [] → is_some (read_for c ms d) ≡ true) (leasts c ms) reads_exist;
     covered = all_covered;
     not_itself = all_from (λ d. is_claim d c ≡ false) a_writes (λ d there. no_section d (among_filter (λ d. list_any (λ m. is_least c d m && holds_at d m) ms) (leasts c ms) d there).1);

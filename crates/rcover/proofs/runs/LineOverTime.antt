@@ -1,6 +1,6 @@
 -- The line of a write over a run of moments: it only loses claims, its least only rises, and a least that is satisfied or passed is so from then on.
 use Rattle.std.proofs.Common.{◌≡◌, ◌<◌, ◌≤◌, Bool, true, false, not, ◌&&◌, List, [], ◌∷◌, refl, sym, ap, subst, ◌∙◌, inl, inr, arith}
-use Rattle.std.proofs.lemmas.Bool.{and_parts, cases_order, or_cases}
+use Rattle.std.proofs.lemmas.Bool.{and_from, and_parts, cases_order, or_cases}
 use Rattle.std.specs.List.{AllByRecursion, list_any}
 use Rattle.rclaim.specs.declared.claim.Claim.{Claim}
 use Rattle.rclaim.specs.declared.event.Event.{Event}
@@ -8,7 +8,7 @@ use Rattle.rmodel.specs.Reached.{IsReached}
 use Rattle.rmodel.specs.State.{LockState}
 use Rattle.rmodel.specs.Steps.{next, Comes, AreAccepted, after}
 use Rattle.rmodel.specs.WellFormed.{EachPair}
-use Rattle.rmodel.proofs.ListFacts.{contrary, false_from}
+use Rattle.rmodel.proofs.ListFacts.{contrary, false_from, all_at, all_from}
 use Rattle.rmodel.proofs.reaching.Reached.{reached_next}
 use Rattle.rcover.specs.Line.{least_of, is_least, is_kept_least, kept_moments}
 use Rattle.rcover.specs.Moments.{Moment, moments, holds_at}
@@ -154,3 +154,26 @@ module _ (c : Claim) where
         from_gone : Gone d (after s es).claims → holds_at d (after s es).claims ≡ true
         from_gone (done h sat) = holds_sat d (after s es).claims sat
         from_gone (passed less) = let e = ap (λ (x : Claim). x.stamp) is in absurd (omega arith)
+
+    -- once the claim is satisfied as the least, it is so wherever it is the least from then on
+    gone_each : (s : LockState) (es : List Event) → IsReached s → AreAccepted s es → AllByRecursion (IsWriteThere c) (moments s es) → Gone d s.claims → AllByRecursion (Gone d) (moments s es)
+    gone_each s [] reached accepted there gone = (gone, tt)
+    gone_each s (e ∷ es) reached accepted there gone = (
+      gone,
+      gone_each (next s e) es (reached_next s e reached accepted.0) accepted.1 there.1 (gone_on d s e reached accepted.0 there.0 there.1.0 gone),
+    )
+
+    gone_holds : (m : Moment) → Gone d m → is_least c d m ≡ true → holds_at d m ≡ true
+    gone_holds m (done is sat) least = holds_sat d m sat
+    gone_holds m (passed less) least = let same = (are_one d (least_of c m) least).stamp in absurd (omega arith)
+
+    pub stays_held : (s : LockState) (es : List Event) → IsReached s → AreAccepted s es → AllByRecursion (IsWriteThere c) (moments s es) → AllByRecursion (IsThatLeast d) (moments s es)
+        → EachPair (λ m n. is_least c d m ≡ true → is_least c d n ≡ true → holds_at d m ≡ true → holds_at d n ≡ true) (moments s es)
+    stays_held s [] reached accepted there same = (tt, tt)
+    stays_held s (e ∷ es) reached accepted there same = (
+      all_from (λ n. is_least c d s.claims ≡ true → is_least c d n ≡ true → holds_at d s.claims ≡ true → holds_at d n ≡ true) (moments (next s e) es) (λ n later first least holds.
+          gone_holds n
+          (all_at (Gone d) (moments s (e ∷ es)) n
+          (gone_each s (e ∷ es) reached accepted there (gone_here s reached there.0 same.0 (and_from (is_least c d s.claims) (holds_at d s.claims) first holds))) (inr later)) least),
+      stays_held (next s e) es (reached_next s e reached accepted.0) accepted.1 there.1 same.1,
+    )
