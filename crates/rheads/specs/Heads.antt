@@ -1,11 +1,12 @@
 -- The least claims of lines, kept from event to event.
-use Rattle.std.specs.Prelude.{◌≡◌, ◌≤◌, ◌<◌, ◌*◌, true, length}
+use Rattle.std.specs.Prelude.{◌≡◌, ◌≤◌, ◌<◌, ◌*◌, true, false, length}
+use Rattle.std.specs.FinSet.{empty}
 use Rattle.std.specs.List.{AllByRecursion}
 use Rattle.rset.specs.declared.TheConstants.{SEATS}
 use Rattle.rmodel.specs.WellFormed.{EachPair, Rises, Distinct}
 use Rattle.rcover.specs.Moments.{Moment}
 use Rattle.rheads.specs.declared.heads.Heads.{Heads}
-use Rattle.rheads.specs.Lines.{IsTold}
+use Rattle.rheads.specs.Lines.{IsTold, no_head}
 use Rattle.rheads.specs.Shares.{TellWrites}
 
 -- heads have a place for each seat
@@ -21,6 +22,14 @@ TellsNow h m = h.told ≡ true → IsTold h.now.items h.behind.items m
 -- and so is which seats have a write, and what it takes
 abbrev pub TellsWrites : Heads → Moment → Type 0
 TellsWrites h m = h.told ≡ true → TellWrites h.writers h.shares m
+
+-- nothing is told: no seat moved or rose, none has a write, and no head is lost
+pub record TellsNothing (h : Heads) : Type 0 where
+  pub moved : h.moved ≡ empty
+  pub risen : h.risen ≡ empty
+  pub writers : h.writers ≡ empty
+  pub lost : h.lost ≡ no_head
+  pub untold : h.told ≡ false
 
 -- claims are such as those of a state
 pub record IsMoment (m : Moment) : Type 0 where

@@ -6,6 +6,7 @@ use Rattle.std.specs.FinSet.{contains, empty, is_subset}
 use Rattle.rset.specs.Sets.{Set, meets}
 use Rattle.rset.specs.declared.TheConstants.{SEATS}
 use Rattle.rclaim.specs.declared.claim.Claim.{Claim}
+use Rattle.rclaim.specs.declared.request.Kind.TheVariants.{Read}
 use Rattle.rclaim.specs.declared.event.Event.{Event}
 use Rattle.rclaim.specs.declared.event.Event.TheVariants as event
 use Rattle.rmodel.specs.declared.claimed.Claimed.{Claimed}
@@ -41,6 +42,10 @@ takes_seat (event.Ask t part) seat = false
 -- the head of a write: the least in its line, and whether that is satisfied
 abbrev pub head_of : Moment → Claim → Head
 head_of m c = record { claim = least_of c m; holds = holds_at (least_of c m) m }
+
+-- the head of no line: a claim of no seat, which takes nothing and is not satisfied
+abbrev pub no_head : Head
+no_head = record { claim = record { stamp = 0; seat = SEATS; kind = Read; write_half = false; reads = empty; writes = empty; places = empty }; holds = false }
 
 -- a claim as the least of its line
 abbrev pub own_head : Claimed → Head
@@ -136,6 +141,8 @@ pub record GoesBy (lost : Head) (gone came touched : Set) (m n : Moment) (x : Cl
 pub record HeadsTell (hs' : List Head) (lost : Head) (went rose : Set) (m n : Moment) (x : Claimed) : Type 0 where
   -- it had the least claim that is lost, and has another one now
   pub moved : x.claim.write_half ≡ true → contains went x.claim.seat ≡ true → (head_of m x.claim ≡ lost) × (slice_get hs' x.claim.seat ≡ Some (head_of n x.claim)) × ((least_of x.claim n).stamp ≢ lost.claim.stamp)
+  -- a seat that moved is not among those that rose
+  pub apart : x.claim.write_half ≡ true → contains went x.claim.seat ≡ true → contains rose x.claim.seat ≡ false
   -- its least claim came to be satisfied
   pub risen :
       x.claim.write_half ≡ true → contains went x.claim.seat ≡ false → contains rose x.claim.seat ≡ true

@@ -6,7 +6,7 @@ ghost use Rattle.rcover.specs.Moments.{Moment};
 ghost use Rattle.rset.specs.declared.TheConstants.{SEATS};
 ghost use Rattle.rclaim.specs.Events.{seat_of};
 ghost use Rattle.rheads.specs.Lines.{TellAt, TellHeads, GoesBy, HeadsTell, IsLost, IsTold, HoldBehind, ArePlaced};
-ghost use Rattle.rheads.specs.Heads.{HasPlaces, TellsNow, TellsWrites, IsMoment};
+ghost use Rattle.rheads.specs.Heads.{HasPlaces, TellsNothing, TellsNow, TellsWrites, IsMoment};
 ghost use Rattle.rheads.specs.Shares.{AreLeft, TellWrites, takes_write};
 
 use crate::lines::{Head, forget, no_head, tell_heads};
@@ -69,6 +69,7 @@ impl Heads {
         ensures room { IfOk result (λ made. HasPlaces made) }
         ensures told { IfOk result (λ made. TellsNow made []) }
         ensures writes { IfOk result (λ made. TellsWrites made []) }
+        ensures none { IfOk result (λ made. TellsNothing made) }
     {
         Ok(Heads {
             now: new_heads(alloc)?,

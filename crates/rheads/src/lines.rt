@@ -4,7 +4,7 @@ ghost use Rattle.std.specs.List.{AllByRecursion};
 ghost use Rattle.rmodel.specs.WellFormed.{EachPair, Rises, Distinct};
 ghost use Rattle.std.specs.FinSet.{contains, empty};
 ghost use Rattle.rset.specs.declared.TheConstants.{SEATS};
-ghost use Rattle.rheads.specs.Lines.{own_head, lowered, head_of, TellAt, heads_with, set_at, is_touched, IsBehind, HoldMore, IsTold};
+ghost use Rattle.rheads.specs.Lines.{no_head, own_head, lowered, head_of, TellAt, heads_with, set_at, is_touched, IsBehind, HoldMore, IsTold};
 ghost use Rattle.rmodel.specs.Claims.{satisfied_by};
 ghost use Rattle.rcover.specs.Line.{least_of};
 ghost use Rattle.rcover.specs.Moments.{Moment};
@@ -34,7 +34,9 @@ pub(crate) struct Found {
 }
 
 /// The head of no line.
-pub(crate) fn no_head() -> Head {
+pub(crate) fn no_head() -> Head
+    ensures { result ≡ no_head }
+{
     Head {
         claim: Claim {
             stamp: 0,

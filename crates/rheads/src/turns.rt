@@ -61,7 +61,7 @@ fn move_head(
     requires write { x.now.claim.write_half ≡ true }
     requires seat { x.now.claim.seat < SEATS }
     requires now { x.now.claim.seat < length now.old }
-    ensures turned { (lost : Head) (m before rest : Moment) → IsNext now.old m before x.now rest → IsFound (before ++ x.now ∷ rest) x.now.claim before found.now → head_of m x.now.claim ≡ lost → found.now.stamp ≢ lost.claim.stamp
+    ensures turned { (lost : Head) (m before rest : Moment) → IsNext now.old m before x.now rest → IsNew moves.old x.now → IsFound (before ++ x.now ∷ rest) x.now.claim before found.now → head_of m x.now.claim ≡ lost → found.now.stamp ≢ lost.claim.stamp
         → IsTurned now.old moves.old lost now.new moves.new m (before ++ x.now ∷ rest) x.now }
     ensures behind { (least : ℕ) → least ≡ found.now.seat → least < length behind.old → contains (set_at behind.new least) x.now.claim.seat ≡ true }
     ensures more { HoldMore behind.old behind.new }

@@ -51,6 +51,7 @@ module _ (now now' : List Head) (moves moves' : Moves) (lost : Head) (m n : Mome
   tell_stays : (z : Claimed) → Other z → HeadsTell now lost moves.moved moves.risen m n z → HeadsTell now' lost moves'.moved moves'.risen m n z
   tell_stays z other tells = record {
     moved = λ write on. let are = tells.moved write (unmoved write on) in (are.0, turned.now_stays z.claim.seat (other write) ∙ are.1, are.2);
+    apart = λ write on. turned.risen_stays z.claim.seat (other write) ∙ tells.apart write (unmoved write on);
     risen = λ write off on. let are = tells.risen write (unmoved write off) (unrisen write on) in (turned.now_stays z.claim.seat (other write) ∙ are.0, are.1, are.2);
     same = λ write off still. tells.same write (unmoved write off) (unrisen write still);
   }
@@ -133,7 +134,12 @@ module _ (now : List Head) (moves : Moves) (lost : Head) (m n : Moment) (x : Cla
   pub turned_read : x.claim.write_half ≡ false → IsTurned now moves lost now moves m n x
   turned_read read = record {
     head = λ write. contrary x.claim.write_half write read;
-    tells = record { moved = λ write on. contrary x.claim.write_half write read; risen = λ write off on. contrary x.claim.write_half write read; same = λ write off still. contrary x.claim.write_half write read };
+    tells = record {
+      moved = λ write on. contrary x.claim.write_half write read;
+      apart = λ write on. contrary x.claim.write_half write read;
+      risen = λ write off on. contrary x.claim.write_half write read;
+      same = λ write off still. contrary x.claim.write_half write read;
+    };
     noted = λ write. contrary x.claim.write_half write read;
     now_stays = λ seat other. refl;
     moved_stays = λ seat other. refl;
@@ -157,6 +163,7 @@ module _ (now : List Head) (moves : Moves) (lost : Head) (m n : Moment) (x : Cla
       head = λ _. told ∙ ap Some (sym same);
       tells = record {
         moved = λ _ on. contrary (contains moves.moved x.claim.seat) on (new.unmoved write);
+        apart = λ _ _. new.unrisen write;
         risen = λ _ _ on. contrary (contains moves.risen x.claim.seat) on (new.unrisen write);
         same = λ _ _ _. same;
       };
@@ -175,11 +182,12 @@ module _ (now : List Head) (moves : Moves) (lost : Head) (m n : Moment) (x : Cla
       elsewhere seat other = now_is seat ∙ ap (λ b. cond b (Some h) (slice_get now seat)) (not_own seat other)
 
       -- it was the one that is lost, and is another
-      pub turned_moved : head_of m x.claim ≡ lost → (least_of x.claim n).stamp ≢ lost.claim.stamp → IsTurned now moves lost now' (record { moved = insert moves.moved x.claim.seat; risen = moves.risen; dirty = union moves.dirty x.claim.places }) m n x
-      turned_moved was other = record {
+      pub turned_moved : IsNew moves x → head_of m x.claim ≡ lost → (least_of x.claim n).stamp ≢ lost.claim.stamp → IsTurned now moves lost now' (record { moved = insert moves.moved x.claim.seat; risen = moves.risen; dirty = union moves.dirty x.claim.places }) m n x
+      turned_moved new was other = record {
         head = λ _. here;
         tells = record {
           moved = λ _ _. (was, here, other);
+          apart = λ _ _. new.unrisen write;
           risen = λ _ off. contrary (contains (insert moves.moved x.claim.seat) x.claim.seat) (with_own moves.moved) off;
           same = λ _ off. contrary (contains (insert moves.moved x.claim.seat) x.claim.seat) (with_own moves.moved) off;
         };
@@ -196,6 +204,7 @@ module _ (now : List Head) (moves : Moves) (lost : Head) (m n : Moment) (x : Cla
         head = λ _. here;
         tells = record {
           moved = λ _ on. contrary (contains moves.moved x.claim.seat) on (new.unmoved write);
+          apart = λ _ on. contrary (contains moves.moved x.claim.seat) on (new.unmoved write);
           risen = λ _ _ _. (here, was ∙ ap (λ (k : Head). unsatisfied k) is, ap (λ (k : Head). k.holds) (sym is) ∙ holds);
           same = λ _ _ off. contrary (contains (insert moves.risen x.claim.seat) x.claim.seat) (with_own moves.risen) off;
         };
@@ -288,6 +297,7 @@ module _ (lost : Head) (gone came touched : Set) (none : touched ≡ empty) (m n
   tells_same moved risen no_moved no_risen (z ∷ zs) by = (
     record {
       moved = λ write on. contrary (contains moved z.claim.seat) on (none_in moved no_moved z.claim.seat);
+      apart = λ write on. contrary (contains moved z.claim.seat) on (none_in moved no_moved z.claim.seat);
       risen = λ write _ on. contrary (contains risen z.claim.seat) on (none_in risen no_risen z.claim.seat);
       same = λ write _ _. by.0.still write (off z);
     },

@@ -22,7 +22,7 @@ returns-then-found-lost-clause-behind c = λ m rest next low.
 
 pub returns-clause-turned : goal.returns-clause-turned
 returns-clause-turned c = λ gone touched m rest next goes new was.
-    c.move_head.ensures.turned c.args.lost.now m c.args.before.now rest next (c.found_before-found.ensures rest next.rising c.requires.write next.told) was c.if-found-lost.false
+    c.move_head.ensures.turned c.args.lost.now m c.args.before.now rest next new (c.found_before-found.ensures rest next.rising c.requires.write next.told) was c.if-found-lost.false
 
 pub returns-clause-behind : goal.returns-clause-behind
 returns-clause-behind c = λ m rest next low.
