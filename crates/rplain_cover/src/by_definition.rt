@@ -1,5 +1,5 @@
 // The covers of the waits that an event ends, by their definition.
-ghost use Rattle.std.specs.Prelude.{◌≡◌, ◌≤◌, ◌<◌, ◌++◌, ◌∷◌, [], ◌^◌, IfOk, OnOk, IfSome, List, length, Some};
+ghost use Rattle.std.specs.Prelude.{◌≡◌, ◌≤◌, ◌<◌, ◌++◌, ◌∷◌, [], ◌^◌, IfOk, IsOk, OnOk, IfSome, List, length, Some};
 ghost use Rattle.std.specs.List.{sum_by, filter_map, AllByRecursion};
 ghost use Rattle.std.specs.Option.{option_to_list};
 ghost use Rattle.rset.specs.declared.TheConstants.{SEATS};
@@ -232,7 +232,7 @@ fn ended_behind(
 ///
 /// # Errors
 ///
-/// Want of memory.
+/// Want of memory, where there is an event.
 pub fn plain_cover(
     alloc: Global,
     groups: &Groups,
@@ -244,6 +244,7 @@ pub fn plain_cover(
     requires cap { (1 ≤ cap) × (cap ≤ SEATS) }
     requires accepted { AreAccepted (opening groups.now seats cap) events.now }
     ensures none { IfOk result (λ v. events.now ≡ [] → v.items ≡ []) }
+    ensures succeeds { events.now ≡ [] → IsOk result }
     ensures ended { IfOk result (λ v. (before : List Event) (last : Event) → events.now ≡ before ++ last ∷ [] → v.items ≡ ended_by (opening groups.now seats cap) before last) }
 {
     let Some((event, before)) = events.split_last() else {
