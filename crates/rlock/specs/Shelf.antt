@@ -1,5 +1,5 @@
 -- What is out with a pass, and what it put home.
-use Rattle.std.specs.Prelude.{◌≡◌, ℕ, Some, slice_get}
+use Rattle.std.specs.Prelude.{◌≡◌, ℕ, ◌+◌, ◌-◌, ◌^◌, min, Some, slice_get}
 use Rattle.rlock.specs.declared.shelf.Shelf.{Shelf}
 use Rattle.rlock.specs.declared.shelf.Spot.TheVariants.{Home, Out}
 use Rattle.rlock.specs.Known.{Known}
@@ -11,3 +11,7 @@ HasOut pass spot = (last : Shelf) → pass.last ≡ Some last → slice_get last
 -- this value was in the spot as the pass left the shelf last
 abbrev pub HasHome : {O E : Type 0} → Known Shelf O E → ℕ → ℕ → Type 0
 HasHome pass spot value = (last : Shelf) → pass.last ≡ Some last → slice_get last.spots.items spot ≡ Some (Home value)
+
+-- a value with this amount more, which ends at the greatest value
+abbrev pub sum_within : ℕ → ℕ → ℕ
+sum_within value amount = min (value + amount) (2 ^ 64 - 1)

@@ -1,5 +1,5 @@
 //! A sample state whose parts go out with a pass: what a pass took in one turn is out with it still at its next.
-ghost use Rattle.std.specs.Prelude.{◌≡◌, ◌≢◌, ℕ, Some, None, IfSome, slice_get, slice_set};
+ghost use Rattle.std.specs.Prelude.{◌≡◌, ◌≢◌, ℕ, ◌+◌, true, false, Some, None, IfSome, if◌then◌else◌, slice_get, slice_set};
 ghost use Rattle.rlock.specs.declared.shelf.Spot.TheVariants.{Home, Out};
 ghost use Rattle.rlock.specs.Known.{IsSamePass};
 
@@ -69,10 +69,11 @@ impl Shelf {
 }
 
 impl Gate<Shelf> {
-    ghost use Rattle.rlock.specs.Shelf.{HasOut, HasHome};
+    ghost use Rattle.rlock.specs.Shelf.{HasOut, HasHome, sum_within};
 
     /// Takes out the value of a spot in one turn of the pass, where it is at home.
-    /// What was out with the pass is out with it still.
+    /// What was out with the pass is out with it still, and is not taken out again. What is found at home others may have put
+    /// there since, of which a pass knows nothing: so no clause says which value comes.
     pub fn take_out<R: Wait>(
         &self,
         rt: &R,
@@ -81,7 +82,9 @@ impl Gate<Shelf> {
     ) -> (Pass<Shelf>, Option<u64>)
         requires { pass.gate ≡ self.now.gate }
         ensures same { IsSamePass pass result.0 }
+        ensures turn { result.0.turns ≡ pass.turns + 1 }
         ensures out { IfSome result.1 (λ value. HasOut result.0 spot) }
+        ensures once { HasOut pass spot → result.1 ≡ None }
         ensures kept { (other : ℕ) → HasOut pass other → HasOut result.0 other }
     {
         let number = pass.number();
@@ -102,6 +105,7 @@ impl Gate<Shelf> {
         requires gate { pass.gate ≡ self.now.gate }
         requires out { HasOut pass spot }
         ensures same { IsSamePass pass result }
+        ensures turn { result.turns ≡ pass.turns + 1 }
         ensures home { HasHome result spot value }
         ensures kept { (other : ℕ) → other ≢ spot → HasOut pass other → HasOut result other }
     {
@@ -112,7 +116,7 @@ impl Gate<Shelf> {
     }
 
     /// Adds to the value of a spot, where it is at home: takes it out, and gives it home in a later turn. Answers whether it did.
-    /// What else was out with the pass is out with it still.
+    /// A sum that is too great ends at the greatest value. What was out with the pass is out with it still.
     pub fn add<R: Wait>(
         &self,
         rt: &R,
@@ -122,6 +126,9 @@ impl Gate<Shelf> {
     ) -> (Pass<Shelf>, bool)
         requires { pass.gate ≡ self.now.gate }
         ensures same { IsSamePass pass result.0 }
+        ensures turns { result.0.turns ≡ pass.turns + (if result.1 then 2 else 1) }
+        ensures home { result.1 ≡ true → (value : ℕ) × HasHome result.0 spot (sum_within value amount) }
+        ensures out { HasOut pass spot → (result.1 ≡ false) × HasOut result.0 spot }
         ensures kept { (other : ℕ) → other ≢ spot → HasOut pass other → HasOut result.0 other }
     {
         let (pass, value) = self.take_out(rt, pass, spot);
