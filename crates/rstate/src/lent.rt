@@ -80,7 +80,7 @@ impl<T: Drop> Lent<T> {
         Ok(Lent { reads, writes })
     }
 
-    /// Makes room for `n` more resources of each kind. What is lent stays as it is.
+    /// Makes room for `n` more resources of each kind. What is lent stays as it is, and so does the room that there was.
     ///
     /// # Errors
     ///
@@ -88,6 +88,7 @@ impl<T: Drop> Lent<T> {
     pub fn reserve(&mut self, n: usize) -> Result<(), AllocError>
         ensures reads { self.new.reads ≡ self.old.reads }
         ensures writes { self.new.writes ≡ self.old.writes }
+        ensures kept { (self.old.reads_room ≤ self.new.reads_room) × (self.old.writes_room ≤ self.new.writes_room) }
         ensures ok { OnOk result ((length self.new.reads + n ≤ self.new.reads_room) × (length self.new.writes + n ≤ self.new.writes_room)) }
     {
         self.reads.reserve(n)?;

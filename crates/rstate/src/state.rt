@@ -171,6 +171,7 @@ impl<T: Editable, M: Machine> State<T, M> {
         ensures entries { self.new.entries ≡ self.old.entries }
         ensures taken { self.new.taken ≡ slice_set self.old.taken seat (holds_of (lock_of self.old).claims seat) }
         ensures lent { IsLentNow T.after self.old (holds_of (lock_of self.old).claims seat) into.new }
+        ensures room { (into.new.reads_room ≡ into.old.reads_room) × (into.new.writes_room ≡ into.old.writes_room) }
     {
         let granted = self.machine.granted(seat);
         let before = self.taken[usize::from(seat)];
@@ -244,3 +245,6 @@ impl<T: Editable, M: Machine> State<T, M> {
 
 // The most requests that may be issued. After these there is no stamp for another.
 const MOST_ISSUES: u64 = 1 << 63;
+
+// The number itself: an issue may be refused after these, and a lower number would fit its clauses as well.
+const _: () = prove!(MOST_ISSUES == 9_223_372_036_854_775_808);

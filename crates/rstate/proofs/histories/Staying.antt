@@ -61,7 +61,7 @@ still_from s t seat l within =
     let parts = and_parts (is_subset (reads_of s seat) (reads_of t seat)) (is_subset (writes_of s seat) (writes_of t seat)) within in
     record { reads = within_at (reads_of s seat) (reads_of t seat) parts.0 l; writes = within_at (writes_of s seat) (writes_of t seat) parts.1 l }
 
-held_from : (s t : LockState) (seat l : ℕ) → IsHeldStill s t seat l → is_held_by s seat l ≡ true → is_held_by t seat l ≡ true
+pub held_from : (s t : LockState) (seat l : ℕ) → IsHeldStill s t seat l → is_held_by s seat l ≡ true → is_held_by t seat l ≡ true
 held_from s t seat l still held =
     elim (or_cases (contains (reads_of s seat) l) (contains (writes_of s seat) l) held) [
       | inl reads ↦ or_left (contains (reads_of t seat) l) (contains (writes_of t seat) l) (still.reads reads)

@@ -78,3 +78,7 @@ returns-clause-lent g c =
     (subst (λ f. IsLentNow g.T.Editable.after c.args.self.now c.index-before.result.now f) (sym c.into.view_is)
     (c.requires.lent c.index-before.result.now (ap (λ x. slice_get x.taken c.args.seat) (sym c.self.view_is) ∙ there))))
     c.take_reads.ensures.into c.take_writes.ensures.into))
+
+pub returns-clause-room : goal.returns-clause-room
+returns-clause-room g c =
+    (c.take_reads.ensures.capacity ∙ ap (λ (f : LentFields g.row.T.Denot). f.reads_room) c.into.view_is, c.take_writes.ensures.capacity ∙ ap (λ (f : LentFields g.row.T.Denot). f.writes_room) c.into.view_is)
