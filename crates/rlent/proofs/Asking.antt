@@ -1,7 +1,7 @@
 -- A nested request asks for a further part: why it may, and what stays.
 use Rattle.std.proofs.Common.{◌≡◌, ℕ, ◌==◌, nat_lt, ◌&&◌, Bool, true, false, cond, not, IsTrue, List, [], ◌∷◌, ◌++◌, map, Some, None, refl, sym, ap, subst, ◌∙◌}
 use Rattle.std.specs.Prelude.{slice_get}
-use Rattle.std.specs.FinSet.{union, is_subset, len}
+use Rattle.std.specs.FinSet.{contains, union, is_subset, len}
 use Rattle.std.specs.List.{AllByRecursion}
 use Rattle.std.proofs.lemmas.Bool.{true≢false, eq-eqb, or_parts, and_parts}
 use Rattle.rset.specs.Sets.{Set, all_below}
@@ -26,15 +26,16 @@ use Rattle.rvalue.specs.Histories.{value_of}
 use Rattle.rvalue.proofs.InTurnLemmas.{AllInTurn-longer}
 use Rattle.rvalue.proofs.ValueLemmas.{value_of-longer}
 use Rattle.rstate.specs.Contents.{Contents, lock_of, is_ready}
-use Rattle.rstate.specs.Histories.{Beginning, lock_after, MayFollow, IsLawfulFrom}
+use Rattle.rstate.specs.Histories.{Beginning, lock_after, writes_of, MayFollow, IsLawfulFrom}
+use Rattle.rstate.specs.Laws.{is_held_by, IsHeldStill}
 use Rattle.rstate.specs.Lent.{LentFields}
 use Rattle.rstate.proofs.histories.Following.{event_of, lock_push, lock_is_after, accepted_lawful}
-use Rattle.rstate.proofs.histories.Staying.{held_push, still_from}
+use Rattle.rstate.proofs.histories.Staying.{held_push, still_from, held_from}
 use Rattle.rstate.proofs.homes.Lists.{same_item}
 use Rattle.rstate.proofs.homes.Moved.{place_among}
 use Rattle.rlent.specs.declared.kind.GuardKind.{GuardKind}
 use Rattle.rlent.specs.declared.kind.GuardKind.TheVariants as kinds
-use Rattle.rlent.specs.Guards.{KeepsValues}
+use Rattle.rlent.specs.Guards.{KeepsValues, KeepsHolding}
 use Rattle.rlent.specs.Seats.{SeatOf, bare}
 use Rattle.rlent.specs.Sections.{SectionFields, lock_seen, held_at, value_seen, value_edited, HasRoom, ActsAreRight, HoldsFrom, WaitsFrom}
 use Rattle.rlent.proofs.seats.Acting.{held_more}
@@ -205,3 +206,20 @@ keeps_values after taken number b site site2 k later acts found f opens same see
       ap (λ x. slice_get x.values l) (sym e) ∙ was.1,
       was.2 ∙ ap (λ v. value_within after v acts l) (sym (ap (λ es. value_of after was.0 es l) seen ∙ value_later after taken number b k found f l (held b opens) was.0)),
     )
+
+-- and it holds that still, and may ask for the same
+pub keeps_holding : {V E : Type 0} (after : V → E → V) (taken : V → E → Bool) (number : V → ℕ) (b : Beginning V) (k later : SeatOf V E) (found : Contents V E) (f : Finds after taken number b k found)
+    → k.opening ≡ Some b → later.opening ≡ k.opening → later.number ≡ k.number → later.seen ≡ found.entries → KeepsHolding k later
+keeps_holding {V} {E} after taken number b k later found f opens same same_seat seen = record {
+  holds = λ l held d its. now d its (λ s n. is_held_by s n l ≡ true) (held_from (lock_after b k.seen) (lock_after b found.entries) k.number l (still l) (held b opens));
+  writes = λ l held d its. now d its (λ s n. contains (writes_of s n) l ≡ true) ((still l).writes (held b opens));
+  asks = λ part is d its. now d its (λ s n. is_part_of s.claims n part ≡ true)
+      (claim_later after taken number b k found f (λ c. (c.seat == k.number) && is_part part (union c.reads c.writes)) (of_seat_and k.number (λ c. is_part part (union c.reads c.writes))) ∙ is b opens);
+}
+  where
+    still : (l : ℕ) → IsHeldStill (lock_after b k.seen) (lock_after b found.entries) k.number l
+    still l = still_from (lock_after b k.seen) (lock_after b found.entries) k.number l (within_later after taken number b k found f)
+
+    now : (d : Beginning V) → later.opening ≡ Some d → (P : LockState → ℕ → Type 0) → P (lock_after b found.entries) k.number → P (lock_after d later.seen) later.number
+    now d its P p = subst (λ (e : Beginning V). P (lock_after e later.seen) later.number) (same_item b d (sym opens ∙ sym same ∙ its))
+        (subst (λ es. P (lock_after b es) later.number) (sym seen) (subst (λ m. P (lock_after b found.entries) m) (sym same_seat) p))

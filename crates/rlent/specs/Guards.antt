@@ -59,3 +59,9 @@ module _ {V E : Type 0} where
   -- what a guard holds has the value later that it had before
   abbrev pub KeepsValues : (V → E → V) → GuardFields V E → GuardFields V E → Type 0
   KeepsValues after before later = (l : ℕ) (value : V) → Holding before.seat l → HasValue after before l value → HasValue after later l value
+
+  -- what the seat holds it holds later, in the way in which it held it, and each part that it might ask for it may ask for still
+  pub record KeepsHolding (seat later : SeatOf V E) : Type 0 where
+    pub holds : (l : ℕ) → Holding seat l → Holding later l
+    pub writes : (l : ℕ) → HoldingToWrite seat l → HoldingToWrite later l
+    pub asks : (part : Set) → IsPartOf seat part → IsPartOf later part

@@ -1,5 +1,5 @@
 -- Seats of a lock, and what a call makes of a seat.
-use Rattle.std.specs.Prelude.{◌≡◌, ◌+◌, ◌<◌, ◌≤◌, Bool, true, false, IsTrue, Some, List, [], ◌++◌, fold}
+use Rattle.std.specs.Prelude.{◌≡◌, ◌+◌, ◌<◌, ◌≤◌, ◌⊎◌, Bool, true, false, IsTrue, Some, List, [], ◌++◌, fold}
 use mathlib.Core.List.{IsPrefix}
 use Rattle.rset.specs.Sets.{all_below}
 use Rattle.rclaim.specs.Requests.{RequestFields}
@@ -66,3 +66,7 @@ module _ {V E : Type 0} where
     pub begins : IsPrefix seat.seen found
     pub seen : later.seen ≡ found ++ more
     pub turns : later.turns ≡ seat.turns + 1
+
+  -- the seat comes back from a call that was refused: as it was, or after one turn without an entry
+  abbrev pub ComesBack : SeatOf V E → SeatOf V E → Type 0
+  ComesBack seat later = (later ≡ seat) ⊎ IsOneTurn seat [] later

@@ -103,7 +103,7 @@ impl<'a, T: Editable, M: Machine> Section<'a, T, M> {
     pub fn make_shares(&mut self, alloc: Global) -> Result<(), AllocError>
         requires { (kind : GuardKind) × Holds T.after T.taken T.number kind self.old }
         ensures ends { OnOk result (Ends T.after T.taken T.number self.new) }
-        ensures same { guarded self.new ≡ guarded self.old }
+        ensures same { self.new ≡ record self.old { lent = self.new.lent } }
         ensures err { OnErr result (self.new ≡ self.old) }
     {
         let lock: &CountedGate<State<T, M>> = self.lock;

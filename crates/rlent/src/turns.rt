@@ -1,8 +1,8 @@
 //! The turns of a section: it begins to wait, looks, rises, and asks.
 ghost use Rattle.std.specs.Prelude.{◌≡◌, true, false, ◌∷◌, [], IfOk, IfErr, OnOk};
 ghost use Rattle.rclaim.specs.declared.event.Event.TheVariants.{Issue, Rise, Ask};
-ghost use Rattle.rlent.specs.Seats.{IsOf, IsIdle, SuitsSeat, Goes, IsOneTurn, bare};
-ghost use Rattle.rlent.specs.Guards.{IsPartOf, IsReady, KeepsValues, kind_for};
+ghost use Rattle.rlent.specs.Seats.{IsOf, IsIdle, SuitsSeat, Goes, IsOneTurn, ComesBack, bare};
+ghost use Rattle.rlent.specs.Guards.{IsPartOf, IsReady, KeepsValues, KeepsHolding, kind_for};
 ghost use Rattle.rlent.specs.Sections.{HasRoom, Holds, Waits, HasLooked, guarded, no_loans};
 ghost use Rattle.rlent.specs.declared.kind.GuardKind.{GuardKind};
 
@@ -41,6 +41,7 @@ impl<'a, T: Editable, M: Machine> Section<'a, T, M> {
         ensures goes { IfOk result (λ s. Goes seat (bare (Issue seat.number request) ∷ []) s.seat) }
         ensures turn { IfOk result (λ s. IsOneTurn seat (bare (Issue seat.number request) ∷ []) s.seat) }
         ensures err { IfErr result (λ e. Goes seat [] e.0) }
+        ensures turn_err { IfErr result (λ e. IsOneTurn seat [] e.0) }
         ensures idle { IfErr result (λ e. IsIdle e.0) }
     {
         let number = seat.number();
@@ -185,7 +186,9 @@ impl<'a, T: Editable, M: Machine> Section<'a, T, M> {
         ensures turn { IfOk result (λ s. IsOneTurn self.entry.seat (bare (Ask self.entry.seat.number set) ∷ []) s.seat) }
         ensures holds { IfErr result (λ e. Holds T.after T.taken T.number GuardKind.Nest e.0) }
         ensures err { IfErr result (λ e. (e.0.site ≡ self.entry.site) × (e.0.acts ≡ self.entry.acts) × Goes self.entry.seat [] e.0.seat) }
+        ensures turn_err { IfErr result (λ e. ComesBack self.entry.seat e.0.seat) }
         ensures values { IfErr result (λ e. KeepsValues T.after (guarded self.entry) (guarded e.0)) }
+        ensures holding { IfErr result (λ e. KeepsHolding self.entry.seat e.0.seat) }
     {
         let mut section = self;
         match section.reserve() {
@@ -209,7 +212,9 @@ impl<'a, T: Editable, M: Machine> Section<'a, T, M> {
         ensures turn { IfOk result (λ s. IsOneTurn self.entry.seat (bare (Ask self.entry.seat.number set) ∷ []) s.seat) }
         ensures holds { IfErr result (λ e. Holds T.after T.taken T.number GuardKind.Nest e.0) }
         ensures err { IfErr result (λ e. (e.0.site ≡ self.entry.site) × (e.0.acts ≡ self.entry.acts) × Goes self.entry.seat [] e.0.seat) }
+        ensures turn_err { IfErr result (λ e. IsOneTurn self.entry.seat [] e.0.seat) }
         ensures values { IfErr result (λ e. KeepsValues T.after (guarded self.entry) (guarded e.0)) }
+        ensures holding { IfErr result (λ e. KeepsHolding self.entry.seat e.0.seat) }
     {
         let Section {
             lock,

@@ -1,7 +1,8 @@
-use Rattle.std.proofs.Common.{◌≡◌, [], ◌∷◌, IfOk, IfErr, refl, sym, ap, subst, append-nil}
+use Rattle.std.proofs.Common.{◌≡◌, [], ◌∷◌, IfOk, IfErr, inl, inr, refl, sym, ap, subst, append-nil}
+use Rattle.std.proofs.lemmas.Result.{IfErr-weaker}
 use Rattle.rclaim.specs.declared.event.Event.TheVariants.{Ask}
-use Rattle.rlent.specs.Guards.{GuardFields, IsPartOf, KeepsValues}
-use Rattle.rlent.specs.Seats.{Goes, IsOneTurn, bare}
+use Rattle.rlent.specs.Guards.{GuardFields, IsPartOf, KeepsValues, KeepsHolding}
+use Rattle.rlent.specs.Seats.{Goes, IsOneTurn, ComesBack, bare}
 use Rattle.rlent.specs.Sections.{guarded}
 use Rattle.rlent.proofs.section.Section.ask.Goals as goal
 
@@ -25,6 +26,11 @@ pub returns-in-Ok-clause-err : goal.returns-in-Ok-clause-err
 returns-in-Ok-clause-err g c =
     subst (λ (x : GuardFields g.row.T.Denot g.row.T-Edit.Denot). IfErr c.ask_with_room.result (λ e. (e.0.site ≡ x.site) × (e.0.acts ≡ x.acts) × Goes x.seat [] e.0.seat)) c.reserve.ensures.same c.ask_with_room.ensures.err
 
+pub returns-in-Ok-clause-turn_err : goal.returns-in-Ok-clause-turn_err
+returns-in-Ok-clause-turn_err g c =
+    subst (λ (x : GuardFields g.row.T.Denot g.row.T-Edit.Denot). IfErr c.ask_with_room.result (λ e. ComesBack x.seat e.0.seat)) c.reserve.ensures.same
+    (IfErr-weaker c.ask_with_room.result (λ e. IsOneTurn c.reserve.new.self.seat [] e.0.seat) (λ e. ComesBack c.reserve.new.self.seat e.0.seat) (λ e turn. inr turn) c.ask_with_room.ensures.turn_err)
+
 pub returns-in-Ok-clause-values : goal.returns-in-Ok-clause-values
 returns-in-Ok-clause-values g c =
     subst (λ (x : GuardFields g.row.T.Denot g.row.T-Edit.Denot). IfErr c.ask_with_room.result (λ e. KeepsValues g.T.Editable.after x (guarded e.0))) c.reserve.ensures.same c.ask_with_room.ensures.values
@@ -38,6 +44,17 @@ returns-in-Err-clause-err g c =
       subst (λ (x : GuardFields g.row.T.Denot g.row.T-Edit.Denot). Goes x.seat [] seat) is (record { same = (refl, refl, refl); seen = ([], append-nil seat.seen); mine = sym (append-nil seat.mine) }),
     )
 
+pub returns-in-Err-clause-turn_err : goal.returns-in-Err-clause-turn_err
+returns-in-Err-clause-turn_err g c = inl (ap (λ (x : GuardFields g.row.T.Denot g.row.T-Edit.Denot). x.seat) c.reserve.ensures.same)
+
 pub returns-in-Err-clause-values : goal.returns-in-Err-clause-values
 returns-in-Err-clause-values g c =
     subst (λ (x : GuardFields g.row.T.Denot g.row.T-Edit.Denot). KeepsValues g.T.Editable.after x (guarded c.reserve.new.self)) c.reserve.ensures.same (λ l value held has. has)
+
+pub returns-in-Ok-clause-holding : goal.returns-in-Ok-clause-holding
+returns-in-Ok-clause-holding g c =
+    subst (λ (x : GuardFields g.row.T.Denot g.row.T-Edit.Denot). IfErr c.ask_with_room.result (λ e. KeepsHolding x.seat e.0.seat)) c.reserve.ensures.same c.ask_with_room.ensures.holding
+
+pub returns-in-Err-clause-holding : goal.returns-in-Err-clause-holding
+returns-in-Err-clause-holding g c =
+    subst (λ (x : GuardFields g.row.T.Denot g.row.T-Edit.Denot). KeepsHolding x.seat c.reserve.new.self.seat) c.reserve.ensures.same (record { holds = λ l held. held; writes = λ l held. held; asks = λ part is. is })

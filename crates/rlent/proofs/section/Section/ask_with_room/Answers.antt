@@ -12,10 +12,10 @@ use Rattle.rstate.specs.Histories.{lock_after, IsLawfulFrom}
 use Rattle.rstate.specs.Moves.{HasRoomFor}
 use Rattle.rstate.proofs.homes.Lists.{same_item, get_here, get_beside}
 use Rattle.rlent.specs.declared.kind.GuardKind.TheVariants as kinds
-use Rattle.rlent.specs.Guards.{KeepsValues, IsPartOf}
+use Rattle.rlent.specs.Guards.{KeepsValues, KeepsHolding, IsPartOf}
 use Rattle.rlent.specs.Seats.{Goes, IsOneTurn, bare}
 use Rattle.rlent.specs.Sections.{SectionFields, HasRoom, Holds, guarded}
-use Rattle.rlent.proofs.Asking.{waits_of, ready_of, ask_fits, ask_accepted, waits_for_part, keeps_values}
+use Rattle.rlent.proofs.Asking.{waits_of, ready_of, ask_fits, ask_accepted, waits_for_part, keeps_values, keeps_holding}
 use Rattle.rlent.proofs.seats.Finding.{Finds, finds, lock_is, holding_later}
 use Rattle.rlent.proofs.Looking.{held_is, may_take_lent, may_take_room, holds_now}
 use Rattle.rlent.proofs.seats.Turning.{went, one_turn, seen_is, number_is, has_now, knows_now, appends_one, appends_none}
@@ -220,6 +220,24 @@ returns-in-Err-clause-err g c =
       subst (λ (s : SectionFields V E). Goes s.seat [] later) c.self.view_is (went g.T.Editable.after g.T.Editable.taken g.T.Editable.number h.began a.seat found now c.enter-turn.result.pass later [] f longer pass_is c.leave-seat-in-Err.ensures),
     )
 
+pub returns-in-Err-clause-turn_err : goal.returns-in-Err-clause-turn_err
+returns-in-Err-clause-turn_err g c =
+    let a = c.self.inside in
+    let V = g.row.T.Denot in
+    let E = g.row.T-Edit.Denot in
+    let view : SectionFields V E = record { site = a.lock.now; seat = a.seat; lent = a.lent; own = a.own.items; acts = a.acts.items } in
+    let h : Holds g.T.Editable.after g.T.Editable.taken g.T.Editable.number kinds.Nest view = subst (λ (s : SectionFields V E). Holds g.T.Editable.after g.T.Editable.taken g.T.Editable.number kinds.Nest s) (sym c.self.view_is) c.requires.holds in
+    let found = c.state-state.result.now in
+    let f : Finds g.T.Editable.after g.T.Editable.taken g.T.Editable.number h.began a.seat found = finds g.T.Editable.after g.T.Editable.taken g.T.Editable.number h.began a.lock.now a.seat found h.from.knows
+    (subst (λ (x : Contents V E). IsTrueOf (λ (entry : EntryFields E). seat_of entry.event) (λ n (before later : Contents V E). slice_get later.taken n ≡ slice_get before.taken n) a.seat x.beginning x.entries x) (sym c.state-state.ensures.value) c.enter-turn.ensures.state)
+    c.history.ensures.lawful in
+    let now = c.take.new.self in
+    let later = c.leave-seat-in-Err.result in
+    let same_entries : now.entries ≡ found.entries = c.take.ensures.entries ∙ ap (λ (x : Contents V E). x.entries) c.in-Err.ensures.err in
+    let longer : now.entries ≡ found.entries ++ [] = same_entries ∙ sym (append-nil found.entries) in
+    let pass_is : c.enter-turn.result.pass ≡ entered a.seat found.entries = c.enter-turn.ensures.pass ∙ ap (λ (x : Contents V E). entered a.seat x.entries) (sym c.state-state.ensures.value) in
+    subst (λ (s : SectionFields V E). IsOneTurn s.seat [] later) c.self.view_is (one_turn g.T.Editable.after g.T.Editable.taken g.T.Editable.number h.began a.seat found now c.enter-turn.result.pass later [] f longer pass_is c.leave-seat-in-Err.ensures)
+
 pub returns-in-Err-clause-values : goal.returns-in-Err-clause-values
 returns-in-Err-clause-values g c =
     let a = c.self.inside in
@@ -239,3 +257,23 @@ returns-in-Err-clause-values g c =
     let goes : Goes a.seat [] later = went g.T.Editable.after g.T.Editable.taken g.T.Editable.number h.began a.seat found now c.enter-turn.result.pass later [] f longer pass_is c.leave-seat-in-Err.ensures in
     subst (λ (s : SectionFields V E). KeepsValues g.T.Editable.after (guarded s) (record { site = a.lock.now; seat = later; acts = a.acts.items })) c.self.view_is
     (keeps_values g.T.Editable.after g.T.Editable.taken g.T.Editable.number h.began a.lock.now a.lock.now a.seat later a.acts.items found f h.from.knows.opening goes.same.2 (seen_is g.T.Editable.after g.T.Editable.taken g.T.Editable.number h.began a.seat found now c.enter-turn.result.pass later [] f longer pass_is c.leave-seat-in-Err.ensures ∙ same_entries))
+
+pub returns-in-Err-clause-holding : goal.returns-in-Err-clause-holding
+returns-in-Err-clause-holding g c =
+    let a = c.self.inside in
+    let V = g.row.T.Denot in
+    let E = g.row.T-Edit.Denot in
+    let view : SectionFields V E = record { site = a.lock.now; seat = a.seat; lent = a.lent; own = a.own.items; acts = a.acts.items } in
+    let h : Holds g.T.Editable.after g.T.Editable.taken g.T.Editable.number kinds.Nest view = subst (λ (s : SectionFields V E). Holds g.T.Editable.after g.T.Editable.taken g.T.Editable.number kinds.Nest s) (sym c.self.view_is) c.requires.holds in
+    let found = c.state-state.result.now in
+    let f : Finds g.T.Editable.after g.T.Editable.taken g.T.Editable.number h.began a.seat found = finds g.T.Editable.after g.T.Editable.taken g.T.Editable.number h.began a.lock.now a.seat found h.from.knows
+    (subst (λ (x : Contents V E). IsTrueOf (λ (entry : EntryFields E). seat_of entry.event) (λ n (before later : Contents V E). slice_get later.taken n ≡ slice_get before.taken n) a.seat x.beginning x.entries x) (sym c.state-state.ensures.value) c.enter-turn.ensures.state)
+    c.history.ensures.lawful in
+    let now = c.take.new.self in
+    let later = c.leave-seat-in-Err.result in
+    let same_entries : now.entries ≡ found.entries = c.take.ensures.entries ∙ ap (λ (x : Contents V E). x.entries) c.in-Err.ensures.err in
+    let longer : now.entries ≡ found.entries ++ [] = same_entries ∙ sym (append-nil found.entries) in
+    let pass_is : c.enter-turn.result.pass ≡ entered a.seat found.entries = c.enter-turn.ensures.pass ∙ ap (λ (x : Contents V E). entered a.seat x.entries) (sym c.state-state.ensures.value) in
+    let goes : Goes a.seat [] later = went g.T.Editable.after g.T.Editable.taken g.T.Editable.number h.began a.seat found now c.enter-turn.result.pass later [] f longer pass_is c.leave-seat-in-Err.ensures in
+    subst (λ (s : SectionFields V E). KeepsHolding s.seat later) c.self.view_is
+    (keeps_holding g.T.Editable.after g.T.Editable.taken g.T.Editable.number h.began a.seat later found f h.from.knows.opening goes.same.2 goes.same.1 (seen_is g.T.Editable.after g.T.Editable.taken g.T.Editable.number h.began a.seat found now c.enter-turn.result.pass later [] f longer pass_is c.leave-seat-in-Err.ensures ∙ same_entries))

@@ -79,6 +79,18 @@ returns-in-Err-clause-err g c =
     let longer : c.issue.new.self.entries ≡ found.entries ++ [] = ap (λ (x : Contents V E). x.entries) c.in-Err.ensures.err ∙ sym (append-nil found.entries) in
     goes_on g.T.Editable.after g.T.Editable.taken g.T.Editable.number c.args.lock.now k found c.requires.of tells c.history.ensures.lawful c.history.ensures.values c.issue.new.self c.enter-turn.result.pass c.leave-in-Err.result [] longer pass_is c.leave-in-Err.ensures
 
+pub returns-in-Err-clause-turn_err : goal.returns-in-Err-clause-turn_err
+returns-in-Err-clause-turn_err g c =
+    let V = g.row.T.Denot in
+    let E = g.row.T-Edit.Denot in
+    let k : SeatOf V E = c.args.seat in
+    let found = c.state-state.result.now in
+    let tells : IsTrueOf (λ (entry : EntryFields E). seat_of entry.event) (λ n (before later : Contents V E). slice_get later.taken n ≡ slice_get before.taken n) k found.beginning found.entries found =
+    subst (λ (x : Contents V E). IsTrueOf (λ (entry : EntryFields E). seat_of entry.event) (λ n (before later : Contents V E). slice_get later.taken n ≡ slice_get before.taken n) k x.beginning x.entries x) (sym c.state-state.ensures.value) c.enter-turn.ensures.state in
+    let pass_is : c.enter-turn.result.pass ≡ entered k found.entries = c.enter-turn.ensures.pass ∙ ap (λ (x : Contents V E). entered k x.entries) (sym c.state-state.ensures.value) in
+    let longer : c.issue.new.self.entries ≡ found.entries ++ [] = ap (λ (x : Contents V E). x.entries) c.in-Err.ensures.err ∙ sym (append-nil found.entries) in
+    takes_turn g.T.Editable.after g.T.Editable.taken g.T.Editable.number c.args.lock.now k found c.requires.of tells c.history.ensures.lawful c.history.ensures.values c.issue.new.self c.enter-turn.result.pass c.leave-in-Err.result [] longer pass_is c.leave-in-Err.ensures
+
 pub returns-in-Err-clause-idle : goal.returns-in-Err-clause-idle
 returns-in-Err-clause-idle g c =
     let V = g.row.T.Denot in

@@ -31,3 +31,6 @@ returns-clause-ends g c =
       from = subst (λ (lent : LentFields V). EndsFrom g.T.Editable.after g.T.Editable.taken g.T.Editable.number h.began (record { site = a.lock.now; seat = a.seat; lent = lent; own = a.own.items; acts = a.acts.items })) (sym c.replace_all.ensures)
           (ends_shared g.T.Editable.after g.T.Editable.taken g.T.Editable.number c.requires.0 h.began view h.from (c.from.result + 1) n_is (with_shares a.lent.writes c.in_ok-made.made.items) (ap (with_shares a.lent.writes) made_is));
     }
+
+pub returns-clause-same : goal.returns-clause-same
+returns-clause-same g c = ap (λ (s : SectionFields g.row.T.Denot g.row.T-Edit.Denot). record s { lent = c.replace_all.new.lent }) c.self.view_is
