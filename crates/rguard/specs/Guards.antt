@@ -11,7 +11,7 @@ use Rattle.rstate.specs.Histories.{IsLawfulFrom}
 use Rattle.rlent.specs.declared.kind.GuardKind.{GuardKind}
 use Rattle.rlent.specs.declared.kind.GuardKind.TheVariants.{Nest}
 use Rattle.rlent.specs.Seats.{SeatOf, bare, Goes, IsOneTurn}
-pub use Rattle.rlent.specs.Guards.{GuardFields, kind_for, AsSeen, Holding, HoldingToWrite, IsReady, HasValue, IsPartOf, KeepsValues}
+pub use Rattle.rlent.specs.Guards.{GuardFields, kind_for, AsSeen, Holding, HoldingToWrite, IsReady, HasValue, IsPartOf, KeepsValues, KeepsHolding}
 
 -- a wait: the same, and the kind of the guard that comes of it
 pub record WaitFields (V E : Type 0) : Type 0 where

@@ -1,6 +1,6 @@
 //! Waiting until a wait is over.
 ghost use Rattle.std.specs.Prelude.{[], IfOk, IfErr};
-ghost use Rattle.rguard.specs.Seats.{IsOf, IsIdle, SuitsSeat, Goes};
+ghost use Rattle.rguard.specs.Seats.{IsOf, IsIdle, SuitsSeat, Goes, ComesBack};
 ghost use Rattle.rguard.specs.Looks.{HasAwaited, HasAcquired};
 
 use crate::guard::{Guard, guard_of};
@@ -32,6 +32,7 @@ impl<T: Editable, M: Machine> Lock<State<T, M>> {
         requires suits { SuitsSeat seat request }
         ensures ok { IfOk result (HasAcquired self.entry.now seat request) }
         ensures err { IfErr result (λ e. Goes seat [] e.0) }
+        ensures turn_err { IfErr result (λ e. ComesBack seat e.0) }
         ensures idle { IfErr result (λ e. IsIdle e.0) }
     {
         match self.begin(rt, alloc, seat, request) {

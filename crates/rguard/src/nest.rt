@@ -1,8 +1,8 @@
 //! The guard of a nested request.
 ghost use Rattle.std.specs.Prelude.{◌≡◌, true, ◌∷◌, [], IfOk, IfErr};
 ghost use Rattle.rclaim.specs.declared.event.Event.TheVariants.{Ask};
-ghost use Rattle.rguard.specs.Seats.{Goes, bare};
-ghost use Rattle.rguard.specs.Guards.{IsPartOf, KeepsValues, HasAsked, IsReady};
+ghost use Rattle.rguard.specs.Seats.{Goes, ComesBack, bare};
+ghost use Rattle.rguard.specs.Guards.{IsPartOf, KeepsValues, KeepsHolding, HasAsked, IsReady};
 
 use crate::awaited::Awaited;
 use crate::kinds::Nesting;
@@ -22,7 +22,8 @@ impl<'a, T: Editable, M: Machine> SectionGuard<'a, T, M, Nesting> {
     ///
     /// # Errors
     ///
-    /// Want of memory. Nothing was asked for then, and the guard comes back with its acts and values.
+    /// Want of memory. Nothing was asked for then, and the guard comes back with its acts and values: it holds what it held, and may ask
+    /// again.
     pub fn begin_ask<R: Wait>(
         self,
         rt: &R,
@@ -32,7 +33,9 @@ impl<'a, T: Editable, M: Machine> SectionGuard<'a, T, M, Nesting> {
         requires { IsPartOf self.seat set }
         ensures ok { IfOk result (HasAsked self.entry set) }
         ensures err { IfErr result (λ e. (e.0.site ≡ self.entry.site) × (e.0.acts ≡ self.entry.acts) × Goes self.entry.seat [] e.0.seat) }
+        ensures turn_err { IfErr result (λ e. ComesBack self.entry.seat e.0.seat) }
         ensures values { IfErr result (λ e. KeepsValues T.after self.entry e.0) }
+        ensures holding { IfErr result (λ e. KeepsHolding self.entry.seat e.0.seat) }
     {
         let _ = alloc;
         let SectionGuard { section, kind: _ } = self;
@@ -55,7 +58,8 @@ impl<'a, T: Editable, M: Machine> SectionGuard<'a, T, M, Nesting> {
     ///
     /// # Errors
     ///
-    /// Want of memory. Nothing was asked for then, and the guard comes back with its acts and values.
+    /// Want of memory. Nothing was asked for then, and the guard comes back with its acts and values: it holds what it held, and may ask
+    /// again.
     pub fn ask<R: Wait>(
         self,
         rt: &R,
@@ -67,7 +71,9 @@ impl<'a, T: Editable, M: Machine> SectionGuard<'a, T, M, Nesting> {
         ensures goes { IfOk result (λ guard. Goes self.entry.seat (bare (Ask self.entry.seat.number set) ∷ []) guard.seat) }
         ensures ready { IfOk result (λ guard. IsReady guard.seat true) }
         ensures err { IfErr result (λ e. (e.0.site ≡ self.entry.site) × (e.0.acts ≡ self.entry.acts) × Goes self.entry.seat [] e.0.seat) }
+        ensures turn_err { IfErr result (λ e. ComesBack self.entry.seat e.0.seat) }
         ensures values { IfErr result (λ e. KeepsValues T.after self.entry e.0) }
+        ensures holding { IfErr result (λ e. KeepsHolding self.entry.seat e.0.seat) }
     {
         let _ = alloc;
         let SectionGuard { section, kind: _ } = self;

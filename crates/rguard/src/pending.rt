@@ -1,7 +1,7 @@
 //! Waits for a guard.
 ghost use Rattle.std.specs.Prelude.{◌≡◌, [], IfOk, IfErr};
 ghost use Rattle.rlent.specs.Sections.{no_loans};
-ghost use Rattle.rguard.specs.Seats.{IsOf, IsIdle, SuitsSeat, Goes};
+ghost use Rattle.rguard.specs.Seats.{IsOf, IsIdle, SuitsSeat, Goes, ComesBack};
 ghost use Rattle.rguard.specs.Awaiting.{awaited_kind};
 ghost use Rattle.rguard.specs.Guards.{HasSeenLawful, HasSeenOwn, HasBegun, kind_for};
 ghost use Rattle.rguard.specs.Looks.{LooksAt};
@@ -68,6 +68,7 @@ impl<T: Editable, M: Machine> Lock<State<T, M>> {
         requires suits { SuitsSeat seat request }
         ensures ok { IfOk result (HasBegun self.entry.now seat request) }
         ensures err { IfErr result (λ e. Goes seat [] e.0) }
+        ensures turn_err { IfErr result (λ e. ComesBack seat e.0) }
         ensures idle { IfErr result (λ e. IsIdle e.0) }
     {
         match rooms(alloc, request.kind()) {

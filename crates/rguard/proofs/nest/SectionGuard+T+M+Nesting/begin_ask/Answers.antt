@@ -1,6 +1,6 @@
 use Rattle.std.proofs.Common.{◌≡◌, [], refl, sym, subst}
-use Rattle.rguard.specs.Guards.{GuardFields, HasAsked, IsPartOf, KeepsValues}
-use Rattle.rguard.specs.Seats.{Goes}
+use Rattle.rguard.specs.Guards.{GuardFields, HasAsked, IsPartOf, KeepsValues, KeepsHolding}
+use Rattle.rguard.specs.Seats.{Goes, ComesBack}
 use Rattle.rlent.specs.Sections.{guarded}
 use Rattle.rguard.specs.Awaiting.{waiting}
 use Rattle.rlent.specs.declared.kind.GuardKind.TheVariants.{Nest}
@@ -19,6 +19,14 @@ pub returns-in-Err-clause-err : goal.returns-in-Err-clause-err
 returns-in-Err-clause-err g c =
     subst (λ (x : GuardFields g.row.T.Denot g.row.T-Edit.Denot). (c.in-Err.section.site ≡ x.site) × (c.in-Err.section.acts ≡ x.acts) × Goes x.seat [] c.in-Err.section.seat) c.self.view_is c.in-Err.ensures.err
 
+pub returns-in-Err-clause-turn_err : goal.returns-in-Err-clause-turn_err
+returns-in-Err-clause-turn_err g c =
+    subst (λ (x : GuardFields g.row.T.Denot g.row.T-Edit.Denot). ComesBack x.seat c.in-Err.section.seat) c.self.view_is c.in-Err.ensures.turn_err
+
 pub returns-in-Err-clause-values : goal.returns-in-Err-clause-values
 returns-in-Err-clause-values g c =
     subst (λ (x : GuardFields g.row.T.Denot g.row.T-Edit.Denot). KeepsValues g.T.Editable.after x (guarded c.in-Err.section)) c.self.view_is c.in-Err.ensures.values
+
+pub returns-in-Err-clause-holding : goal.returns-in-Err-clause-holding
+returns-in-Err-clause-holding g c =
+    subst (λ (x : GuardFields g.row.T.Denot g.row.T-Edit.Denot). KeepsHolding x.seat c.in-Err.section.seat) c.self.view_is c.in-Err.ensures.holding
