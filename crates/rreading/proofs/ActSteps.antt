@@ -172,6 +172,7 @@ module _ (whole : Bool) (old : Reading) (s : SoFar) (h : Knows whole old s) (is 
         some_resource = λ _. h.some_resource (omega (arith, six));
         some_task = λ _. h.some_task (omega (arith, six));
         idle = λ e. absurd (omega (arith, e));
+        untold = h.untold;
         lock = h.lock ∙ ap (lock_after (head_in s)) were ∙ lock_same (head_in s) s.earlier entry after refl;
         stand = act_stand old.machine old.following entry after (past_in s) (past_in t) (subst (λ (l : Option Entry). StandBehind old.machine old.following l (past_in s)) o.is h.stand) same_past;
         due = λ _. h.due (omega (arith, six)) ∙ ap (λ (l : Option Entry). due_left whole old.told (due_list (changes_in old.machine) (ended_at (head_in s) s.earlier l))) o.is;

@@ -179,6 +179,7 @@ module _ (whole : Bool) (old : Reading) (s : SoFar) (h : Knows whole old s) (e :
           some_resource = λ _. h.some_resource (omega (arith, both.0));
           some_task = λ _. h.some_task both.0;
           idle = λ early. absurd (omega (arith, early, low));
+          untold = λ _. refl;
           lock = ap (λ (l : LockState). next l e) is ∙ sym (lock_push (head_in s) (entries_in s) (bare e));
           stand = (refl, subst (λ (es : List Event). Follows follower (record { groups = read_groups (head_in s); seats = length s.tasks; cap = (head_in s).cap; events = es })) (sym (events_push (entries_in s) (bare e))) follows);
           due = λ _. ap (λ (l : LockState). change_lines whole l e ++ wait_lines whole no_bounds (head_in s) (entries_in s) e) (sym is) ∙ due_is whole (head_in s) (entries_in s) state e active;

@@ -71,6 +71,8 @@ pub record Begins (whole : Bool) (reading : Reading) (s : SoFar) : Type 0 where
   pub earlier : s.earlier ≡ []
   pub latest : s.latest ≡ None
   pub told : reading.told ≡ 0
+  pub shown : reading.shown ≡ empty
+  pub edited : reading.edited ≡ empty
   pub due : s.due ≡ []
   pub many : length reading.ledgers.items ≡ length s.resources
   pub each : (l : ℕ) → l < length s.resources → slice_get reading.ledgers.items l ≡ Some opening_ledger
@@ -95,7 +97,8 @@ begun whole reading s b =
       no_groups = b.no_groups;
       some_resource = b.some_resource;
       some_task = b.some_task;
-      idle = λ _. (b.machine, b.earlier, b.latest, b.told);
+      idle = λ _. (b.machine, b.earlier, b.latest, b.told, b.shown, b.edited);
+      untold = λ _. b.told;
       lock = ap (state_in s) b.machine ∙ ap (lock_after (head_in s)) (sym none);
       stand = subst (λ (m : Option Standing). StandBehind m reading.following s.latest (past_in s)) (sym b.machine)
           (subst (λ (f : Option Following). StandBehind None f s.latest (past_in s)) (sym b.following) (b.latest, ap (λ xs. events_of xs) none));
@@ -128,6 +131,8 @@ begins whole reading s h low =
       earlier = idle.1;
       latest = idle.2;
       told = idle.3;
+      shown = idle.4;
+      edited = idle.5;
       due = h.due (omega (arith, low)) ∙ (λ i. due_left whole (idle.3 i) (due_list (changes_in (idle.0 i)) (ended_at (head_in s) s.earlier (idle.2 i)))) ∙ none_due whole (head_in s) s.earlier;
       many = h.ledgers.many;
       each = λ l small. h.ledgers.each l small ∙ ap (λ (xs : List Entry). Some (ledger_after xs l)) none;
@@ -204,6 +209,8 @@ module _ (whole : Bool) (old : Reading) (s : SoFar) (h : Knows whole old s) wher
           earlier = b.earlier;
           latest = b.latest;
           told = b.told;
+          shown = b.shown;
+          edited = b.edited;
           due = b.due;
           many = b.many;
           each = b.each;
@@ -238,6 +245,8 @@ module _ (whole : Bool) (old : Reading) (s : SoFar) (h : Knows whole old s) wher
           earlier = b.earlier;
           latest = b.latest;
           told = b.told;
+          shown = b.shown;
+          edited = b.edited;
           due = b.due;
           many = omega (arith, size, longer, same, many);
           each = λ l small. ap (λ xs. slice_get xs l) are ∙ opening_push old.ledgers.items (length s.resources) l b.many b.each (omega (arith, size, small));
@@ -268,6 +277,8 @@ module _ (whole : Bool) (old : Reading) (s : SoFar) (h : Knows whole old s) wher
           earlier = b.earlier;
           latest = b.latest;
           told = b.told;
+          shown = b.shown;
+          edited = b.edited;
           due = b.due;
           many = b.many;
           each = b.each;
@@ -298,6 +309,8 @@ module _ (whole : Bool) (old : Reading) (s : SoFar) (h : Knows whole old s) wher
           earlier = b.earlier;
           latest = b.latest;
           told = b.told;
+          shown = b.shown;
+          edited = b.edited;
           due = b.due;
           many = b.many;
           each = b.each;
@@ -326,6 +339,8 @@ module _ (whole : Bool) (old : Reading) (s : SoFar) (h : Knows whole old s) wher
           earlier = b.earlier;
           latest = b.latest;
           told = b.told;
+          shown = b.shown;
+          edited = b.edited;
           due = b.due;
           many = b.many;
           each = b.each;

@@ -1,5 +1,5 @@
 -- The ledgers at the end, and the end.
-use Rattle.std.proofs.Common.{◌≡◌, ◌⊎◌, ℕ, suc, ◌+◌, ◌≤◌, ◌<◌, Bool, true, false, not, ◌&&◌, cond, nat_le, List, [], ◌∷◌, drop, get_or, length, map, ◌==◌, Some, None, refl, sym, ap, ◌∙◌, arith, add-one, inl, inr}
+use Rattle.std.proofs.Common.{◌≡◌, ◌⊎◌, ℕ, suc, ◌+◌, ◌≤◌, ◌<◌, Bool, true, false, not, ◌&&◌, cond, nat_le, List, [], ◌∷◌, drop, get_or, length, map, ◌==◌, Some, None, refl, sym, ap, ◌∙◌, arith, add-one, inl, inr, true≢false}
 use Rattle.std.specs.List.{range_with_len}
 use Rattle.std.proofs.Math.Seq.{drop-cons, drop-nil}
 use Rattle.std.proofs.Math.ListN.{drop_of_length-le}
@@ -133,7 +133,7 @@ module _ (whole : Bool) (old : Reading) (s : SoFar) (h : Knows whole old s) wher
   leave_taken left place ledger is none small at test =
       let there = standing none in (
         by_first left place ledger true is none small at test ∙ no_plain_code (is_change_due s) (nat_le 4 s.last && nat_le s.last 8) none,
-        still whole old s 8 (ledgers_told old + 1) (drop 1 (ledgers_due whole s)) h there.1 (omega arith) (omega arith) (λ e. absurd (omega (arith, e)))
+        still whole old s 8 (ledgers_told old + 1) (drop 1 (ledgers_due whole s)) h there.1 (omega arith) (omega arith) (λ list. absurd (true≢false (sym is ∙ list))) (λ e. absurd (omega (arith, e)))
             (λ _. ap (λ (xs : List Line). drop 1 xs) (due_ledgers there.2) ∙ drop_one (ledger_lines whole (head_in s) (entries_in s)) (ledgers_told old)
             ∙ ap (λ n. drop n (ledger_lines whole (head_in s) (entries_in s))) (sym (add-one (ledgers_told old)))),
       )
@@ -156,7 +156,7 @@ module _ (whole : Bool) (old : Reading) (s : SoFar) (h : Knows whole old s) wher
         ends_is whole s
             ∙ ap (λ (xs : List Line). first_of (plain_causes false (is_change_due s) (nat_le 4 s.last && nat_le s.last 8) false None (not (is_nil xs)))) nil
             ∙ no_plain_code (is_change_due s) (nat_le 4 s.last && nat_le s.last 8) none,
-        still whole old s 9 old.told [] h there.1 (omega arith) (omega arith) (λ e. absurd (omega (arith, e))) (λ e. absurd (omega (arith, e))),
+        still whole old s 9 old.told [] h there.1 (omega arith) (omega arith) h.untold (λ e. absurd (omega (arith, e))) (λ e. absurd (omega (arith, e))),
       )
 
   pub end_taken : place_code s 4 8 ≡ None → length old.ledgers.items ≤ ledgers_told old → (line_code whole s Ends ≡ None) × Knows whole (record old { last = 9 }) (with_line whole s Ends)

@@ -6,5 +6,6 @@ pub mod ActSteps
 pub mod EventSteps
 pub mod HeadSteps
 pub mod Results
+pub mod Still
 pub mod OtherWords
 pub mod RowSteps

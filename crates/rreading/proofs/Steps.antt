@@ -33,10 +33,11 @@ groups_on whole old s h low place high = ap (λ b. cond b None (Some (read_group
 
 -- a line behind the head that adds nothing to the entries
 pub still : (whole : Bool) (old : Reading) (s : SoFar) (place told : ℕ) (due : List Line) → Knows whole old s → 4 ≤ s.last → 7 ≤ place → place ≤ 9
+    → (whole ≡ false → told ≡ 0)
     → (place ≤ 7 → due ≡ due_left whole told (due_list (changes_in old.machine) (last_ended s)))
     → (place ≡ 8 → due ≡ drop told (ledger_lines whole (head_in s) (entries_in s)))
     → Knows whole (record old { last = place; told = told }) (record s { last = place; due = due })
-still whole old s place told due h low high most changes left = record {
+still whole old s place told due h low high most untold changes left = record {
   kind = h.kind;
   last = refl;
   most = most;
@@ -49,6 +50,7 @@ still whole old s place told due h low high most changes left = record {
   some_resource = λ _. h.some_resource (omega (arith, low));
   some_task = λ _. h.some_task low;
   idle = λ e. absurd (omega (arith, e, high));
+  untold = untold;
   lock = h.lock;
   stand = h.stand;
   due = changes;
@@ -80,6 +82,12 @@ due_late whole old s h due = at (up_to_five s.last)
         absurd (true≢false (sym parts.1 ∙ ap (λ (xs : List Line). not (is_nil xs)) (h.due early ∙ none_early whole old.told old.machine (head_in s) s.earlier s.latest idle.0 idle.2 idle.3)))
     at (inr high) = (high, early)
 
+-- an event list has no line that is due
+list_undue : (whole : Bool) (old : Reading) (s : SoFar) → Knows whole old s → is_change_due s ≡ true → whole ≡ false → ⊥
+list_undue whole old s h due list =
+    let parts = and_parts (nat_lt s.last at_ledgers) (not (is_nil s.due)) due in
+    true≢false (sym parts.1 ∙ ap (λ (xs : List Line). not (is_nil xs)) (h.due (due_late whole old s h due).1 ∙ ap (λ w. due_left w old.told (due_list (changes_in old.machine) (last_ended s))) list))
+
 due_more : (whole : Bool) (told : ℕ) (lines : List Line) → drop 1 (due_left whole told lines) ≡ due_left whole (told + 1) lines
 due_more true told lines = drop_one lines told ∙ ap (λ n. drop n lines) (sym (add-one told))
 due_more false told lines = refl
@@ -88,10 +96,12 @@ due_more false told lines = refl
 pub change_taken : (whole : Bool) (old : Reading) (s : SoFar) (line : Line) → Knows whole old s → is_change line ≡ true → (is_change_due s && is_first s.due line) ≡ true
     → (line_code whole s line ≡ None) × Knows whole (record old { told = old.told + 1; last = 7 }) (with_line whole s line)
 change_taken whole old s line h change right =
-    let at = due_late whole old s h (and_parts (is_change_due s) (is_first s.due line) right).0 in (
+    let due = (and_parts (is_change_due s) (is_first s.due line) right).0 in
+    let at = due_late whole old s h due in (
       change_right whole s line change (omega (arith, at.1)) right,
       subst (λ (t : SoFar). Knows whole (record old { told = old.told + 1; last = 7 }) t) (sym (with_change whole s line change))
           (still whole old s 7 (old.told + 1) (drop 1 s.due) h (omega (arith, at.0)) (omega arith) (omega arith)
+          (λ list. absurd (list_undue whole old s h due list))
           (λ _. ap (λ (xs : List Line). drop 1 xs) (h.due at.1) ∙ due_more whole old.told (due_list (changes_in old.machine) (last_ended s))) (λ e. absurd (omega (arith, e)))),
     )
 

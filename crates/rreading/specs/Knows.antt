@@ -1,6 +1,6 @@
 -- What a reader keeps of what the records so far have said.
-use Rattle.std.specs.Prelude.{◌≡◌, ◌≤◌, ◌<◌, ℕ, Bool, true, ◌&&◌, nat_lt, List, [], ◌-◌, drop, filter, length, slice_get, Option, Some, None, IfSome, IsSome, if◌then◌else◌}
-use Rattle.std.specs.FinSet.{contains}
+use Rattle.std.specs.Prelude.{◌≡◌, ◌≤◌, ◌<◌, ℕ, Bool, true, false, ◌&&◌, nat_lt, List, [], ◌-◌, drop, filter, length, slice_get, Option, Some, None, IfSome, IsSome, if◌then◌else◌}
+use Rattle.std.specs.FinSet.{contains, empty}
 use Rattle.rset.specs.Sets.{Set}
 use Rattle.rset.specs.declared.TheConstants.{SEATS}
 use Rattle.rexpand.specs.Groups.{ReadGroups}
@@ -102,7 +102,8 @@ pub record Knows (whole : Bool) (reading : Reading) (s : SoFar) : Type 0 where
   pub no_groups : s.last ≤ 2 → s.groups ≡ []
   pub some_resource : 2 ≤ s.last → 0 < length s.resources
   pub some_task : 4 ≤ s.last → 0 < length s.tasks
-  pub idle : s.last ≤ 5 → (reading.machine ≡ None) × (s.earlier ≡ []) × (s.latest ≡ None) × (reading.told ≡ 0)
+  pub idle : s.last ≤ 5 → (reading.machine ≡ None) × (s.earlier ≡ []) × (s.latest ≡ None) × (reading.told ≡ 0) × (reading.shown ≡ empty) × (reading.edited ≡ empty)
+  pub untold : whole ≡ false → reading.told ≡ 0
   pub lock : state_in s reading.machine ≡ lock_in s
   pub stand : StandBehind reading.machine reading.following s.latest (past_in s)
   pub due : s.last ≤ 7 → s.due ≡ due_left whole reading.told (due_list (changes_in reading.machine) (last_ended s))

@@ -1,5 +1,5 @@
 -- What it is to take a line, or a record, and to tell what is wrong with it.
-use Rattle.std.specs.Prelude.{◌≡◌, ◌<◌, ◌^◌, ℕ, Bool, true, ◌&&◌, nat_le, ◌==◌, List, [], ◌∷◌, length, Option, Some, None, IsSome, IsTrue, option_map, if◌then◌else◌}
+use Rattle.std.specs.Prelude.{◌≡◌, ◌<◌, ◌^◌, ℕ, Bool, true, ◌&&◌, nat_le, ◌==◌, List, [], ◌∷◌, ◌++◌, length, Option, Some, None, IsSome, IfSome, IsTrue, option_map, if◌then◌else◌}
 use Rattle.std.specs.FinSet.{union, empty}
 use Rattle.rset.specs.Sets.{Set, all_below}
 use Rattle.rexpand.specs.Groups.{ReadGroups}
@@ -14,6 +14,7 @@ use Rattle.rmodel.specs.State.{LockState}
 use Rattle.rmodel.specs.Steps.{next}
 use Rattle.rmodel.specs.declared.granted.Granted.{Granted}
 use Rattle.rcover.specs.declared.wait_end.WaitEnd.{WaitEnd}
+use Rattle.rwaits.specs.Follows.{Follows}
 use Rattle.rforms.specs.Records.{Row}
 use Rattle.rforms.specs.Lines.{Line}
 use Rattle.rbound.specs.Bounds.{Numbers, numbers_in}
@@ -27,7 +28,7 @@ use Rattle.rrecords.specs.declared.event.EventTold.TheVariants as event_told
 use Rattle.rreading.specs.declared.reading.Reading.{Reading}
 use Rattle.rreading.specs.declared.taken.Taken.{Taken}
 use Rattle.rreading.specs.declared.taken.Taken.TheVariants as taken
-use Rattle.rreading.specs.Knows.{Knows, waits_due}
+use Rattle.rreading.specs.Knows.{Knows, changes_in, past_in, waits_due}
 
 -- what is wrong with the place of a line that tells no change and is no act, and that may come behind these places
 abbrev pub place_code : SoFar → ℕ → ℕ → Option Code
@@ -71,6 +72,22 @@ TakesRow old new row what =
 
 abbrev pub RefusesRow : Reading → Row → Code → Type 0
 RefusesRow old row code = (whole : Bool) (s : SoFar) → Knows whole old s → code_of whole s row ≡ Some code
+
+-- these names are the first of all, and so keep their numbers
+abbrev pub AreFirstOf : List (List ℕ) → List (List ℕ) → Type 0
+AreFirstOf names all = (more : List (List ℕ)) × (all ≡ names ++ more)
+
+-- what is due is due still: nothing more was told, the changes and the ledgers are as they were, the names keep their numbers, and whatever was said, its events are still followed
+pub record StillDue (old new : Reading) : Type 0 where
+  pub kind : new.whole ≡ old.whole
+  pub resources : AreFirstOf old.resources new.resources
+  pub tasks : AreFirstOf old.tasks new.tasks
+  pub last : new.last ≡ old.last
+  pub told : new.told ≡ old.told
+  pub changes : changes_in new.machine ≡ changes_in old.machine
+  pub ledgers : new.ledgers.items ≡ old.ledgers.items
+  pub there : IsSome old.following → IsSome new.following
+  pub followed : (whole : Bool) (s : SoFar) → Knows whole old s → IfSome new.following (λ f. Follows f (past_in s))
 
 -- a reader knows what was said, and stamps are left
 abbrev pub IsReady : Reading → Type 0

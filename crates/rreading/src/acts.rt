@@ -1,5 +1,5 @@
 // The acts of the latest event's section.
-ghost use Rattle.std.specs.Prelude.{◌≡◌, ◌<◌, OnOk, IfErr, true, length};
+ghost use Rattle.std.specs.Prelude.{◌≡◌, ◌<◌, OnOk, OnErr, IfErr, true, length};
 ghost use Rattle.rset.specs.declared.TheConstants.{RESOURCES};
 ghost use Rattle.rvalue.specs.Acts.{place_of};
 ghost use Rattle.rforms.specs.Lines.{Does};
@@ -21,6 +21,7 @@ impl Reading {
         ensures taken { OnOk result (Takes self.old self.new (Does act.now)) }
         ensures placed { OnOk result (self.old.last ≡ 6) }
         ensures bad { IfErr result (λ code. Refuses self.old (Does act.now) code) }
+        ensures still { OnErr result (self.new ≡ self.old) }
     {
         if self.last != AT_ACTS {
             return Err(if self.is_change_due() {

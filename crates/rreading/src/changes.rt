@@ -1,5 +1,5 @@
 // The lines that tell what the latest event changed, and which waits it ended.
-ghost use Rattle.std.specs.Prelude.{◌≡◌, ◌<◌, ◌^◌, ◌+◌, ◌&&◌, Bool, is_some, OnOk, IfOk, IfErr, IfSome, IsTrue};
+ghost use Rattle.std.specs.Prelude.{◌≡◌, ◌<◌, ◌^◌, ◌+◌, ◌&&◌, Bool, is_some, OnOk, OnErr, IfOk, IfErr, IfSome, IsTrue};
 ghost use Rattle.rforms.specs.Lines.{Grants};
 ghost use Rattle.rforms.specs.Reports.{status_line};
 ghost use Rattle.rforms.specs.SoFar.{SoFar};
@@ -23,6 +23,7 @@ impl Reading {
     pub fn status(&mut self, change: StatusChange) -> Result<(), Code>
         ensures taken { OnOk result (Takes self.old self.new (status_line change)) }
         ensures bad { IfErr result (λ code. Refuses self.old (status_line change) code) }
+        ensures still { OnErr result (self.new ≡ self.old) }
     {
         if self.last == AT_END {
             return Err(Code::BadOrder);
@@ -39,6 +40,7 @@ impl Reading {
     pub fn grant(&mut self, seat: u8, set: ResourceSet) -> Result<(), Code>
         ensures taken { OnOk result (Takes self.old self.new (Grants seat set)) }
         ensures bad { IfErr result (λ code. Refuses self.old (Grants seat set) code) }
+        ensures still { OnErr result (self.new ≡ self.old) }
     {
         if self.last == AT_END {
             return Err(Code::BadOrder);
@@ -56,6 +58,7 @@ impl Reading {
         ensures taken { OnOk result (Takes self.old self.new (line_told wait.now)) }
         ensures first { IfOk result (λ due. IsFirstDue self.old (line_told wait.now) due) }
         ensures bad { IfErr result (λ code. Refuses self.old (line_told wait.now) code) }
+        ensures still { OnErr result (self.new ≡ self.old) }
     {
         if self.last == AT_END {
             return Err(Code::BadOrder);

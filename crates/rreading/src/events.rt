@@ -1,5 +1,5 @@
 // The events: each is stepped once.
-ghost use Rattle.std.specs.Prelude.{◌≡◌, ◌<◌, ◌^◌, length, Bool, true, OnOk, IfErr, IfSome, IsSome, Some, None};
+ghost use Rattle.std.specs.Prelude.{◌≡◌, ◌<◌, ◌^◌, length, Bool, true, OnOk, OnErr, IfErr, IfSome, IsSome, Some, None};
 ghost use Rattle.rclaim.specs.Events.{seat_of};
 ghost use Rattle.rmodel.specs.Changes.{AreActive};
 ghost use Rattle.rmodel.specs.Holds.{holds_of};
@@ -10,7 +10,7 @@ ghost use Rattle.rforms.specs.Lines.{Happens};
 ghost use Rattle.rforms.specs.SoFar.{SoFar, lock_in, entries_in, event_place};
 ghost use Rattle.rforms.specs.declared.fault.Code.{Code};
 ghost use Rattle.rreading.specs.Knows.{Knows, state_in, changes_in, past_in};
-ghost use Rattle.rreading.specs.Takes.{Takes, Refuses, IsReady, IsPlaced, FitsTold, Allows, event_admitted, edited_by, stepped};
+ghost use Rattle.rreading.specs.Takes.{Takes, Refuses, StillDue, IsReady, IsPlaced, FitsTold, Allows, event_admitted, edited_by, stepped};
 
 use crate::place::{AT_ACTS, AT_CHANGES};
 use crate::reading::Reading;
@@ -24,12 +24,17 @@ use rwaits::Following;
 use std::alloc::{AllocError, Global};
 
 /// One step of the machine, by an event whose request is right by itself, and of what follows it.
+///
+/// # Errors
+///
+/// Its refusal. Then the machine stands as before, and the same events are followed.
 pub fn apply(machine: &mut Plain, following: &mut Following, event: &Event) -> Result<(), Refusal>
     requires fits { FitsTold machine.old.state event.now }
     requires known { (p : Past) × Follows following.old p × (machine.old.state ≡ state_of p) × (length p.events < 2 ^ 63) }
     ensures stepped { OnOk result ((refusal_in machine.old.state event.now ≡ None) × (machine.new ≡ stepped machine.old.state event.now) × AreActive (stepped machine.old.state event.now).last.statuses) }
     ensures followed { OnOk result ((p : Past) → Follows following.old p → machine.old.state ≡ state_of p → Follows following.new (with_event p event.now)) }
     ensures refused { IfErr result (λ cause. refusal_in machine.old.state event.now ≡ Some cause) }
+    ensures still { OnErr result ((machine.new ≡ machine.old) × ((p : Past) → Follows following.old p → Follows following.new p)) }
 {
     if !is_admitted(machine.groups(), event) {
         return Err(Refusal::Request(RequestErr::Undeclared));
@@ -55,13 +60,14 @@ impl Reading {
     ///
     /// # Errors
     ///
-    /// Its refusal, or want of memory at the first event.
+    /// Its refusal, or want of memory at the first event. Where it is refused, what was due is due still.
     pub fn happen(&mut self, alloc: Global, event: &Event) -> Result<(), RowErr>
         requires ready { IsReady self.old }
         requires placed { IsPlaced self.old }
         requires fits { (whole : Bool) (s : SoFar) → Knows whole self.old s → length (entries_in s) < 2 ^ 62 → FitsTold (lock_in s) event.now }
         ensures taken { OnOk result (Takes self.old self.new (Happens event.now)) }
         ensures bad { (code : Code) → result ≡ Err (RowErr.Bad code) → Refuses self.old (Happens event.now) code }
+        ensures still { (code : Code) → result ≡ Err (RowErr.Bad code) → StillDue self.old self.new }
     {
         let Ok(()) = self.make_machine(alloc) else {
             return Err(RowErr::Memory);

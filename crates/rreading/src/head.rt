@@ -1,5 +1,5 @@
 // The records of the head.
-ghost use Rattle.std.specs.Prelude.{◌≡◌, ◌<◌, ◌≤◌, ◌++◌, ◌∷◌, [], length, Some, true, false, Bool, OnOk, IfErr, IsTrue};
+ghost use Rattle.std.specs.Prelude.{◌≡◌, ◌<◌, ◌≤◌, ◌++◌, ◌∷◌, [], length, Some, true, false, Bool, OnOk, OnErr, IfErr, IsTrue};
 ghost use Rattle.rset.specs.Sets.{all_below};
 ghost use Rattle.rset.specs.declared.TheConstants.{RESOURCES, SEATS};
 ghost use Rattle.rexpand.specs.declared.TheConstants.{GROUPS};
@@ -8,7 +8,7 @@ ghost use Rattle.rforms.specs.Lines.{Opens, HasResource, HasGroup, HasTask, HasC
 ghost use Rattle.rforms.specs.SoFar.{SoFar};
 ghost use Rattle.rforms.specs.declared.fault.Code.{Code};
 ghost use Rattle.rreading.specs.Knows.{Knows};
-ghost use Rattle.rreading.specs.Takes.{Takes, Refuses, AreMade};
+ghost use Rattle.rreading.specs.Takes.{Takes, Refuses, StillDue, AreMade};
 
 use crate::place::{AT_CAP, AT_GROUPS, AT_RESOURCES, AT_START, AT_TASKS, AT_VERSION};
 use crate::reading::Reading;
@@ -23,6 +23,7 @@ impl Reading {
     pub fn open(&mut self) -> Result<(), Code>
         ensures taken { OnOk result (Takes self.old self.new Opens) }
         ensures bad { IfErr result (λ code. Refuses self.old Opens code) }
+        ensures still { OnErr result (self.new ≡ self.old) }
     {
         if let Some(code) = self.misplaced(AT_START, AT_START) {
             return Err(code);
@@ -35,6 +36,7 @@ impl Reading {
     pub fn resource(&mut self, name: &[u8]) -> Result<(), RowErr>
         ensures taken { OnOk result (Takes self.old self.new (HasResource name.now)) }
         ensures bad { (code : Code) → result ≡ Err (RowErr.Bad code) → Refuses self.old (HasResource name.now) code }
+        ensures still { (code : Code) → result ≡ Err (RowErr.Bad code) → StillDue self.old self.new }
     {
         let misplaced = self.misplaced(AT_VERSION, AT_RESOURCES);
         if let Err(e) = declare(&mut self.resources, name) {
@@ -54,6 +56,7 @@ impl Reading {
     pub fn task(&mut self, alloc: Global, name: &[u8]) -> Result<(), RowErr>
         ensures taken { OnOk result (Takes self.old self.new (HasTask name.now)) }
         ensures bad { (code : Code) → result ≡ Err (RowErr.Bad code) → Refuses self.old (HasTask name.now) code }
+        ensures still { (code : Code) → result ≡ Err (RowErr.Bad code) → StillDue self.old self.new }
     {
         let misplaced = self.misplaced(AT_RESOURCES, AT_TASKS);
         if let Err(e) = declare(&mut self.tasks, name) {
@@ -76,6 +79,7 @@ impl Reading {
         requires below { IsTrue (all_below (length self.old.resources) set) }
         ensures taken { OnOk result (Takes self.old self.new (HasGroup set)) }
         ensures bad { (code : Code) → result ≡ Err (RowErr.Bad code) → Refuses self.old (HasGroup set) code }
+        ensures still { (code : Code) → result ≡ Err (RowErr.Bad code) → StillDue self.old self.new }
     {
         if set.is_empty() {
             return Err(RowErr::Bad(Code::BadField));
@@ -101,6 +105,7 @@ impl Reading {
         requires { (1 ≤ cap) × (cap ≤ SEATS) }
         ensures taken { OnOk result (Takes self.old self.new (HasCap cap)) }
         ensures bad { IfErr result (λ code. Refuses self.old (HasCap cap) code) }
+        ensures still { OnErr result (self.new ≡ self.old) }
     {
         if let Some(code) = self.misplaced(AT_TASKS, AT_TASKS) {
             return Err(code);
@@ -126,6 +131,7 @@ fn make_groups(alloc: Global, groups: &mut Option<Groups>, q: u8) -> Result<(), 
 fn declare(table: &mut NameTable, name: &[u8]) -> Result<(), RowErr>
     ensures ok { OnOk result ((is_bad_name RESOURCES table.old name.now ≡ false) × (table.new ≡ table.old ++ name.now ∷ [])) }
     ensures bad { (code : Code) → result ≡ Err (RowErr.Bad code) → (is_bad_name RESOURCES table.old name.now ≡ true) × (code ≡ Code.BadField) }
+    ensures still { OnErr result (table.new ≡ table.old) }
 {
     match table.add(name) {
         Ok(_) => Ok(()),

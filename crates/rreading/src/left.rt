@@ -1,7 +1,8 @@
 // The ledgers at the end, and the end.
-ghost use Rattle.std.specs.Prelude.{◌≡◌, OnOk, IfErr, true};
+ghost use Rattle.std.specs.Prelude.{◌≡◌, OnOk, OnErr, IfErr, true};
 ghost use Rattle.rforms.specs.Lines.{Leaves, Ends};
 ghost use Rattle.rforms.specs.Faults.{is_same_line};
+ghost use Rattle.rforms.specs.SoFar.{at_end};
 ghost use Rattle.rreading.specs.Takes.{Takes, Refuses, ledgers_told};
 
 use crate::place::{AT_END, AT_LEDGERS, AT_TASKS};
@@ -15,6 +16,7 @@ impl Reading {
         requires { self.old.whole ≡ true }
         ensures taken { OnOk result (Takes self.old self.new (Leaves place ledger)) }
         ensures bad { IfErr result (λ code. Refuses self.old (Leaves place ledger) code) }
+        ensures still { OnErr result (self.new ≡ self.old) }
     {
         if let Some(code) = self.misplaced(AT_TASKS, AT_LEDGERS) {
             return Err(code);
@@ -34,7 +36,9 @@ impl Reading {
     /// Takes the end.
     pub fn end(&mut self) -> Result<(), Code>
         ensures taken { OnOk result (Takes self.old self.new Ends) }
+        ensures last { OnOk result (self.new ≡ record self.old { last = at_end }) }
         ensures bad { IfErr result (λ code. Refuses self.old Ends code) }
+        ensures still { OnErr result (self.new ≡ self.old) }
     {
         if let Some(code) = self.misplaced(AT_TASKS, AT_LEDGERS) {
             return Err(code);

@@ -1,5 +1,5 @@
 // Taking records: each is read as a line, and the line is taken.
-ghost use Rattle.std.specs.Prelude.{◌≡◌, ◌<◌, ◌==◌, false, Bool, true, length, Some, OnOk, IfOk, IfErr};
+ghost use Rattle.std.specs.Prelude.{◌≡◌, ◌<◌, ◌==◌, false, Bool, true, length, Some, IsSome, OnOk, OnErr, IfOk, IfErr};
 ghost use Rattle.csv.specs.Records.{fields_of};
 ghost use Rattle.rexpand.specs.declared.TheConstants.{GROUPS};
 ghost use Rattle.rclaim.specs.declared.event.Event.{Event};
@@ -9,7 +9,7 @@ ghost use Rattle.rforms.specs.Words.{word_in};
 ghost use Rattle.rforms.specs.declared.fault.Code.{Code};
 ghost use Rattle.rrecords.specs.Told.{IsOf, Says, IsWrong, names_by, is_event, is_act, is_status, is_wait};
 ghost use Rattle.rreading.specs.Knows.{Knows};
-ghost use Rattle.rreading.specs.Takes.{TakesRow, RefusesRow, TellsBound, IsReady, IsKept};
+ghost use Rattle.rreading.specs.Takes.{TakesRow, RefusesRow, TellsBound, StillDue, IsReady, IsKept};
 
 use crate::place::{AT_CHANGES, AT_TASKS};
 use crate::reading::Reading;
@@ -30,7 +30,7 @@ impl Reading {
     /// # Errors
     ///
     /// The first thing that is wrong with it, or want of memory: that may come in the head, and at the first event. Nothing
-    /// is said then of `taken`.
+    /// is said then of `taken`. Where a record is wrong, what was due is due still.
     pub fn take(
         &mut self,
         alloc: Global,
@@ -41,6 +41,7 @@ impl Reading {
         ensures taken { OnOk result (TakesRow self.old self.new (fields_of fields.now) taken.new) }
         ensures bound { OnOk result (TellsBound self.old (fields_of fields.now) taken.new) }
         ensures bad { (code : Code) → result ≡ Err (RowErr.Bad code) → RefusesRow self.old (fields_of fields.now) code }
+        ensures still { (code : Code) → result ≡ Err (RowErr.Bad code) → StillDue self.old self.new }
     {
         let Some(word) = word_in(self.whole, fields) else {
             return Err(RowErr::Bad(Code::BadField));
@@ -82,6 +83,7 @@ impl Reading {
         ensures taken { OnOk result (TakesRow self.old self.new (fields_of fields.now) taken.new) }
         ensures bound { OnOk result (TellsBound self.old (fields_of fields.now) taken.new) }
         ensures bad { (code : Code) → result ≡ Err (RowErr.Bad code) → RefusesRow self.old (fields_of fields.now) code }
+        ensures still { (code : Code) → result ≡ Err (RowErr.Bad code) → StillDue self.old self.new }
     {
         match self.take_other(alloc, word, fields) {
             Ok(()) => {
@@ -101,6 +103,7 @@ impl Reading {
         requires wait { is_wait word ≡ false }
         ensures taken { OnOk result (TakesRow self.old self.new (fields_of fields.now) Taken.Other) }
         ensures bad { (code : Code) → result ≡ Err (RowErr.Bad code) → RefusesRow self.old (fields_of fields.now) code }
+        ensures still { (code : Code) → result ≡ Err (RowErr.Bad code) → StillDue self.old self.new }
     {
         match word {
             Word::Entitled { .. } | Word::Satisfied { .. } => self.take_status(word, fields),
@@ -132,6 +135,7 @@ impl Reading {
         ensures taken { OnOk result (TakesRow self.old self.new (fields_of fields.now) taken.new) }
         ensures bound { OnOk result (TellsBound self.old (fields_of fields.now) taken.new) }
         ensures bad { (code : Code) → result ≡ Err (RowErr.Bad code) → RefusesRow self.old (fields_of fields.now) code }
+        ensures still { (code : Code) → result ≡ Err (RowErr.Bad code) → StillDue self.old self.new }
     {
         let refused = match self.keep_event(word, fields, taken) {
             Ok(refused) => refused,
@@ -161,6 +165,8 @@ impl Reading {
         requires event { is_event word ≡ true }
         ensures kept { IfOk result (λ refused. (e : Event) × Says (names_by self.now.resources self.now.tasks) word (fields_of fields.now) (Happens e) × IsKept refused taken.new e) }
         ensures wrong { IfErr result (λ code. IsWrong (names_by self.now.resources self.now.tasks) word (fields_of fields.now) code) }
+        ensures still { IfOk result (λ refused. IsSome refused → taken.new ≡ taken.old) }
+        ensures err { OnErr result (taken.new ≡ taken.old) }
     {
         if let Word::Finish = word {
             return match finish_of(&self.resources, &self.tasks, fields) {
@@ -189,6 +195,7 @@ impl Reading {
         ensures taken { OnOk result (TakesRow self.old self.new (fields_of fields.now) taken.new) }
         ensures bound { OnOk result (TellsBound self.old (fields_of fields.now) taken.new) }
         ensures bad { (code : Code) → result ≡ Err (RowErr.Bad code) → RefusesRow self.old (fields_of fields.now) code }
+        ensures still { (code : Code) → result ≡ Err (RowErr.Bad code) → StillDue self.old self.new }
     {
         match act_of(&self.resources, &self.tasks, word, fields) {
             Ok(act) => match self.act(&act) {
@@ -208,6 +215,7 @@ impl Reading {
         requires change { is_status word ≡ true }
         ensures taken { OnOk result (TakesRow self.old self.new (fields_of fields.now) Taken.Other) }
         ensures bad { (code : Code) → result ≡ Err (RowErr.Bad code) → RefusesRow self.old (fields_of fields.now) code }
+        ensures still { (code : Code) → result ≡ Err (RowErr.Bad code) → StillDue self.old self.new }
     {
         match change_of(&self.resources, &self.tasks, word, fields) {
             Ok(change) => match self.status(change) {
@@ -223,6 +231,7 @@ impl Reading {
         requires { word_in self.old.whole (fields_of fields.now) ≡ Some Word.Grant }
         ensures taken { OnOk result (TakesRow self.old self.new (fields_of fields.now) Taken.Other) }
         ensures bad { (code : Code) → result ≡ Err (RowErr.Bad code) → RefusesRow self.old (fields_of fields.now) code }
+        ensures still { (code : Code) → result ≡ Err (RowErr.Bad code) → StillDue self.old self.new }
     {
         match grant_of(&self.resources, &self.tasks, fields) {
             Ok(told) => match self.grant(told.seat, told.set) {
@@ -244,6 +253,7 @@ impl Reading {
         ensures taken { OnOk result (TakesRow self.old self.new (fields_of fields.now) taken.new) }
         ensures bound { OnOk result (TellsBound self.old (fields_of fields.now) taken.new) }
         ensures bad { (code : Code) → result ≡ Err (RowErr.Bad code) → RefusesRow self.old (fields_of fields.now) code }
+        ensures still { (code : Code) → result ≡ Err (RowErr.Bad code) → StillDue self.old self.new }
     {
         match wait_of(&self.resources, &self.tasks, stage, fields) {
             Ok(told) => match self.wait(&told) {
@@ -263,6 +273,7 @@ impl Reading {
         requires { word_in self.old.whole (fields_of fields.now) ≡ Some Word.Ledger }
         ensures taken { OnOk result (TakesRow self.old self.new (fields_of fields.now) Taken.Other) }
         ensures bad { (code : Code) → result ≡ Err (RowErr.Bad code) → RefusesRow self.old (fields_of fields.now) code }
+        ensures still { (code : Code) → result ≡ Err (RowErr.Bad code) → StillDue self.old self.new }
     {
         match ledger_of(&self.resources, &self.tasks, fields) {
             Ok((place, ledger)) => match self.leave(place, ledger) {
@@ -279,6 +290,7 @@ impl Reading {
         requires word { word_in self.old.whole (fields_of fields.now) ≡ Some Word.Group }
         ensures taken { OnOk result (TakesRow self.old self.new (fields_of fields.now) Taken.Other) }
         ensures bad { (code : Code) → result ≡ Err (RowErr.Bad code) → RefusesRow self.old (fields_of fields.now) code }
+        ensures still { (code : Code) → result ≡ Err (RowErr.Bad code) → StillDue self.old self.new }
     {
         if self.has_all_groups() {
             return Err(RowErr::Bad(Code::BadField));
@@ -297,6 +309,7 @@ impl Reading {
         requires { word_in self.old.whole (fields_of fields.now) ≡ Some Word.Version }
         ensures taken { OnOk result (TakesRow self.old self.new (fields_of fields.now) Taken.Other) }
         ensures bad { (code : Code) → result ≡ Err (RowErr.Bad code) → RefusesRow self.old (fields_of fields.now) code }
+        ensures still { (code : Code) → result ≡ Err (RowErr.Bad code) → StillDue self.old self.new }
     {
         match self.open() {
             Ok(()) => Ok(()),
@@ -309,6 +322,7 @@ impl Reading {
         requires { word_in self.old.whole (fields_of fields.now) ≡ Some Word.Resource }
         ensures taken { OnOk result (TakesRow self.old self.new (fields_of fields.now) Taken.Other) }
         ensures bad { (code : Code) → result ≡ Err (RowErr.Bad code) → RefusesRow self.old (fields_of fields.now) code }
+        ensures still { (code : Code) → result ≡ Err (RowErr.Bad code) → StillDue self.old self.new }
     {
         match self.resource(field_of(fields, 1)) {
             Ok(()) => Ok(()),
@@ -321,6 +335,7 @@ impl Reading {
         requires { word_in self.old.whole (fields_of fields.now) ≡ Some Word.Task }
         ensures taken { OnOk result (TakesRow self.old self.new (fields_of fields.now) Taken.Other) }
         ensures bad { (code : Code) → result ≡ Err (RowErr.Bad code) → RefusesRow self.old (fields_of fields.now) code }
+        ensures still { (code : Code) → result ≡ Err (RowErr.Bad code) → StillDue self.old self.new }
     {
         match self.task(alloc, field_of(fields, 1)) {
             Ok(()) => Ok(()),
@@ -333,6 +348,7 @@ impl Reading {
         requires { word_in self.old.whole (fields_of fields.now) ≡ Some Word.Cap }
         ensures taken { OnOk result (TakesRow self.old self.new (fields_of fields.now) Taken.Other) }
         ensures bad { (code : Code) → result ≡ Err (RowErr.Bad code) → RefusesRow self.old (fields_of fields.now) code }
+        ensures still { (code : Code) → result ≡ Err (RowErr.Bad code) → StillDue self.old self.new }
     {
         match cap_of(field_of(fields, 1)) {
             Some(cap) => match self.limit(cap) {
@@ -348,6 +364,7 @@ impl Reading {
         requires { word_in self.old.whole (fields_of fields.now) ≡ Some Word.End }
         ensures taken { OnOk result (TakesRow self.old self.new (fields_of fields.now) Taken.Other) }
         ensures bad { (code : Code) → result ≡ Err (RowErr.Bad code) → RefusesRow self.old (fields_of fields.now) code }
+        ensures still { (code : Code) → result ≡ Err (RowErr.Bad code) → StillDue self.old self.new }
     {
         match self.end() {
             Ok(()) => Ok(()),

@@ -27,3 +27,6 @@ pub returns-in-Err-clause-refused : goal.returns-in-Err-clause-refused
 returns-in-Err-clause-refused c =
     let admitted = ap (λ (g : ReadGroups). event_admitted g.groups c.args.event.now) (sym c.groups.ensures) ∙ sym c.is_admitted.ensures ∙ c.if-not-is_admitted.false in
     refused_by_lock c.args.machine.now.state c.args.event.now c.requires.fits admitted ∙ ap (option_map Step) c.in-Err.ensures.refused
+
+pub returns-in-Err-clause-still : goal.returns-in-Err-clause-still
+returns-in-Err-clause-still c = ((λ i. record { state = c.in-Err.ensures.unchanged i; last = c.in-Err.ensures.untold i }), c.in-Err.ensures.still)

@@ -5,6 +5,7 @@ use Rattle.rforms.specs.Lines.{HasGroup}
 use Rattle.rforms.proofs.facts.Choices.{some_is}
 use Rattle.rreading.proofs.Results.{same_bad}
 use Rattle.rreading.proofs.HeadSteps.{head_misplaced, group_is, group_taken, groups_made, empty_test, stands}
+use Rattle.rreading.proofs.Still.{same_still}
 use Rattle.rreading.proofs.reading.Reading.group.Goals as goal
 
 pub returns-then-is_empty-clause-bad : goal.returns-then-is_empty-clause-bad
@@ -31,3 +32,9 @@ returns-clause-taken c = λ whole s h.
     let same = some_is (sym c.in-Some-groups.is ∙ made) in
     group_taken whole c.args.self.now s h c.args.set (record c.args.self.now { last = 3; groups = Some c.declare.new.self }) here (empty_test _ c.args.set c.is_empty.ensures ∙ c.if-is_empty.false) refl
     (ap Some (c.in-Ok-declare.ensures.ok ∙ ap (λ (g : ReadGroups). record g { groups = g.groups ++ c.args.set ∷ [] }) same))
+
+pub returns-then-is_empty-clause-still : goal.returns-then-is_empty-clause-still
+returns-then-is_empty-clause-still c = λ code is. same_still c.args.self.now _ refl
+
+pub returns-in-Some-clause-still : goal.returns-in-Some-clause-still
+returns-in-Some-clause-still c = λ code is. same_still c.args.self.now _ refl

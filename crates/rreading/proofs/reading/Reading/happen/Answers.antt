@@ -1,4 +1,4 @@
-use Rattle.std.proofs.Common.{◌≡◌, Option, Some, None, sym, ap, subst, ◌∙◌, arith}
+use Rattle.std.proofs.Common.{◌≡◌, Option, Some, None, sym, ap, subst, ◌∙◌, arith, refl}
 use Rattle.std.specs.Prelude.{IfSome}
 use Rattle.rclaim.specs.Events.{seat_of}
 use Rattle.rmodel.specs.Holds.{holds_of}
@@ -11,10 +11,11 @@ use Rattle.rforms.specs.Faults.{line_code}
 use Rattle.rreading.specs.declared.reading.Reading.{Reading}
 use Rattle.rwaits.specs.Follows.{Follows}
 use Rattle.rwaits.specs.declared.following.Following.{Following}
-use Rattle.rreading.specs.Knows.{Knows, state_in, past_in}
+use Rattle.rreading.specs.Knows.{Knows, state_in, past_in, changes_in}
 use Rattle.rreading.specs.Takes.{FitsTold, Allows, stepped}
 use Rattle.rreading.proofs.Results.{same_bad}
 use Rattle.rreading.proofs.EventSteps.{happen_taken, happen_refused, past_state, past_many}
+use Rattle.rreading.proofs.Still.{first_same}
 use Rattle.rreading.proofs.reading.Reading.happen.Goals as goal
 
 pub apply-requires-clause-fits : goal.apply-requires-clause-fits
@@ -67,3 +68,23 @@ returns-in-Err-clause-bad c = λ code is whole s h.
     let stands = sym (ap (λ (r : Reading). state_in s r.machine) c.allow.ensures.others ∙ (c.in-Ok.ensures.made.1 whole s h).0) ∙ ap (state_in s) c.in-Some.is in
     happen_refused whole c.args.self.now s h c.args.event.now (c.requires.placed whole s h) c.in-Err.cause
     (ap (λ (l : LockState). refusal_in l c.args.event.now) stands ∙ c.in-Err.ensures.refused) ∙ ap Some (same_bad is)
+
+pub returns-in-Err-clause-still : goal.returns-in-Err-clause-still
+returns-in-Err-clause-still c = λ code is.
+    let made = c.make_machine.ensures.others in
+    let others = c.allow.ensures.others in
+    let kept = c.in-Err.ensures.still in
+    let now = c.args.self.now in
+    let new = c.allow.new.self in
+    record {
+      kind = ap (λ (r : Reading). r.whole) others ∙ ap (λ (r : Reading). r.whole) made;
+      resources = first_same now.resources new.resources (ap (λ (r : Reading). r.resources) others ∙ ap (λ (r : Reading). r.resources) made);
+      tasks = first_same now.tasks new.tasks (ap (λ (r : Reading). r.tasks) others ∙ ap (λ (r : Reading). r.tasks) made);
+      last = ap (λ (r : Reading). r.last) others ∙ ap (λ (r : Reading). r.last) made;
+      told = ap (λ (r : Reading). r.told) others ∙ ap (λ (r : Reading). r.told) made;
+      changes = ap (λ (m : Standing). m.last) kept.0 ∙ ap changes_in (sym c.in-Some.is) ∙ ap (λ (r : Reading). changes_in r.machine) others ∙ (c.in-Ok.ensures.made.1 c.requires.ready.0 c.requires.ready.1 c.requires.ready.2).1;
+      ledgers = ap (λ (r : Reading). r.ledgers.items) others ∙ ap (λ (r : Reading). r.ledgers.items) made;
+      there = λ _. refl;
+      followed = λ whole s h.
+          kept.1 (past_in s) (subst (λ (o : Option Following). IfSome o (λ f. Follows f (past_in s))) (sym (ap (λ (r : Reading). r.following) others) ∙ c.in-Some-following.is) (c.in-Ok.ensures.followed whole s h));
+    }

@@ -1,10 +1,11 @@
-use Rattle.std.proofs.Common.{false, ◌++◌, ◌∷◌, [], Some, sym, ap, ◌∙◌}
+use Rattle.std.proofs.Common.{false, ◌++◌, ◌∷◌, [], Some, sym, ap, ◌∙◌, refl}
 use Rattle.rset.specs.declared.TheConstants.{RESOURCES}
 use Rattle.rvalue.specs.declared.ledger.Ledger.{Ledger}
 use Rattle.rforms.specs.Heads.{is_bad_name}
 use Rattle.rforms.specs.Lines.{HasResource}
 use Rattle.rreading.proofs.Results.{same_bad}
 use Rattle.rreading.proofs.HeadSteps.{head_misplaced, resource_is, resource_taken}
+use Rattle.rreading.proofs.Still.{due_still, first_same}
 use Rattle.rreading.proofs.reading.Reading.resource.Goals as goal
 
 pub returns-in-Err-clause-bad : goal.returns-in-Err-clause-bad
@@ -23,3 +24,13 @@ returns-clause-taken c = λ whole s h.
     resource_taken whole c.args.self.now s h c.args.name.now (record c.args.self.now { last = 2; resources = c.declare.new.table; ledgers = c.push.new.self })
     (sym (c.misplaced-misplaced.ensures whole s h) ∙ c.in_default-misplaced.is) told.0 (λ i. record c.args.self.now { last = 2; resources = sym told.1 i; ledgers = c.push.new.self })
     (c.in-Ok.ensures.items ∙ ap (λ (x : Ledger). c.args.self.now.ledgers.items ++ x ∷ []) c.new.ensures)
+
+pub returns-in-Err-clause-still : goal.returns-in-Err-clause-still
+returns-in-Err-clause-still c = λ code is.
+    let now = c.args.self.now in
+    due_still now _ refl (first_same now.resources c.declare.new.table c.in-Err.ensures.still) (first_same now.tasks now.tasks refl) refl refl refl refl refl
+
+pub returns-in-Some-clause-still : goal.returns-in-Some-clause-still
+returns-in-Some-clause-still c = λ code is.
+    let now = c.args.self.now in
+    due_still now _ refl (c.args.name.now ∷ [], c.in_default.ensures.ok.1) (first_same now.tasks now.tasks refl) refl refl refl refl refl

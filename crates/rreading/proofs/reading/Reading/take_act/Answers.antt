@@ -5,6 +5,7 @@ use Rattle.rreading.specs.declared.taken.Taken.TheVariants as taken
 use Rattle.rreading.proofs.Results.{same_bad}
 use Rattle.rreading.proofs.RowSteps.{is_of, act_whole, act_no_more, latest_there, row_taken, row_code, row_wrong}
 use Rattle.rreading.proofs.OtherWords.{tells_none, act_no_wait}
+use Rattle.rreading.proofs.Still.{same_still}
 use Rattle.rreading.proofs.reading.Reading.take_act.Goals as goal
 
 pub act_of-requires-clause-form : goal.act_of-requires-clause-form
@@ -26,3 +27,9 @@ returns-in-Err-clause-bad c = λ code is whole s h. row_wrong whole c.args.self.
 
 pub returns-in-Ok-act-clause-bound : goal.returns-in-Ok-act-clause-bound
 returns-in-Ok-act-clause-bound c = tells_none c.args.self.now (fields_of c.args.fields.now) c.args.word (taken.Act c.in-Ok.act) c.requires.word (act_no_wait c.args.word c.requires.act) refl
+
+pub returns-in-Err-act-clause-still : goal.returns-in-Err-act-clause-still
+returns-in-Err-act-clause-still c = λ code is. same_still c.args.self.now _ c.in-Err-act.ensures.still
+
+pub returns-in-Err-clause-still : goal.returns-in-Err-clause-still
+returns-in-Err-clause-still c = λ code is. same_still c.args.self.now _ refl

@@ -8,6 +8,7 @@ use Rattle.rforms.specs.declared.word.Word.TheVariants as word
 use Rattle.rreading.specs.declared.taken.Taken.TheVariants as taken
 use Rattle.rreading.proofs.Results.{same_bad}
 use Rattle.rreading.proofs.RowSteps.{is_of, cap_says, cap_uncounted, row_taken, row_code, row_wrong}
+use Rattle.rreading.proofs.Still.{same_still}
 use Rattle.rreading.proofs.reading.Reading.take_cap.Goals as goal
 
 pub returns-in-Ok-clause-taken : goal.returns-in-Ok-clause-taken
@@ -21,3 +22,9 @@ pub returns-in-None-clause-bad : goal.returns-in-None-clause-bad
 returns-in-None-clause-bad c = λ code is whole s h.
     row_wrong whole c.args.self.now s h (fields_of c.args.fields.now) word.Cap c.requires refl BadField
     (cap_uncounted (names_by c.args.self.now.resources c.args.self.now.tasks) (fields_of c.args.fields.now) (is_of c.args.self.now.whole (fields_of c.args.fields.now) word.Cap c.requires) (ap cap_told (sym c.field_of.ensures) ∙ sym c.cap_of.ensures.value ∙ c.in-None.is)) ∙ ap Some (same_bad is)
+
+pub returns-in-Err-clause-still : goal.returns-in-Err-clause-still
+returns-in-Err-clause-still c = λ code is. same_still c.args.self.now _ c.in-Err.ensures.still
+
+pub returns-in-None-clause-still : goal.returns-in-None-clause-still
+returns-in-None-clause-still c = λ code is. same_still c.args.self.now _ refl

@@ -14,6 +14,7 @@ use Rattle.rreading.proofs.EventSteps.{happen_refused, event_misplaced}
 use Rattle.rreading.proofs.Results.{same_bad, same_event}
 use Rattle.rreading.proofs.RowSteps.{is_of, event_no_more, event_fits, alone_refused, row_taken, row_code, row_wrong}
 use Rattle.rreading.proofs.OtherWords.{tells_none, event_no_wait}
+use Rattle.rreading.proofs.Still.{same_still}
 use Rattle.rreading.proofs.reading.Reading.take_event.Goals as goal
 
 pub keep_event-requires-clause-form : goal.keep_event-requires-clause-form
@@ -76,3 +77,12 @@ returns-clause-bad c = λ code is whole s h.
     let same = same_event (sym c.in-Event.is ∙ kept.0) in
     row_code whole c.args.self.now s h (fields_of c.args.fields.now) c.args.word c.requires.word (event_no_more s c.args.word c.requires.event) (Happens told.0) told.1
     ∙ ap (λ (e : Event). line_code whole s (Happens e)) (sym same) ∙ c.happen.ensures.bad code is whole s h
+
+pub returns-in-Err-clause-still : goal.returns-in-Err-clause-still
+returns-in-Err-clause-still c = λ code is. same_still c.args.self.now _ refl
+
+pub returns-in-Some-clause-still : goal.returns-in-Some-clause-still
+returns-in-Some-clause-still c = λ code is. same_still c.args.self.now _ refl
+
+pub returns-in-Some-refused-clause-still : goal.returns-in-Some-refused-clause-still
+returns-in-Some-refused-clause-still c = λ code is. same_still c.args.self.now _ refl

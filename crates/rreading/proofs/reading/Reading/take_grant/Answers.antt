@@ -5,6 +5,7 @@ use Rattle.rforms.specs.declared.word.Word.TheVariants as word
 use Rattle.rreading.specs.declared.taken.Taken.TheVariants as taken
 use Rattle.rreading.proofs.Results.{same_bad}
 use Rattle.rreading.proofs.RowSteps.{is_of, row_taken, row_code, row_wrong}
+use Rattle.rreading.proofs.Still.{same_still}
 use Rattle.rreading.proofs.reading.Reading.take_grant.Goals as goal
 
 pub grant_of-requires : goal.grant_of-requires
@@ -20,3 +21,9 @@ returns-in-Err-grant-clause-bad c = λ code is whole s h.
 
 pub returns-in-Err-clause-bad : goal.returns-in-Err-clause-bad
 returns-in-Err-clause-bad c = λ code is whole s h. row_wrong whole c.args.self.now s h (fields_of c.args.fields.now) word.Grant c.requires refl c.in-Err.code c.in-Err.ensures.wrong ∙ ap Some (same_bad is)
+
+pub returns-in-Err-grant-clause-still : goal.returns-in-Err-grant-clause-still
+returns-in-Err-grant-clause-still c = λ code is. same_still c.args.self.now _ c.in-Err-grant.ensures.still
+
+pub returns-in-Err-clause-still : goal.returns-in-Err-clause-still
+returns-in-Err-clause-still c = λ code is. same_still c.args.self.now _ refl

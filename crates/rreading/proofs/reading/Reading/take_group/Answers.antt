@@ -5,6 +5,7 @@ use Rattle.rforms.specs.declared.word.Word.TheVariants as word
 use Rattle.rreading.specs.declared.taken.Taken.TheVariants as taken
 use Rattle.rreading.proofs.Results.{same_bad, same_err}
 use Rattle.rreading.proofs.RowSteps.{is_of, row_more, row_taken, row_code, row_wrong}
+use Rattle.rreading.proofs.Still.{same_still}
 use Rattle.rreading.proofs.reading.Reading.take_group.Goals as goal
 
 pub returns-then-has_all_groups-clause-bad : goal.returns-then-has_all_groups-clause-bad
@@ -26,3 +27,12 @@ returns-in-Err-group-clause-bad c = λ code is whole s h. row_code whole c.args.
 
 pub returns-in-Err-clause-bad : goal.returns-in-Err-clause-bad
 returns-in-Err-clause-bad c = λ code is whole s h. row_wrong whole c.args.self.now s h (fields_of c.args.fields.now) word.Group c.requires.word (sym (c.has_all_groups.ensures.all whole s h) ∙ c.if-has_all_groups.false) c.in-Err.code c.in-Err.ensures.wrong ∙ ap Some (same_bad is)
+
+pub returns-then-has_all_groups-clause-still : goal.returns-then-has_all_groups-clause-still
+returns-then-has_all_groups-clause-still c = λ code is. same_still c.args.self.now _ refl
+
+pub returns-in-Err-group-clause-still : goal.returns-in-Err-group-clause-still
+returns-in-Err-group-clause-still c = λ code is. c.in-Err-group.ensures.still code (same_err is)
+
+pub returns-in-Err-clause-still : goal.returns-in-Err-clause-still
+returns-in-Err-clause-still c = λ code is. same_still c.args.self.now _ refl

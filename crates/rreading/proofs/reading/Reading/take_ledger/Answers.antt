@@ -5,6 +5,7 @@ use Rattle.rforms.specs.declared.word.Word.TheVariants as word
 use Rattle.rreading.specs.declared.taken.Taken.TheVariants as taken
 use Rattle.rreading.proofs.Results.{same_bad}
 use Rattle.rreading.proofs.RowSteps.{is_of, ledger_whole, row_taken, row_code, row_wrong}
+use Rattle.rreading.proofs.Still.{same_still}
 use Rattle.rreading.proofs.reading.Reading.take_ledger.Goals as goal
 
 pub ledger_of-requires : goal.ledger_of-requires
@@ -23,3 +24,9 @@ returns-in-Err-leave-clause-bad c = λ code is whole s h.
 
 pub returns-in-Err-clause-bad : goal.returns-in-Err-clause-bad
 returns-in-Err-clause-bad c = λ code is whole s h. row_wrong whole c.args.self.now s h (fields_of c.args.fields.now) word.Ledger c.requires refl c.in-Err.code c.in-Err.ensures.wrong ∙ ap Some (same_bad is)
+
+pub returns-in-Err-leave-clause-still : goal.returns-in-Err-leave-clause-still
+returns-in-Err-leave-clause-still c = λ code is. same_still c.args.self.now _ c.in-Err-leave.ensures.still
+
+pub returns-in-Err-clause-still : goal.returns-in-Err-clause-still
+returns-in-Err-clause-still c = λ code is. same_still c.args.self.now _ refl

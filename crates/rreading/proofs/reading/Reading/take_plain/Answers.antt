@@ -10,3 +10,6 @@ returns-in-Ok-clause-bound c = tells_none c.args.self.now (fields_of c.args.fiel
 
 pub returns-in-Err-clause-bad : goal.returns-in-Err-clause-bad
 returns-in-Err-clause-bad c = λ code is. c.in-Err.ensures.bad code (same_err is)
+
+pub returns-in-Err-clause-still : goal.returns-in-Err-clause-still
+returns-in-Err-clause-still c = λ code is. c.in-Err.ensures.still code (same_err is)

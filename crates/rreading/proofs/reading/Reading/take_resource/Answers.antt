@@ -14,3 +14,6 @@ returns-in-Ok-clause-taken c = λ whole s h.
 
 pub returns-in-Err-clause-bad : goal.returns-in-Err-clause-bad
 returns-in-Err-clause-bad c = λ code is whole s h. row_code whole c.args.self.now s h (fields_of c.args.fields.now) word.Resource c.requires refl (HasResource c.field_of.result.now) (subst (λ (name : List ℕ). Says (names_by c.args.self.now.resources c.args.self.now.tasks) word.Resource (fields_of c.args.fields.now) (HasResource name)) (sym c.field_of.ensures) (resource_says (names_by c.args.self.now.resources c.args.self.now.tasks) (fields_of c.args.fields.now) (is_of c.args.self.now.whole (fields_of c.args.fields.now) word.Resource c.requires))) ∙ c.in-Err.ensures.bad code (same_err is) whole s h
+
+pub returns-in-Err-clause-still : goal.returns-in-Err-clause-still
+returns-in-Err-clause-still c = λ code is. c.in-Err.ensures.still code (same_err is)

@@ -1,10 +1,11 @@
-use Rattle.std.proofs.Common.{Some, ap, ◌∙◌}
+use Rattle.std.proofs.Common.{Some, ap, ◌∙◌, refl}
 use Rattle.csv.specs.Records.{fields_of}
 use Rattle.rforms.specs.Reports.{status_line}
 use Rattle.rreading.specs.declared.taken.Taken.TheVariants as taken
 use Rattle.rreading.proofs.Codes.{status_changes}
 use Rattle.rreading.proofs.Results.{same_bad}
 use Rattle.rreading.proofs.RowSteps.{is_of, status_no_more, row_taken, row_code, row_wrong, change_adds}
+use Rattle.rreading.proofs.Still.{same_still}
 use Rattle.rreading.proofs.reading.Reading.take_status.Goals as goal
 
 pub change_of-requires-clause-form : goal.change_of-requires-clause-form
@@ -23,3 +24,9 @@ returns-in-Err-status-clause-bad c = λ code is whole s h.
 pub returns-in-Err-clause-bad : goal.returns-in-Err-clause-bad
 returns-in-Err-clause-bad c = λ code is whole s h.
     row_wrong whole c.args.self.now s h (fields_of c.args.fields.now) c.args.word c.requires.word (status_no_more s c.args.word c.requires.change) c.in-Err.code c.in-Err.ensures.wrong ∙ ap Some (same_bad is)
+
+pub returns-in-Err-status-clause-still : goal.returns-in-Err-status-clause-still
+returns-in-Err-status-clause-still c = λ code is. same_still c.args.self.now _ c.in-Err-status.ensures.still
+
+pub returns-in-Err-clause-still : goal.returns-in-Err-clause-still
+returns-in-Err-clause-still c = λ code is. same_still c.args.self.now _ refl

@@ -6,6 +6,7 @@ use Rattle.rforms.specs.declared.word.Word.TheVariants as word
 use Rattle.rreading.specs.declared.taken.Taken.TheVariants as taken
 use Rattle.rreading.proofs.Results.{same_bad}
 use Rattle.rreading.proofs.RowSteps.{is_of, version_says, row_taken, row_code}
+use Rattle.rreading.proofs.Still.{same_still}
 use Rattle.rreading.proofs.reading.Reading.take_version.Goals as goal
 
 pub returns-in-Ok-clause-taken : goal.returns-in-Ok-clause-taken
@@ -14,3 +15,6 @@ returns-in-Ok-clause-taken c = λ whole s h.
 
 pub returns-in-Err-clause-bad : goal.returns-in-Err-clause-bad
 returns-in-Err-clause-bad c = λ code is whole s h. row_code whole c.args.self.now s h (fields_of c.args.fields.now) word.Version c.requires refl Opens (version_says (names_by c.args.self.now.resources c.args.self.now.tasks) (fields_of c.args.fields.now) (is_of c.args.self.now.whole (fields_of c.args.fields.now) word.Version c.requires)) ∙ c.in-Err.ensures.bad whole s h ∙ ap Some (same_bad is)
+
+pub returns-in-Err-clause-still : goal.returns-in-Err-clause-still
+returns-in-Err-clause-still c = λ code is. same_still c.args.self.now _ c.in-Err.ensures.still

@@ -5,6 +5,7 @@ use Rattle.rrecords.specs.Waits.{line_told}
 use Rattle.rreading.specs.declared.taken.Taken.TheVariants as taken
 use Rattle.rreading.proofs.Results.{same_bad}
 use Rattle.rreading.proofs.RowSteps.{is_of, row_taken, row_code, row_wrong, row_bound}
+use Rattle.rreading.proofs.Still.{same_still}
 use Rattle.rreading.proofs.reading.Reading.take_wait.Goals as goal
 
 pub wait_of-requires : goal.wait_of-requires
@@ -23,3 +24,9 @@ returns-in-Err-clause-bad c = λ code is whole s h. row_wrong whole c.args.self.
 
 pub returns-in-Ok-wait-clause-bound : goal.returns-in-Ok-wait-clause-bound
 returns-in-Ok-wait-clause-bound c = λ whole s h. row_bound whole c.args.self.now s h (fields_of c.args.fields.now) (word.Wait c.args.stage) c.requires (line_told c.in-Ok.told) c.in-Ok.ensures.told
+
+pub returns-in-Err-wait-clause-still : goal.returns-in-Err-wait-clause-still
+returns-in-Err-wait-clause-still c = λ code is. same_still c.args.self.now _ c.in-Err-wait.ensures.still
+
+pub returns-in-Err-clause-still : goal.returns-in-Err-clause-still
+returns-in-Err-clause-still c = λ code is. same_still c.args.self.now _ refl

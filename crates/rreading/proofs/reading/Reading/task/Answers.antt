@@ -1,9 +1,10 @@
-use Rattle.std.proofs.Common.{false, Some, length, sym, ap, ◌∙◌}
+use Rattle.std.proofs.Common.{false, ◌∷◌, [], Some, length, sym, ap, ◌∙◌, refl}
 use Rattle.rset.specs.declared.TheConstants.{SEATS}
 use Rattle.rforms.specs.Heads.{is_bad_name}
 use Rattle.rforms.specs.Lines.{HasTask}
 use Rattle.rreading.proofs.Results.{same_bad}
 use Rattle.rreading.proofs.HeadSteps.{head_misplaced, task_is, task_taken, groups_made, stands}
+use Rattle.rreading.proofs.Still.{due_still, first_same}
 use Rattle.rreading.proofs.reading.Reading.task.Goals as goal
 
 pub returns-in-Err-clause-bad : goal.returns-in-Err-clause-bad
@@ -23,3 +24,13 @@ returns-clause-taken c = λ whole s h.
     task_taken whole c.args.self.now s h c.args.name.now (record c.args.self.now { last = 4; tasks = c.declare.new.table; groups = c.make_groups.new.groups })
     here told.0 (λ i. record c.args.self.now { last = 4; tasks = sym told.1 i; groups = c.make_groups.new.groups })
     (groups_made whole c.args.self.now s c.len.result c.make_groups.new.groups h (stands whole s 2 4 here).0 (c.len.ensures.value ∙ ap (λ xs. length xs) h.resources) c.in-Ok.ensures)
+
+pub returns-in-Err-clause-still : goal.returns-in-Err-clause-still
+returns-in-Err-clause-still c = λ code is.
+    let now = c.args.self.now in
+    due_still now _ refl (first_same now.resources now.resources refl) (first_same now.tasks c.declare.new.table c.in-Err.ensures.still) refl refl refl refl refl
+
+pub returns-in-Some-clause-still : goal.returns-in-Some-clause-still
+returns-in-Some-clause-still c = λ code is.
+    let now = c.args.self.now in
+    due_still now _ refl (first_same now.resources now.resources refl) (c.args.name.now ∷ [], c.in_default.ensures.ok.1) refl refl refl refl refl
