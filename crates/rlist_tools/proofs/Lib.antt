@@ -1,2 +1,3 @@
 pub mod Audits
 pub mod Lists
+mod Dues

@@ -1,0 +1,31 @@
+-- The line that is due where a report has another one, as a person is told it.
+use Rattle.std.specs.Prelude.{ℕ, ◌-◌, List, [], ◌∷◌, ◌++◌, codes, length, map, take, Option, option_map, slice_get}
+use Rattle.rclaim.specs.Changes.{ChangeLists}
+use Rattle.rclaim.specs.declared.changes.GrantChange.{GrantChange}
+use Rattle.rclaim.specs.declared.changes.StatusChange.{StatusChange}
+use Rattle.rcover.specs.declared.wait_end.WaitEnd.{WaitEnd}
+use Rattle.rvalue.specs.declared.ledger.Ledger.{Ledger}
+use Rattle.rforms.specs.Fields.{Names}
+use Rattle.rforms.specs.Lines.{Leaves}
+use Rattle.rforms.specs.Reports.{grant_line, status_lines}
+use Rattle.rforms.specs.Waits.{stage_of, cover_of}
+use Rattle.rpage.specs.Told.{told, told_line}
+use Rattle.rpage.specs.Waits.{cover_text}
+
+-- a line without the byte at its end
+abbrev pub without_end : List ℕ → List ℕ
+without_end line = take (length line - 1) line
+
+-- the line of a wait up to its bound
+abbrev pub wait_text : Names → WaitEnd → List ℕ
+wait_text names w = cover_text names w.seat (stage_of w.which) (cover_of w) ++ (codes " and its bound" ++ 10 ∷ [])
+
+-- the lines of changes, of which those of statuses come first, and behind them those of waits
+abbrev pub due_texts : Names → ChangeLists → List WaitEnd → List (List ℕ)
+due_texts names changes ended =
+    map (λ (c : StatusChange). told names (status_lines c.seat c.write_half c.status)) changes.statuses
+    ++ (map (λ (g : GrantChange). told_line names (grant_line g)) changes.grants ++ map (wait_text names) ended)
+
+-- the line of the ledger at a place, if there is one
+abbrev pub ledger_text : Names → List Ledger → ℕ → Option (List ℕ)
+ledger_text names ledgers place = option_map (λ (ledger : Ledger). told_line names (Leaves place ledger)) (slice_get ledgers place)
