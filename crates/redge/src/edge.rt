@@ -1,11 +1,14 @@
 // The edge of the program: all of `main` but its handles.
-ghost use Rattle.std.specs.Prelude.{◌≡◌, ◌≢◌, ◌⊎◌, map, string_bytes, drop, IfOk, IfErr, IsOkAnd};
+ghost use Rattle.std.specs.Prelude.{◌≡◌, ◌≢◌, ◌⊎◌, Option, map, string_bytes, drop, IfOk, IfErr, IsOkAnd};
 ghost use Rattle.std.specs.Process.{exit_status};
 ghost use Rattle.ranswer.specs.Status.{status_number};
 ghost use Rattle.ranswer.specs.Words.{command_in};
+ghost use Rattle.ranswer.specs.declared.told.Told.{Told};
+ghost use Rattle.redge.specs.Lines.{told_lines};
 ghost use Rattle.redge.specs.Program.{ProgramAnswer, ProgramTells, RunAnswer, RunTells, ShownAnswer, ShownTells, IsUntouched, is_replay, is_unwatched};
 
 use crate::explain::explain;
+use crate::lines::lines_of;
 use crate::own::own_text;
 use io_ends::{Sink, Source};
 use ranswer::{Command, ToolStatus, are_for_run, plain_of, write_output};
@@ -14,7 +17,7 @@ use rnlp_cli::{Told, told_run, told_tool};
 use rrun::Pace;
 use rvalue::Edit;
 use rwatch::{Audience, Watchers};
-use std::alloc::Global;
+use std::alloc::{AllocError, Global};
 use std::env;
 use std::io::ErrorKind;
 use std::process::ExitCode;
@@ -45,9 +48,42 @@ pub fn run<
     ensures { (status : ToolStatus) × (exit_status result ≡ status_number status)
         × RunAnswer S.left S.faults K.written K.faults on_terminal source.old source.new sink.old sink.new receipts.old.items receipts.new.items (A.all audience.old) (A.all audience.new) status }
 {
-    let (status, told) = answered(rt, source, sink, pace, receipts, audience, on_terminal);
-    let status = explain(rt, status, told, audience, on_terminal);
+    let (status, lines) = answered_in_lines(
+        rt,
+        source,
+        sink,
+        pace,
+        receipts,
+        audience,
+        on_terminal,
+    );
+    let status = explain(rt, status, lines);
     ExitCode::from(status.number())
+}
+
+// Answers the words that the program was started with, and makes the lines that a person is told of it.
+fn answered_in_lines<
+    R: Env + AllocGlobal + Threads + Wait + Sync,
+    S: Source,
+    K: Sink,
+    G: Pace,
+    A: Audience,
+>(
+    rt: &R,
+    source: &mut S,
+    sink: &mut K,
+    pace: &G,
+    receipts: &mut Vec<Receipt<Edit>>,
+    audience: &mut A,
+    on_terminal: bool,
+) -> (ToolStatus, Result<String, AllocError>)
+    ensures answer { RunAnswer S.left S.faults K.written K.faults on_terminal source.old source.new sink.old sink.new receipts.old.items receipts.new.items (A.all audience.old) (A.all audience.new) result.0 }
+    ensures lines { (told : Option Told) × RunTells S.left S.faults K.written K.faults on_terminal source.old source.new sink.old sink.new receipts.old.items receipts.new.items (A.all audience.old) (A.all audience.new) result.0 told
+        × IfOk result.1 (λ lines. string_bytes lines ≡ told_lines (A.all audience.new) on_terminal result.0 told) }
+{
+    let (status, told) = answered(rt, source, sink, pace, receipts, audience, on_terminal);
+    let lines = lines_of(rt.alloc(), status, &told, audience, on_terminal);
+    (status, lines)
 }
 
 // Answers the words that the program was started with, and what a person may be told of it beyond the status.

@@ -1,175 +1,28 @@
 // What a person is told on standard error.
-ghost use Rattle.std.specs.Prelude.{◌≡◌, option_map};
-ghost use Rattle.redge.specs.Meanings.{status_meaning, kind_word, script_meaning, list_meaning, refusal_meaning};
+ghost use Rattle.std.specs.Prelude.{◌≡◌};
 
+use crate::meanings::meaning_of_status;
 use ranswer::ToolStatus;
-use rclaim::RequestErr;
-use rforms::{Code, Fault, Refusal};
-use rmodel::Refused;
-use rnlp_cli::Told;
-use rscript::Code as ScriptCode;
-use rwatch::{Audience, WatchKind};
-use std::io;
+use std::alloc::AllocError;
 
-/// Tells a person what a status means, and of a refused input what is wrong with which record, and which line is due there;
-/// on a terminal also what was counted of the steps that were told. It hands the status on that it told.
-pub fn explain<A: Audience>(
+/// Tells a person the lines that were made; where no memory was left for them, what the status means. It hands the status on
+/// that it told.
+pub fn explain(
     rt: &impl Eprint,
     status: ToolStatus,
-    told: Option<Told>,
-    audience: &A,
-    on_terminal: bool,
+    lines: Result<String, AllocError>,
 ) -> ToolStatus
     ensures { result ≡ status }
 {
-    match told {
-        Some(Told::Steps) => {
-            let _ = explain_status(rt, status);
-            if on_terminal {
-                let _ = explain_counts(rt, audience);
+    match lines {
+        Ok(lines) => {
+            let _ = rt.eprint(format_args!("{lines}"));
+        }
+        Err(_) => {
+            if let Some(meaning) = meaning_of_status(status) {
+                let _ = rt.eprintln(format_args!("rnlp: {meaning}"));
             }
-        }
-        Some(Told::List { fault, expected }) => {
-            let _ = explain_fault(rt, fault);
-            if let Some(line) = expected {
-                let _ = rt.eprintln(format_args!("rnlp: expected: {line}"));
-            }
-        }
-        Some(Told::Script { line, code }) => {
-            let _ = explain_script(rt, line, code);
-        }
-        None => {
-            let _ = explain_status(rt, status);
         }
     }
     status
-}
-
-fn explain_status(rt: &impl Eprint, status: ToolStatus) -> io::Result<()> {
-    match meaning_of_status(status) {
-        Some(meaning) => rt.eprintln(format_args!("rnlp: {meaning}")),
-        None => Ok(()),
-    }
-}
-
-// What a status means; of one that is done nothing is told.
-fn meaning_of_status(status: ToolStatus) -> Option<&'static str>
-    ensures { option_map (λ text. text.now) result ≡ status_meaning status }
-{
-    match status {
-        ToolStatus::Done => None,
-        ToolStatus::Words => Some(
-            "no such form. The forms are rnlp run < SCRIPT, rnlp replay < LIST, rnlp audit < REPORT, rnlp bound [M] < SCRIPT, and rnlp drill N. rnlp --help tells all",
-        ),
-        ToolStatus::ReadFault => Some("standard input failed"),
-        ToolStatus::WriteFault => Some("standard output failed"),
-        ToolStatus::Script => Some("the input is no script"),
-        ToolStatus::TooLong => Some("the input is too long"),
-        ToolStatus::NoMemory => Some("out of memory"),
-        ToolStatus::Trace => Some("the input is no event list, or no right report"),
-    }
-}
-
-fn explain_counts<A: Audience>(rt: &impl Eprint, audience: &A) -> io::Result<()> {
-    for i in 0..audience.count() {
-        let kind = word_of(audience.kind_of(i));
-        let count = audience.count_of(i);
-        rt.eprintln(format_args!("rnlp: {kind} {count}"))?;
-    }
-    Ok(())
-}
-
-fn word_of(kind: WatchKind) -> &'static str
-    ensures { result.now ≡ kind_word kind }
-{
-    match kind {
-        WatchKind::Issues => "issues",
-        WatchKind::Finishes => "finishes",
-        WatchKind::Rises => "rises",
-        WatchKind::Asks => "asks",
-        WatchKind::Entitled => "entitled",
-        WatchKind::Satisfied => "satisfied",
-        WatchKind::Grants => "grants",
-    }
-}
-
-fn explain_script(rt: &impl Eprint, line: u64, code: ScriptCode) -> io::Result<()> {
-    let meaning = meaning_in_script(code);
-    let number = code.number();
-    rt.eprintln(format_args!("rnlp: record {line}: {meaning} (code {number})"))
-}
-
-fn explain_fault(rt: &impl Eprint, fault: Fault) -> io::Result<()> {
-    let line = fault.line;
-    match fault.code {
-        Code::Refused(refusal) => {
-            let cause = meaning_of_refusal(refusal);
-            rt.eprintln(format_args!("rnlp: record {line}: the event is refused: {cause}"))
-        }
-        code => rt.eprintln(format_args!("rnlp: record {line}: {}", meaning_of(code))),
-    }
-}
-
-fn meaning_in_script(code: ScriptCode) -> &'static str
-    ensures { result.now ≡ script_meaning code }
-{
-    match code {
-        ScriptCode::BadField =>
-            "it is no record of a script, has another number of fields, or the version is not 1",
-        ScriptCode::BadOrder => "it may not stand at this place",
-        ScriptCode::NoResources => "no resource stands before it",
-        ScriptCode::NoTask => "no task stands before it",
-        ScriptCode::BadName => "the name that it declares is none",
-        ScriptCode::Repeated => "the name that it declares is declared already",
-        ScriptCode::TooMany => "there are as many resources, tasks or groups as there may be",
-        ScriptCode::UnknownName => "it names a resource that is not declared",
-        ScriptCode::BadNumber => "a number of it is none, or above its limit",
-        ScriptCode::EmptyGroup => "its group is empty",
-        ScriptCode::EmptyRequest => "its request is about nothing",
-        ScriptCode::Undeclared => "the resources to read are not declared together",
-        ScriptCode::FirstOutside => "the first part is empty, or not within the request",
-        ScriptCode::NotHeld =>
-            "it shows or edits what the section does not hold, or asks for nothing or for more than the request",
-        ScriptCode::NotWritable => "it edits what the section holds for reading only",
-        ScriptCode::NoEnd => "the script has no end record",
-    }
-}
-
-fn meaning_of(code: Code) -> &'static str
-    ensures { result.now ≡ list_meaning code }
-{
-    match code {
-        Code::BadField =>
-            "it is no record of this input, or a name, a number or a word of it is bad",
-        Code::UnknownName => "it names a task or a resource that is not declared",
-        Code::BadOrder => "it may not stand at this place",
-        Code::Refused(_) => "the event is refused",
-        Code::WrongChange => "another line of a change or of a wait is due here, or none",
-        Code::WrongShow =>
-            "the answer of this act is wrong, or the section does not hold the resource",
-        Code::WrongLedger => "another ledger is due here",
-        Code::NoEnd => "the input has no end record",
-        Code::WrongBound => "the bound that it tells is not that of the wait",
-    }
-}
-
-fn meaning_of_refusal(refusal: Refusal) -> &'static str
-    ensures { result.now ≡ refusal_meaning refusal }
-{
-    match refusal {
-        Refusal::Step(Refused::SeatBusy) => "the task has a request already",
-        Refusal::Step(Refused::Full) => "as many requests are incomplete as the cap allows",
-        Refusal::Step(Refused::NotHolding) => "the task holds nothing, or an ask of it is pending",
-        Refusal::Step(Refused::NotUpgradeable) => "the request is no upgrade, or has risen",
-        Refusal::Step(Refused::NotNested) => "the request is not nested",
-        Refusal::Step(Refused::AskOutside) =>
-            "what is asked for is empty, or not within the request",
-        Refusal::Request(RequestErr::EmptyRequest) => "the request is about nothing",
-        Refusal::Request(RequestErr::Undeclared) => {
-            "the resources to read are not declared together"
-        }
-        Refusal::Request(RequestErr::FirstOutside) => {
-            "the first part is empty, or not within the request"
-        }
-    }
 }

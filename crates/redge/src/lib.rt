@@ -6,6 +6,8 @@
 
 mod edge;
 mod explain;
+mod lines;
+mod meanings;
 mod own;
 mod progress;
 
