@@ -164,10 +164,14 @@ module _ (ns : List Needed) (tasks : ℕ) (a : Answers) (so : AreAnswers ns task
 
 -- ---- made from parts
 
-pub zone_bounds : {T E : Type 0} (r : Result T E) (f : T → List Bound) (tables : Tables) (tasks cap l : ℕ) (zone : Set) (rows : ZoneRows) → IsTrue (all_below RESOURCES zone) → AreTableRows tables tasks zone rows
+pub zone_bounds : {T E : Type 0} (r : Result T E) (f : T → List Bound) (tables : Tables) (tasks cap l : ℕ) (zone : Set) (rows : ZoneRows) → slice_get (rising zone) 0 ≡ Some l → IsTrue (all_below RESOURCES zone) → AreTableRows tables tasks zone rows
     → IfOk r (λ bs. map numbers_in (f bs) ≡ map (numbers_of rows tasks cap) (range_with_len 0 tasks)) → IfOk r (λ bs. StandsAt tables tasks cap zone l (f bs))
-zone_bounds (Ok bs) f tables tasks cap l zone rows below are is = record { below = below; least = λ _. record { rows = rows; are = are; below = below; numbers = is } }
-zone_bounds (Err e) f tables tasks cap l zone rows below are is = tt
+zone_bounds (Ok bs) f tables tasks cap l zone rows at below are is = record {
+  below = below;
+  least = λ _. record { rows = rows; are = are; below = below; numbers = is };
+  else_none = λ other. absurd (other at);
+}
+zone_bounds (Err e) f tables tasks cap l zone rows at below are is = tt
 
 pub same_answers : (a : Answers) (ms ns : List Needed) (many tasks : ℕ) → ms ≡ ns → many ≡ tasks → AreAnswers ms many a → AreAnswers ns tasks a
 same_answers a ms ns many tasks same all so = subst (λ (t : ℕ). AreAnswers ns t a) all (subst (λ (ls : List Needed). AreAnswers ls many a) same so)

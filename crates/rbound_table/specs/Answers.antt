@@ -1,5 +1,5 @@
 -- What answers all bounds, made once from the claims that are needed.
-use Rattle.std.specs.Prelude.{◌≡◌, ℕ, List, map, length, slice_get, slice_index_or, Option, Some, None, IsTrue, if◌then◌else◌}
+use Rattle.std.specs.Prelude.{◌≡◌, ◌≢◌, ℕ, List, [], map, length, slice_get, slice_index_or, Option, Some, None, IsTrue, if◌then◌else◌}
 use Rattle.std.specs.List.{range_with_len}
 use Rattle.std.specs.FinSet.{empty, intersection}
 use Rattle.std.specs.declared.vec.Vec.{Vec}
@@ -31,10 +31,11 @@ pub record AreZoneBounds (tables : Tables) (tasks cap : ℕ) (zone : Set) (bound
   pub below : IsTrue (all_below RESOURCES zone)
   pub numbers : map numbers_in bounds ≡ map (numbers_of rows tasks cap) (range_with_len 0 tasks)
 
--- they stand at the least place of the zone
+-- they stand at the least place of the zone, and none at another
 pub record StandsAt (tables : Tables) (tasks cap : ℕ) (zone : Set) (l : ℕ) (bounds : List Bound) : Type 0 where
   pub below : IsTrue (all_below RESOURCES zone)
   pub least : slice_get (rising zone) 0 ≡ Some l → AreZoneBounds tables tasks cap zone bounds
+  pub else_none : slice_get (rising zone) 0 ≢ Some l → bounds ≡ []
 
 -- the bounds of the write waits in all of these zones, each at its place
 pub record AreWriteBounds (tables : Tables) (tasks cap : ℕ) (zones : List Set) (writes : List (Vec Bound Global)) : Type 0 where

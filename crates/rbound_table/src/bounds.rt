@@ -53,7 +53,9 @@ impl Bounds {
         &self.needs
     }
 
-    /// The bound of a wait of the request number `k` of a task, both counted from 0. It takes no memory.
+    /// The bound of a wait of the request number `k` of a task, both counted from 0. It takes no memory. That of a rise is the
+    /// bound of the request's write claim, of whatever kind the request is; where it has no write claim, or no ask of that
+    /// number, all numbers are 0.
     pub fn bound(&self, task: u8, k: usize, which: Which) -> Bound
         requires task { task < length self.now.needs.tasks }
         requires number { k < length (requests_of self.now.needs.tasks task) }
