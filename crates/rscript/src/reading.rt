@@ -1,5 +1,5 @@
 // The reader of a script, record by record.
-ghost use Rattle.std.specs.Prelude.{◌≡◌, ◌≢◌, ◌<◌, ◌≤◌, ◌++◌, ◌∷◌, [], ◌==◌, length, None, Some, true, false, IsTrue, OnOk, IfErr, IfSome};
+ghost use Rattle.std.specs.Prelude.{◌≡◌, ◌≢◌, ◌<◌, ◌≤◌, ◌++◌, ◌∷◌, [], ◌==◌, length, None, Some, true, false, IsTrue, OnOk, OnErr, IfErr, IfSome};
 ghost use Rattle.std.specs.FinSet.{empty};
 ghost use Rattle.csv.specs.Records.{fields_of};
 ghost use Rattle.rset.specs.Sets.{all_below};
@@ -72,13 +72,14 @@ impl Reading {
     ///
     /// # Errors
     ///
-    /// The first thing that is wrong with it, or want of memory.
+    /// The first thing that is wrong with it, and then nothing has changed; or want of memory.
     pub fn take_word(&mut self, word: Word, fields: &ByteRecord) -> Result<(), RowErr<Code>>
         requires known { (s : SoFar) × Knows self.old s }
         requires form { word_in (fields_of fields.now) ≡ Some word }
         requires stands { stands_at self.old.last self.old.section word ≡ true }
         ensures taken { OnOk result (Takes self.old self.new (fields_of fields.now) word) }
         ensures bad { (cause : Code) → result ≡ Err (RowErr.Bad cause) → Refuses self.old (fields_of fields.now) word cause }
+        ensures still { (cause : Code) → result ≡ Err (RowErr.Bad cause) → self.new ≡ self.old }
     {
         match word {
             Word::Version => self.take_version(fields),
@@ -96,6 +97,7 @@ impl Reading {
         requires early { self.old.last ≤ 2 }
         ensures taken { OnOk result (Takes self.old self.new (fields_of fields.now) Word.Version) }
         ensures bad { (cause : Code) → result ≡ Err (RowErr.Bad cause) → Refuses self.old (fields_of fields.now) Word.Version cause }
+        ensures still { (cause : Code) → result ≡ Err (RowErr.Bad cause) → self.new ≡ self.old }
     {
         // Its fields are its word alone: only the contract speaks of them.
         let _ = fields;
@@ -109,6 +111,7 @@ impl Reading {
         requires early { self.old.last ≤ 2 }
         ensures taken { OnOk result (Takes self.old self.new (fields_of fields.now) Word.Resource) }
         ensures bad { (cause : Code) → result ≡ Err (RowErr.Bad cause) → Refuses self.old (fields_of fields.now) Word.Resource cause }
+        ensures still { (cause : Code) → result ≡ Err (RowErr.Bad cause) → self.new ≡ self.old }
     {
         declare(&mut self.resources, field_of(fields, 1))?;
         self.last = 2;
@@ -121,6 +124,7 @@ impl Reading {
         requires form { word_in (fields_of fields.now) ≡ Some Word.Group }
         ensures taken { OnOk result (Takes self.old self.new (fields_of fields.now) Word.Group) }
         ensures bad { (cause : Code) → result ≡ Err (RowErr.Bad cause) → Refuses self.old (fields_of fields.now) Word.Group cause }
+        ensures still { (cause : Code) → result ≡ Err (RowErr.Bad cause) → self.new ≡ self.old }
     {
         if has_all_groups(&self.groups) {
             return Err(RowErr::Bad(Code::TooMany));
@@ -143,6 +147,7 @@ impl Reading {
         requires closed { self.old.section ≡ None }
         ensures taken { OnOk result (Takes self.old self.new (fields_of fields.now) Word.Task) }
         ensures bad { (cause : Code) → result ≡ Err (RowErr.Bad cause) → Refuses self.old (fields_of fields.now) Word.Task cause }
+        ensures still { (cause : Code) → result ≡ Err (RowErr.Bad cause) → self.new ≡ self.old }
     {
         let q = self.resources.len();
         if q == 0 {
@@ -180,6 +185,7 @@ impl Reading {
         requires form { word_in (fields_of fields.now) ≡ Some Word.End }
         ensures taken { OnOk result (Takes self.old self.new (fields_of fields.now) Word.End) }
         ensures bad { (cause : Code) → result ≡ Err (RowErr.Bad cause) → Refuses self.old (fields_of fields.now) Word.End cause }
+        ensures still { (cause : Code) → result ≡ Err (RowErr.Bad cause) → self.new ≡ self.old }
     {
         // Its fields are its word alone: only the contract speaks of them.
         let _ = fields;
@@ -200,6 +206,7 @@ impl Reading {
         requires behind { self.old.last ≡ 4 }
         ensures taken { OnOk result (Takes self.old self.new (fields_of fields.now) word) }
         ensures bad { (cause : Code) → result ≡ Err (RowErr.Bad cause) → Refuses self.old (fields_of fields.now) word cause }
+        ensures still { (cause : Code) → result ≡ Err (RowErr.Bad cause) → self.new ≡ self.old }
     {
         match statement_of(&self.resources, word, fields) {
             Err(code) => Err(RowErr::Bad(code)),
@@ -227,6 +234,7 @@ impl Reading {
 fn declare(table: &mut NameTable, name: &[u8]) -> Result<(), RowErr<Code>>
     ensures ok { OnOk result ((first_of (name_causes RESOURCES table.old name.now) ≡ None) × (table.new ≡ table.old ++ name.now ∷ [])) }
     ensures bad { (cause : Code) → result ≡ Err (RowErr.Bad cause) → first_of (name_causes RESOURCES table.old name.now) ≡ Some cause }
+    ensures still { OnErr result (table.new ≡ table.old) }
 {
     match table.add(name) {
         Ok(_) => Ok(()),

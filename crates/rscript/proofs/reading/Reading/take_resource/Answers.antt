@@ -13,3 +13,6 @@ returns-clause-taken c =
     takes_resource c.args.self.now (fields_of c.args.fields.now) c.declare.new.table c.requires.form c.requires.early
     (ap (λ (name : List ℕ). first_of (name_causes RESOURCES names name)) (sym is) ∙ c.in_ok-declare.ensures.ok.0)
     (c.in_ok-declare.ensures.ok.1 ∙ ap (λ (name : List ℕ). names ++ name ∷ []) is)
+
+pub returns-in_err-declare-clause-still : goal.returns-in_err-declare-clause-still
+returns-in_err-declare-clause-still c = λ cause is. λ i. record c.args.self.now { resources = c.in_err-declare.ensures.still i }

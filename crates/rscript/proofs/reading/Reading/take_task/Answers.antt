@@ -18,3 +18,6 @@ returns-clause-taken c =
     (c.in_ok-declare.ensures.ok.1 ∙ ap (λ (name : List ℕ). names ++ name ∷ []) is)
     (c.in_ok-make_groups.ensures.made ∙ ap (λ q. let g : ReadGroups = record { q = q; groups = groups_in c.args.self.now.groups } in Some g) c.len-q.ensures.value)
     c.in_ok-close_task.ensures.ok
+
+pub returns-in_err-declare-clause-still : goal.returns-in_err-declare-clause-still
+returns-in_err-declare-clause-still c = λ cause is. λ i. record c.args.self.now { tasks = c.in_err-declare.ensures.still i }
