@@ -1,5 +1,5 @@
 // Keeping the history of a text as it is read.
-ghost use Rattle.std.specs.Prelude.{◌≡◌, ◌++◌, Bool, false, OnOk, IfOk, IfErr, Some, option_to_list, option_map};
+ghost use Rattle.std.specs.Prelude.{◌≡◌, ◌++◌, Bool, false, OnOk, OnErr, IfOk, IfErr, Some, option_to_list, option_map};
 ghost use Rattle.rforms.specs.SoFar.{with_act};
 ghost use Rattle.rforms.specs.declared.fault.Code.TheVariants.{NoEnd};
 ghost use Rattle.rvalue.specs.declared.act.Act.{Act};
@@ -81,9 +81,10 @@ impl Collecting {
     ///
     /// # Errors
     ///
-    /// Want of memory.
+    /// Want of memory. Nothing changes then.
     pub fn keep_taken(&mut self, taken: Taken) -> Result<(), AllocError>
-        ensures { OnOk result (Keeps taken self.old self.new) }
+        ensures ok { OnOk result (Keeps taken self.old self.new) }
+        ensures still { OnErr result (self.new ≡ self.old) }
     {
         match taken {
             Taken::Event(event) => self.begin(event),
@@ -95,7 +96,8 @@ impl Collecting {
 
     // Begins the entry of an event.
     fn begin(&mut self, event: Event) -> Result<(), AllocError>
-        ensures { OnOk result ((self.new.reading ≡ self.old.reading) × (self.new.history.entries ≡ self.old.history.entries ++ option_to_list self.old.latest) × (self.new.latest ≡ Some (bare event))) }
+        ensures ok { OnOk result ((self.new.reading ≡ self.old.reading) × (self.new.history.entries ≡ self.old.history.entries ++ option_to_list self.old.latest) × (self.new.latest ≡ Some (bare event))) }
+        ensures still { OnErr result (self.new ≡ self.old) }
     {
         self.keep()?;
         self.latest = Some(Entry {
@@ -107,7 +109,8 @@ impl Collecting {
 
     // Puts the latest entry behind the others, if there is one.
     fn keep(&mut self) -> Result<(), AllocError>
-        ensures { OnOk result ((self.new.reading ≡ self.old.reading) × (self.new.history.entries ≡ self.old.history.entries ++ option_to_list self.old.latest)) }
+        ensures ok { OnOk result ((self.new.reading ≡ self.old.reading) × (self.new.history.entries ≡ self.old.history.entries ++ option_to_list self.old.latest)) }
+        ensures still { OnErr result (self.new ≡ self.old) }
     {
         self.history.reserve(1)?;
         if let Some(entry) = self.latest.take() {
@@ -118,7 +121,8 @@ impl Collecting {
 
     // Adds an act to the latest entry.
     fn add(&mut self, act: Act<Edit>) -> Result<(), AllocError>
-        ensures { OnOk result ((self.new.reading ≡ self.old.reading) × (self.new.history.entries ≡ self.old.history.entries) × (self.new.latest ≡ option_map (with_act act) self.old.latest)) }
+        ensures ok { OnOk result ((self.new.reading ≡ self.old.reading) × (self.new.history.entries ≡ self.old.history.entries) × (self.new.latest ≡ option_map (with_act act) self.old.latest)) }
+        ensures still { OnErr result (self.new ≡ self.old) }
     {
         match &mut self.latest {
             Some(entry) => add_act(entry, act),
@@ -164,7 +168,8 @@ impl Collecting {
 
 // Adds an act to an entry.
 fn add_act(entry: &mut Entry<Edit>, act: Act<Edit>) -> Result<(), AllocError>
-    ensures { OnOk result (entry.new ≡ with_act act entry.old) }
+    ensures ok { OnOk result (entry.new ≡ with_act act entry.old) }
+    ensures still { OnErr result (entry.new ≡ entry.old) }
 {
     entry.acts.push(act)?;
     Ok(())

@@ -1,6 +1,7 @@
 use Rattle.std.proofs.Common.{Err, true, ap}
 use Rattle.rforms.proofs.texts.Lists.{list_fault}
 use Rattle.rforms.proofs.texts.Place.{err_is}
+use Rattle.rreport.proofs.Writing.{always_on_ok}
 use Rattle.rtrace.proofs.Results.{if_ok, no_read_fault, not_too_long}
 use Rattle.rtrace.proofs.count.count_stream.Goals as goal
 
@@ -23,3 +24,6 @@ pub returns-in-Err-clause-bad : goal.returns-in-Err-clause-bad
 returns-in-Err-clause-bad g c = λ fault is.
     let h = c.in-Err.ensures.bad fault (ap Err (err_is is)) in
     (h.0, h.1, list_fault true h.0 fault h.2)
+
+pub returns-in-Ok-clause-knows : goal.returns-in-Ok-clause-knows
+returns-in-Ok-clause-knows g c = always_on_ok c.counted.result c.in-Ok.ensures.taken
