@@ -47,43 +47,43 @@ none_three x y z rest (Some a) (Some b) (Some c) p q r h = absurd (some_none (sy
 all_three : (x y z : List ℕ) (n : Numbers) (rest : Bool) → AreTold x y z n → (is_number x && (is_number y && (is_number z && rest))) ≡ rest
 all_three x y z n rest h = λ i. number_is x n.reads h.reads i && (number_is y n.writes h.writes i && (number_is z n.units h.units i && rest))
 
-module _ (rs ts : List (List ℕ)) (row : Row) (stage : Stage) (form : IsOf (word.Wait stage) row) where
-  at_three : (n : Numbers) → numbers_told row 3 ≡ Some n → AreTold (field_of row 3) (field_of row 4) (field_of row 5) n
+module _ (rs ts : List (List ℕ)) (told : Row) (stage : Stage) (form : IsOf (word.Wait stage) told) where
+  at_three : (n : Numbers) → numbers_told told 3 ≡ Some n → AreTold (field_of told 3) (field_of told 4) (field_of told 5) n
   unfolding three
-  at_three n h = told_three (field_of row 3) (field_of row 4) (field_of row 5) n (number_told (field_of row 3)) (number_told (field_of row 4)) (number_told (field_of row 5)) refl refl refl h
+  at_three n h = told_three (field_of told 3) (field_of told 4) (field_of told 5) n (number_told (field_of told 3)) (number_told (field_of told 4)) (number_told (field_of told 5)) refl refl refl h
 
-  at_six : (n : Numbers) → numbers_told row 6 ≡ Some n → AreTold (field_of row 6) (field_of row 7) (field_of row 8) n
+  at_six : (n : Numbers) → numbers_told told 6 ≡ Some n → AreTold (field_of told 6) (field_of told 7) (field_of told 8) n
   unfolding three
-  at_six n h = told_three (field_of row 6) (field_of row 7) (field_of row 8) n (number_told (field_of row 6)) (number_told (field_of row 7)) (number_told (field_of row 8)) refl refl refl h
+  at_six n h = told_three (field_of told 6) (field_of told 7) (field_of told 8) n (number_told (field_of told 6)) (number_told (field_of told 7)) (number_told (field_of told 8)) refl refl refl h
 
-  pub wait_says : (seat : ℕ) (cover bound : Numbers) → number_in ts (field_of row 1) ≡ Some seat → numbers_told row 3 ≡ Some cover → numbers_told row 6 ≡ Some bound
-      → Says (names_by rs ts) (word.Wait stage) row (Waits seat stage cover bound)
+  pub wait_says : (seat : ℕ) (cover bound : Numbers) → number_in ts (field_of told 1) ≡ Some seat → numbers_told told 3 ≡ Some cover → numbers_told told 6 ≡ Some bound
+      → Says (names_by rs ts) (word.Wait stage) told (Waits seat stage cover bound)
   wait_says seat cover bound task first last =
       let a = at_three cover first in
       let b = at_six bound last in
-      says_at (names_by rs ts) (word.Wait stage) row form _
+      says_at (names_by rs ts) (word.Wait stage) told form _
       (all_three _ _ _ cover _ a ∙ all_three _ _ _ bound true b)
       (λ i. option_map (line_by (word.Wait stage)) (paired (task i) (paired (a.reads i) (paired (a.writes i) (paired (a.units i) (paired (b.reads i) (paired (b.writes i) (paired (b.units i) (Some tt)))))))))
 
-  pub wait_unknown : (cover bound : Numbers) → number_in ts (field_of row 1) ≡ None → numbers_told row 3 ≡ Some cover → numbers_told row 6 ≡ Some bound → IsUnknown (names_by rs ts) (word.Wait stage) row
+  pub wait_unknown : (cover bound : Numbers) → number_in ts (field_of told 1) ≡ None → numbers_told told 3 ≡ Some cover → numbers_told told 6 ≡ Some bound → IsUnknown (names_by rs ts) (word.Wait stage) told
   wait_unknown cover bound none first last =
       let a = at_three cover first in
       let b = at_six bound last in
-      unknown_at (names_by rs ts) (word.Wait stage) row form
+      unknown_at (names_by rs ts) (word.Wait stage) told form
       (all_three _ _ _ cover _ a ∙ all_three _ _ _ bound true b)
       (λ i. paired (none i) (paired (a.reads i) (paired (a.writes i) (paired (a.units i) (paired (b.reads i) (paired (b.writes i) (paired (b.units i) (Some tt))))))))
 
-  pub wait_no_cover : numbers_told row 3 ≡ None → all_counted (fields_of (word.Wait stage)) row ≡ false
+  pub wait_no_cover : numbers_told told 3 ≡ None → all_counted (fields_of (word.Wait stage)) told ≡ false
   unfolding three
   wait_no_cover none =
-      uncounted_at (names_by rs ts) (word.Wait stage) row form
-      (none_three (field_of row 3) (field_of row 4) (field_of row 5) (is_number (field_of row 6) && (is_number (field_of row 7) && (is_number (field_of row 8) && true)))
-      (number_told (field_of row 3)) (number_told (field_of row 4)) (number_told (field_of row 5)) refl refl refl none)
+      uncounted_at (names_by rs ts) (word.Wait stage) told form
+      (none_three (field_of told 3) (field_of told 4) (field_of told 5) (is_number (field_of told 6) && (is_number (field_of told 7) && (is_number (field_of told 8) && true)))
+      (number_told (field_of told 3)) (number_told (field_of told 4)) (number_told (field_of told 5)) refl refl refl none)
 
-  pub wait_no_bound : (cover : Numbers) → numbers_told row 3 ≡ Some cover → numbers_told row 6 ≡ None → all_counted (fields_of (word.Wait stage)) row ≡ false
+  pub wait_no_bound : (cover : Numbers) → numbers_told told 3 ≡ Some cover → numbers_told told 6 ≡ None → all_counted (fields_of (word.Wait stage)) told ≡ false
   unfolding three
   wait_no_bound cover first none =
-      uncounted_at (names_by rs ts) (word.Wait stage) row form
+      uncounted_at (names_by rs ts) (word.Wait stage) told form
       (all_three _ _ _ cover _ (at_three cover first)
-      ∙ none_three (field_of row 6) (field_of row 7) (field_of row 8) true
-      (number_told (field_of row 6)) (number_told (field_of row 7)) (number_told (field_of row 8)) refl refl refl none)
+      ∙ none_three (field_of told 6) (field_of told 7) (field_of told 8) true
+      (number_told (field_of told 6)) (number_told (field_of told 7)) (number_told (field_of told 8)) refl refl refl none)
