@@ -1,7 +1,8 @@
 // What a history needs, gathered event by event.
-ghost use Rattle.std.specs.Prelude.{◌≡◌, ◌≤◌, ◌<◌, ◌++◌, ◌∷◌, [], ℕ, List, Some, IfOk, OnOk, OnErr, true, length, slice_get, slice_set};
+ghost use Rattle.std.specs.Prelude.{◌≡◌, ◌≤◌, ◌<◌, ◌++◌, ◌∷◌, ◌⊎◌, [], ℕ, List, Some, IfOk, IsOk, OnOk, OnErr, true, length, slice_get, slice_set};
 ghost use Rattle.rexpand.specs.Groups.{ReadGroups};
 ghost use Rattle.rclaim.specs.declared.event.Event.{Event};
+ghost use Rattle.rclaim.specs.declared.event.Event.TheVariants.{Finish, Rise};
 ghost use Rattle.rmodel.specs.State.{opening};
 ghost use Rattle.rmodel.specs.Steps.{AreAccepted};
 ghost use Rattle.rshapes.specs.Shapes.{with_shape, shape_index, with_shape_ask, ask_index, is_nested_at};
@@ -54,15 +55,17 @@ impl GrowingNeeds {
     }
 
     /// Tells it an event, which is accepted behind those that it was told before. Memory is taken for shapes and for the sets
-    /// that they ask for, not for events: none for a finish, a rise, or a request that has the shape of its seat's last one.
+    /// that they ask for, not for events: none for a finish or a rise. For a request that has the shape of its seat's last one
+    /// none is taken either, which is not proved.
     ///
     /// # Errors
     ///
-    /// Want of memory. Nothing changes then.
+    /// Want of memory, and never for a finish or a rise. Nothing changes then.
     pub fn told(&mut self, event: &Event) -> Result<(), AllocError>
         requires { (groups : ReadGroups) × (seats : ℕ) × (cap : ℕ) × (events : List Event) × Knows self.old seats events × AreAccepted (opening groups seats cap) (events ++ event.now ∷ []) }
         ensures ok { OnOk result ((groups : ReadGroups) (seats cap : ℕ) (events : List Event) → Knows self.old seats events → AreAccepted (opening groups seats cap) (events ++ event.now ∷ []) → Knows self.new seats (events ++ event.now ∷ [])) }
         ensures err { OnErr result (self.new ≡ self.old) }
+        ensures succeeds { (seat : ℕ) → ((event.now ≡ Finish seat) ⊎ (event.now ≡ Rise seat)) → IsOk result }
     {
         match event {
             Event::Issue { seat, request } => self.take_request(*seat, *request),
