@@ -1,5 +1,5 @@
 -- Sweeps: what they take lies in the zone, and a sweep that adds nothing leaves a closed set, which is the zone.
-use Rattle.std.proofs.Common.{◌≡◌, ◌≤◌, ◌<◌, ℕ, zero, suc, length, Bool, true, false, not, ◌&&◌, cond, List, [], ◌∷◌, fold, filter, refl, sym, ap, subst, ◌∙◌, inl, inr, arith}
+use Rattle.std.proofs.Common.{◌≡◌, ◌≤◌, ◌<◌, ℕ, length, Bool, true, false, not, ◌&&◌, cond, List, [], ◌∷◌, fold, filter, refl, sym, ap, subst, ◌∙◌, inl, inr, arith}
 use Rattle.std.proofs.lemmas.Bool.{and_parts, and_from}
 use Rattle.std.specs.FinSet.{union, is_subset}
 use Rattle.std.specs.List.{list_any}
