@@ -77,6 +77,34 @@ module _ {C : Type 0} (code : List Row → Row → Option C) (is_done : List Row
     pub knows : Knows taker rows
     pub few : length rows < 2 ^ 62
 
+-- ---- where a taker stands once a text has a fault
+
+-- in a part of a text a record was refused: the taker knew the records before it, and stays as such a record leaves it
+pub record IsRefusedAt {T : Type 0} (Knows : T → List Row → Type 0) (Stays : T → T → Type 0) (earlier : List Row) (bytes : List ℕ) (line : ℕ) (taker : T) : Type 0 where
+  pub before : List Row
+  pub refused : Row
+  pub rest : List Row
+  pub are : AreRowsOf bytes (before ++ refused ∷ rest)
+  pub was : T
+  pub knows : Knows was (earlier ++ before)
+  pub counted : length (earlier ++ before) + 1 ≡ line
+  pub stays : Stays was taker
+
+-- the first of these records was refused, or there is none and nothing has changed
+abbrev pub IsLeftBy : {T : Type 0} → (T → T → Type 0) → List Row → T → T → Type 0
+IsLeftBy Stays [] was taker = taker ≡ was
+IsLeftBy Stays (refused ∷ rest) was taker = Stays was taker
+
+-- a taker stands where the record with this number would be due: it knew the records of the text before it
+pub record StandsAt {T : Type 0} (Knows : T → List Row → Type 0) (Stays : T → T → Type 0) (bytes : List ℕ) (line : ℕ) (taker : T) : Type 0 where
+  pub before : List Row
+  pub behind : List Row
+  pub are : AreRowsOf bytes (before ++ behind)
+  pub was : T
+  pub knows : Knows was before
+  pub counted : length before + 1 ≡ line
+  pub left : IsLeftBy Stays behind was taker
+
 -- ---- event lists and reports
 
 -- what is wrong with a record behind others

@@ -2,7 +2,7 @@
 ghost use Rattle.std.specs.Prelude.{◌≡◌, ◌<◌, ◌^◌, ◌++◌, ◌+◌, ◌∷◌, [], ℕ, Bool, true, false, List, Option, length, OnOk, IfOk, None, Some};
 ghost use Rattle.csv.specs.Records.{fields_of};
 ghost use Rattle.rforms.specs.Records.{Row};
-ghost use Rattle.rforms.specs.Takers.{IsFresh, IsFaultBehind, IsFaultOf, HasTaken, HasTakenPart};
+ghost use Rattle.rforms.specs.Takers.{IsFresh, IsFaultBehind, IsFaultOf, IsRefusedAt, StandsAt, HasTaken, HasTakenPart};
 
 use crate::Fault;
 use crate::errors::{RowErr, TextErr};
@@ -29,15 +29,20 @@ pub trait Records {
     // it knows that these records were taken
     ghost knows: { Self → List Row → Type 0 };
 
+    // how a record that is refused leaves it, against how it was before
+    ghost stays: { Self → Self → Type 0 } = { λ _ _. Unit {0} };
+
     /// Takes the next record.
     ///
     /// # Errors
     ///
-    /// The first thing that is wrong with the record, or want of memory. Nothing is said then of what it knows.
+    /// The first thing that is wrong with the record, which leaves it as `stays` says, or want of memory. Nothing is said then
+    /// of what it knows.
     fn take(&mut self, fields: &ByteRecord) -> Result<(), RowErr<Self::Code>>
         requires { (rows : List Row) × knows self.old rows × (length rows < 2 ^ 62) }
         ensures taken { OnOk result ((rows : List Row) → knows self.old rows → (code rows (fields_of fields.now) ≡ None) × knows self.new (rows ++ fields_of fields.now ∷ [])) }
-        ensures bad { (cause : Self.Code) → result ≡ Err (RowErr.Bad cause) → (rows : List Row) → knows self.old rows → code rows (fields_of fields.now) ≡ Some cause };
+        ensures bad { (cause : Self.Code) → result ≡ Err (RowErr.Bad cause) → (rows : List Row) → knows self.old rows → code rows (fields_of fields.now) ≡ Some cause }
+        ensures still { (cause : Self.Code) → result ≡ Err (RowErr.Bad cause) → stays self.old self.new };
 
     /// Whether the text may end here.
     fn has_ended(&self) -> bool
@@ -52,7 +57,8 @@ pub trait Records {
 ///
 /// # Errors
 ///
-/// The first fault of a text that is none of the taker's kind, or want of memory.
+/// The first fault of a text that is none of the taker's kind, and then the taker stands where the faulty record would be due
+/// (`StandsAt`); or want of memory.
 pub fn take_text<T: Records>(
     alloc: Global,
     bytes: &[u8],
@@ -61,6 +67,7 @@ pub fn take_text<T: Records>(
     requires { T.knows taker.old [] }
     ensures taken { OnOk result (HasTaken T.code T.is_done T.no_end T.knows bytes.now taker.new) }
     ensures bad { (fault : Fault T.Code) → result ≡ Err (TextErr.Bad fault) → IsFaultOf T.code T.is_done T.no_end bytes.now fault }
+    ensures still { (fault : Fault T.Code) → result ≡ Err (TextErr.Bad fault) → StandsAt T.knows T.stays bytes.now fault.line taker.new }
 {
     let mut fields = ByteRecord::new(alloc);
     match take_part(alloc, bytes, &mut fields, 1, taker) {
@@ -87,6 +94,8 @@ pub fn take_part<T: Records>(
         → IfOk result (HasTakenPart T.code T.knows earlier bytes.now taker.new) }
     ensures bad { (earlier : List Row) → T.knows taker.old earlier → length earlier + 1 ≡ from
         → (fault : Fault T.Code) → result ≡ Err (TextErr.Bad fault) → IsFaultBehind T.code T.is_done T.no_end earlier bytes.now fault }
+    ensures still { (earlier : List Row) → T.knows taker.old earlier → length earlier + 1 ≡ from
+        → (fault : Fault T.Code) → result ≡ Err (TextErr.Bad fault) → IsRefusedAt T.knows T.stays earlier bytes.now fault.line taker.new }
 {
     let mut reader = reader_of(alloc, bytes);
     take_rows(&mut reader, fields, from, taker)
@@ -135,6 +144,8 @@ fn take_rows<T: Records>(
         → IfOk result (HasTakenPart T.code T.knows earlier bytes taker.new) }
     ensures bad { (bytes : List ℕ) → IsFresh bytes reader.old → (earlier : List Row) → T.knows taker.old earlier → length earlier + 1 ≡ from
         → (fault : Fault T.Code) → result ≡ Err (TextErr.Bad fault) → IsFaultBehind T.code T.is_done T.no_end earlier bytes fault }
+    ensures still { (bytes : List ℕ) → IsFresh bytes reader.old → (earlier : List Row) → T.knows taker.old earlier → length earlier + 1 ≡ from
+        → (fault : Fault T.Code) → result ≡ Err (TextErr.Bad fault) → IsRefusedAt T.knows T.stays earlier bytes fault.line taker.new }
 {
     for line in from..MOST_RECORDS {
         let Ok(found) = reader.read_byte_record(fields) else {

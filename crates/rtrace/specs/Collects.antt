@@ -6,6 +6,7 @@ use Rattle.rforms.specs.SoFar.{SoFar, nothing_yet, entries_in, bare, with_act}
 use Rattle.rforms.specs.Faults.{read_all}
 use Rattle.rforms.specs.WrongBounds.{bounds_said}
 use Rattle.rreading.specs.Knows.{Knows}
+use Rattle.rreading.specs.Takes.{StillDue}
 use Rattle.rtrace.specs.ToldBounds.{KnowsBounds}
 use Rattle.rreport.specs.Report.{ReportFields}
 use Rattle.rtrace.specs.declared.collect.Collecting.{Collecting}
@@ -57,6 +58,10 @@ pub record KnowsCount (taker : Counting) (rows : List Row) : Type 0 where
   pub bounds : KnowsBounds taker.bounds rows
   pub events : taker.events ≡ length (entries_in (read_all true rows))
   pub waits : taker.waits ≡ waits_told rows
+
+-- a record was refused, and what was due to the reader is due still
+abbrev pub CountStays : Counting → Counting → Type 0
+CountStays was taker = StillDue was.reading taker.reading
 
 -- a report is made of what is kept, the latest entry being kept too
 pub record IsFinished (taker : Collecting) (r : ReportFields) : Type 0 where

@@ -1,18 +1,16 @@
 // Checking a report, with no more kept than is needed to judge it.
-ghost use Rattle.std.specs.Prelude.{◌≡◌, ◌≤◌, ◌<◌, ◌+◌, ◌^◌, ◌++◌, ◌∷◌, None, Some, ℕ, length, IfOk, IfErr, OnOk, IsErrOf, true, [], List};
-ghost use Rattle.csv.specs.Records.{fields_of};
+ghost use Rattle.std.specs.Prelude.{◌≡◌, ◌≤◌, ◌<◌, ◌+◌, ◌^◌, ◌≢◌, ℕ, length, IfOk, IfErr, OnOk, IsErrOf, true, [], List};
 ghost use Rattle.io_ends.specs.Faults.{Rose};
 ghost use Rattle.io_ends.specs.Ends.{Took, TookAtMost};
-ghost use Rattle.rforms.specs.Records.{Row};
-ghost use Rattle.rforms.specs.Takers.{IsFirstFault, HasTaken, list_code, is_list_done};
+ghost use Rattle.rforms.specs.Takers.{IsFirstFault, HasTaken, StandsAt, list_code, is_list_done};
 ghost use Rattle.rforms.specs.declared.fault.Code.{Code};
-ghost use Rattle.rforms.specs.declared.fault.Code.TheVariants.{NoEnd};
+ghost use Rattle.rforms.specs.declared.fault.Code.TheVariants.{NoEnd, WrongBound};
 ghost use Rattle.rforms.specs.declared.fault.Fault.{Fault};
 ghost use Rattle.rstream.specs.Coming.{CameWhole};
 ghost use Rattle.rstream.specs.Errors.{IsOfText};
-ghost use Rattle.rtrace.specs.Collects.{KnowsCount, one_if_told, one_if_event};
+ghost use Rattle.rtrace.specs.Collects.{KnowsCount, CountStays, one_if_told, one_if_event};
 ghost use Rattle.rtrace.specs.Counts.{IsCountOf};
-ghost use Rattle.rreading.specs.Takes.{StillDue, bound_of};
+ghost use Rattle.rreading.specs.Takes.{bound_of};
 
 use crate::bounds::BoundsKept;
 use csv::ByteRecord;
@@ -36,7 +34,7 @@ pub struct Counting {
 
 impl Records for Counting {
     ghost use Rattle.rforms.specs.Takers.{list_code, is_list_done};
-    ghost use Rattle.rtrace.specs.Collects.{KnowsCount};
+    ghost use Rattle.rtrace.specs.Collects.{KnowsCount, CountStays};
 
     type Code = Code;
 
@@ -48,13 +46,9 @@ impl Records for Counting {
 
     ghost knows = { KnowsCount };
 
-    /// Where a record is wrong, what was due is due still.
-    fn take(&mut self, fields: &ByteRecord) -> Result<(), RowErr>
-        requires { (rows : List Row) × KnowsCount self.old rows × (length rows < 2 ^ 62) }
-        ensures taken { OnOk result ((rows : List Row) → KnowsCount self.old rows → (list_code true rows (fields_of fields.now) ≡ None) × KnowsCount self.new (rows ++ fields_of fields.now ∷ [])) }
-        ensures bad { (cause : Code) → result ≡ Err (RowErr.Bad cause) → (rows : List Row) → KnowsCount self.old rows → list_code true rows (fields_of fields.now) ≡ Some cause }
-        ensures still { (cause : Code) → result ≡ Err (RowErr.Bad cause) → StillDue self.old.reading self.new.reading }
-    {
+    ghost stays = { CountStays };
+
+    fn take(&mut self, fields: &ByteRecord) -> Result<(), RowErr> {
         if let Err(e) = self.reading.take(self.alloc, fields, &mut self.taken) {
             return Err(e);
         }
@@ -152,7 +146,7 @@ pub fn audit_stream<S: Source>(
 }
 
 /// The same, by a reader that has read nothing. Where the report is right, the reader knows in the end what all of it said.
-/// Where it has a fault, the reader stands where the faulty record would be due; nothing is said then of what it knows.
+/// Where a record has a fault, the reader stands where that record would be due (`StandsAt`): so it can be told what was due.
 ///
 /// # Errors
 ///
@@ -166,6 +160,7 @@ pub fn count_stream<S: Source>(
     requires { KnowsCount counting.old [] }
     ensures right { IfOk result (λ counts. (text : List ℕ) × CameWhole (S.left source.old) (S.left source.new) text × IsCountOf text counts) }
     ensures knows { OnOk result ((text : List ℕ) × CameWhole (S.left source.old) (S.left source.new) text × HasTaken (list_code true) (is_list_done true) NoEnd KnowsCount text counting.new) }
+    ensures still { (fault : Fault Code) → result ≡ Err (StreamErr.Bad fault) → fault.code ≢ WrongBound → (text : List ℕ) × CameWhole (S.left source.old) (S.left source.new) text × StandsAt KnowsCount CountStays text fault.line counting.new }
     ensures bad { (fault : Fault Code) → result ≡ Err (StreamErr.Bad fault) → (text : List ℕ) × CameWhole (S.left source.old) (S.left source.new) text × IsFirstFault true text fault }
     ensures fault { IsErrOf result StreamErr.ReadFault → Rose (S.faults source.old) (S.faults source.new) }
     ensures quiet { ¬ IsErrOf result StreamErr.ReadFault → S.faults source.new ≡ S.faults source.old }
@@ -184,6 +179,7 @@ fn counted(counting: &Counting) -> Result<AuditCounts, StreamErr>
     requires { (text : List ℕ) × HasTaken (list_code true) (is_list_done true) NoEnd KnowsCount text counting.now }
     ensures right { IfOk result (λ counts. (text : List ℕ) → HasTaken (list_code true) (is_list_done true) NoEnd KnowsCount text counting.now → IsCountOf text counts) }
     ensures bad { (fault : Fault Code) → result ≡ Err (StreamErr.Bad fault) → (text : List ℕ) → HasTaken (list_code true) (is_list_done true) NoEnd KnowsCount text counting.now → IsFirstFault true text fault }
+    ensures bound { (fault : Fault Code) → result ≡ Err (StreamErr.Bad fault) → fault.code ≡ WrongBound }
     ensures text { IfErr result IsOfText }
 {
     match counting

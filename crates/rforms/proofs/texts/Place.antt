@@ -11,9 +11,9 @@ use Rattle.csv.specs.declared.reader.Reader.{Reader}
 use Rattle.csv.specs.declared.parser.State.TheVariants as st
 use Rattle.csv.specs.declared.reader.Trim.TheVariants as trim
 use Rattle.csv.proofs.ReadFacts.{rows-more, rows-end}
-use Rattle.rforms.specs.Records.{Row}
+use Rattle.rforms.specs.Records.{Row, AreRowsOf}
 use Rattle.rforms.specs.Walks.{AllClean, fault_from, or_later}
-use Rattle.rforms.specs.Takers.{IsFresh, followed, HasTakenPart, fault_of, IsFaultBehind, IsFaultOf, HasTaken, error_at}
+use Rattle.rforms.specs.Takers.{IsFresh, followed, HasTakenPart, fault_of, IsFaultBehind, IsFaultOf, IsRefusedAt, StandsAt, HasTaken, error_at}
 use Rattle.rforms.specs.declared.errors.RowErr.{RowErr}
 use Rattle.rforms.specs.declared.errors.RowErr.TheVariants as why
 use Rattle.rforms.specs.declared.errors.TextErr.{TextErr}
@@ -148,7 +148,22 @@ module _ {C T : Type 0} (code : List Row → Row → Option C) (is_done : List R
             ∙ ap (λ n. Some (n, cause)) number,
       )
 
+  -- and the taker stands where it was refused
+  pub at_refused : (Stays : T → T → Type 0) (earlier : List Row) (bytes : List ℕ) (old new : Reader (Bor (List ℕ))) (taker now : T) (line : ℕ) (before : List Row) (left : List ℕ) (fields : Row)
+      → IsAt earlier bytes old taker line before left → ReadRecord (λ s. Some s.now) old new true fields → Stays taker now → IsRefusedAt Knows Stays earlier bytes line now
+  at_refused Stays earlier bytes old new taker now line before left fields h read stays =
+      let next = found_next default_config old.state new.state left (pending_of (Some new.rdr.now) new) fields (rw (h.config, h.source) at read.0) in
+      let around = rows_around default_config st.StartRecord old.state (strip_bom bytes) left before next.0 h.reached next.1 in
+      record { before = before; refused = next.0.0; rest = around.0; are = around.1; was = taker; knows = h.knows; counted = h.counted; stays = stays }
+
   -- ---- the whole text
+
+  -- a record of it was refused, or it may not end where it does
+  pub text_refused : (Stays : T → T → Type 0) (bytes : List ℕ) (line : ℕ) (now : T) → IsRefusedAt Knows Stays [] bytes line now → StandsAt Knows Stays bytes line now
+  text_refused Stays bytes line now h = record { before = h.before; behind = h.refused ∷ h.rest; are = h.are; was = h.was; knows = h.knows; counted = h.counted; left = h.stays }
+
+  pub text_ended : (Stays : T → T → Type 0) (bytes : List ℕ) (line : ℕ) (now : T) → HasTakenPart code Knows [] bytes now line → StandsAt Knows Stays bytes line now
+  text_ended Stays bytes line now h = record { before = h.rows; behind = []; are = subst (AreRowsOf bytes) (sym (append-nil h.rows)) h.are; was = now; knows = h.knows; counted = h.counted; left = refl }
 
   -- the first fault of all of a text, as a part behind nothing
   pub fault_of_all : (bytes : List ℕ) (fault : Fault C) → IsFaultBehind code is_done no_end [] bytes fault → IsFaultOf code is_done no_end bytes fault

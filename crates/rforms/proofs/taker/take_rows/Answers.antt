@@ -1,8 +1,8 @@
 use Rattle.std.proofs.Common.{[], Err, sym, ap, subst, ◌∙◌}
 use Rattle.csv.specs.Reading.{strip_bom}
-use Rattle.rforms.specs.Takers.{IsFaultBehind}
+use Rattle.rforms.specs.Takers.{IsFaultBehind, IsRefusedAt}
 use Rattle.rforms.specs.declared.fault.Fault.{Fault}
-use Rattle.rforms.proofs.texts.Place.{at_start, at_more, at_fault, at_end, may_take, bad_at, err_is}
+use Rattle.rforms.proofs.texts.Place.{at_start, at_more, at_fault, at_refused, at_end, may_take, bad_at, err_is}
 use Rattle.rforms.proofs.taker.take_rows.Goals as goal
 
 pub loop-line-init : goal.loop-line-init
@@ -35,3 +35,12 @@ returns-in-Err-clause-bad g c = λ bytes fresh earlier knows counted fault is.
     let bad = c.in-Err.ensures.bad told.0 (ap Err told.1) _ at.2.knows in
     subst (λ (f : Fault _). IsFaultBehind g.T.Records.code g.T.Records.is_done g.T.Records.no_end earlier bytes f) (sym told.2)
     (at_fault g.T.Records.code g.T.Records.is_done g.T.Records.no_end g.T.Records.knows earlier bytes c.loop-line.reader c.read_byte_record.new.self c.loop-line.taker c.loop-line.line at.0 at.1 _ told.0 at.2 read bad)
+
+pub returns-in-Err-clause-still : goal.returns-in-Err-clause-still
+returns-in-Err-clause-still g c = λ bytes fresh earlier knows counted fault is.
+    let at = c.loop-line.invariant bytes fresh earlier knows counted in
+    let read = rw c.if-not-found.false at (c.in-Ok.ensures.reads at.2.trim at.2.ready) in
+    let told = bad_at c.loop-line.line c.in-Err.e fault (sym c.at.ensures ∙ err_is is) in
+    subst (λ n. IsRefusedAt g.T.Records.knows g.T.Records.stays earlier bytes n c.take.new.self) (sym (ap (λ (f : Fault _). f.line) told.2))
+    (at_refused g.T.Records.code g.T.Records.is_done g.T.Records.no_end g.T.Records.knows g.T.Records.stays earlier bytes c.loop-line.reader c.read_byte_record.new.self c.loop-line.taker c.take.new.self c.loop-line.line at.0 at.1 _ at.2 read
+    (c.in-Err.ensures.still told.0 (ap Err told.1)))

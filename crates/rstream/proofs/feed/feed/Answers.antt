@@ -103,3 +103,27 @@ returns-in-Err-clause-within g c = λ other.
     let at = c.loop-window.invariant.0 in
     (broken_off (g.S.Source.left c.args.source.now) (g.S.Source.left c.loop-window.source) (g.S.Source.left c.fill.new.source) at.text c.loop-window.window.taken c.loop-window.window.limit c.args.window.now.limit (error_of c.in-Err.e) at.came at.taken at.limit
     (to_stream _ c.in-Err.e (g.S.Source.left c.loop-window.source) (g.S.Source.left c.fill.new.source) c.loop-window.window.taken c.loop-window.window.limit c.in-Err.ensures.broken)).1 (λ is. other (ap Err (c.error_of.ensures ∙ is)))
+
+pub returns-in-Ok-true-clause-still : goal.returns-in-Ok-true-clause-still
+returns-in-Ok-true-clause-still g c = λ fault is.
+    let got = c.in-Ok-true.ensures.gained in
+    let at = c.loop-window.invariant.0 in
+    let f = feeding_more g.T.Records.code g.T.Records.is_done g.T.Records.no_end g.T.Records.knows (g.S.Source.left c.args.source.now) (g.S.Source.left c.loop-window.source) (g.S.Source.left c.fill.new.source) c.args.window.now c.loop-window.window
+    c.fill.new.self c.loop-window.taker c.loop-window.line got.0 at got.1 got.2 in
+    let ended = ended_more (g.S.Source.left c.args.source.now) (g.S.Source.left c.loop-window.source) (g.S.Source.left c.fill.new.source) at.text at.came (c.in-Ok-true.ensures.ended c.in-Ok-true.field-0-test) in
+    (f.text, came_whole (g.S.Source.left c.args.source.now) (g.S.Source.left c.fill.new.source) f.text f.came ended, c.take_rest.ensures.still f.text f.fed fault is)
+
+pub returns-in-Err-take_lines-clause-still : goal.returns-in-Err-take_lines-clause-still
+returns-in-Err-take_lines-clause-still g c = λ fault is.
+    let got = c.in-Ok-false.ensures.gained in
+    let f = feeding_more g.T.Records.code g.T.Records.is_done g.T.Records.no_end g.T.Records.knows (g.S.Source.left c.args.source.now) (g.S.Source.left c.loop-window.source) (g.S.Source.left c.fill.new.source) c.args.window.now c.loop-window.window
+    c.fill.new.self c.loop-window.taker c.loop-window.line got.0 c.loop-window.invariant.0 got.1 got.2 in
+    let o = g.S.Source.left c.args.source.now in
+    let p = g.S.Source.left c.fill.new.source in
+    let q = g.S.Source.left c.refused.new.source in
+    let b = c.refused.ensures.came in
+    let ended = ended_more o p q f.text f.came (c.refused.ensures.ended (subst (λ (e : StreamErr _). IsBad e) (sym (err_is is)) tt)) in (
+      f.text ++ b.0,
+      came_whole o q (f.text ++ b.0) (came_more o p q f.text b.0 f.came b.1) ended,
+      c.in-Err-take_lines.ensures.still f.text f.fed fault (ap Err (c.refused.ensures.bad fault (err_is is))) b.0,
+    )

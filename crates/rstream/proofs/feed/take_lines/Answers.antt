@@ -2,7 +2,7 @@ use Rattle.std.proofs.Common.{List, ℕ, Err, sym, ap, subst, ◌∙◌, take}
 use Rattle.rforms.proofs.texts.Place.{err_is}
 use Rattle.rstream.specs.Feeding.{IsFed}
 use Rattle.rstream.specs.Windows.{held}
-use Rattle.rstream.proofs.Feeding.{fed_lines, fault_in_lines}
+use Rattle.rstream.proofs.Feeding.{fed_lines, fault_in_lines, refused_in_lines}
 use Rattle.rstream.proofs.Windows.{behind_cut}
 use Rattle.rstream.proofs.feed.take_lines.Goals as goal
 
@@ -19,3 +19,9 @@ returns-in-Err-clause-bad g c = λ text fed fault is more.
     let cut = c.in-Some.ensures in
     fault_in_lines g.T.Records.code g.T.Records.is_done g.T.Records.no_end g.T.Records.knows text (held c.args.window.now) (take c.in-Some.cut c.args.window.now.bytes.items) cut.rest c.args.taker.now c.args.from fed cut.line cut.free
     fault (rw c.deref.ensures.value at (c.in-Err.ensures.bad fed.rows fed.knows fed.counted fault (ap Err (err_is is)))) more
+
+pub returns-in-Err-clause-still : goal.returns-in-Err-clause-still
+returns-in-Err-clause-still g c = λ text fed fault is more.
+    let cut = c.in-Some.ensures in
+    refused_in_lines g.T.Records.code g.T.Records.is_done g.T.Records.no_end g.T.Records.knows text (held c.args.window.now) (take c.in-Some.cut c.args.window.now.bytes.items) cut.rest c.args.taker.now c.args.from fed cut.line cut.free
+    g.T.Records.stays c.take_part.new.taker fault.line (rw c.deref.ensures.value at (c.in-Err.ensures.still fed.rows fed.knows fed.counted fault (ap Err (err_is is)))) more

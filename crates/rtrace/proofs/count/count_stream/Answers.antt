@@ -27,3 +27,9 @@ returns-in-Err-clause-bad g c = λ fault is.
 
 pub returns-in-Ok-clause-knows : goal.returns-in-Ok-clause-knows
 returns-in-Ok-clause-knows g c = always_on_ok c.counted.result c.in-Ok.ensures.taken
+
+pub returns-in-Ok-clause-still : goal.returns-in-Ok-clause-still
+returns-in-Ok-clause-still g c = λ fault is other. absurd (other (c.counted.ensures.bound fault is))
+
+pub returns-in-Err-clause-still : goal.returns-in-Err-clause-still
+returns-in-Err-clause-still g c = λ fault is other. c.in-Err.ensures.still fault (ap Err (err_is is))

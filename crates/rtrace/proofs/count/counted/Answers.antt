@@ -22,3 +22,6 @@ returns-in-Ok-Some-clause-bad c = λ fault is text h.
     subst (λ (f : Fault Code). IsFirstFault true text f) (stream_bad_is is)
     (wrong_is KnowsCount text c.args.counting.now h c.in-Ok-Some.line
     (sym (ap (option_map wrong_bound) c.in-Ok-Some.field-0-is) ∙ c.in-Ok-Some.ensures h.rows h.knows.bounds h.knows.knows (taken_nine KnowsCount text c.args.counting.now h)))
+
+pub returns-in-Ok-Some-clause-bound : goal.returns-in-Ok-Some-clause-bound
+returns-in-Ok-Some-clause-bound c = λ fault is. ap (λ (f : Fault Code). f.code) (sym (stream_bad_is is))
