@@ -1,5 +1,5 @@
 // A text that grows line by line, and stays open where the bounds of waits belong.
-ghost use Rattle.std.specs.Prelude.{◌≡◌, ◌≤◌, ◌++◌, [], List, length, map, take, drop, OnOk, IfOk};
+ghost use Rattle.std.specs.Prelude.{◌≡◌, ◌≤◌, ◌++◌, [], List, length, map, take, drop, OnOk, OnErr, IfOk};
 ghost use Rattle.rbound.specs.Bounds.{numbers_in};
 ghost use Rattle.rforms.specs.Lines.{Happens, Does};
 ghost use Rattle.rforms.specs.Reports.{status_lines, grant_line, wait_line};
@@ -55,14 +55,16 @@ impl OpenText {
 
     // Appends the line of an event.
     pub(crate) fn push_event(&mut self, names: &NameRows, event: &Event) -> Result<(), AllocError>
-        ensures { OnOk result (self.new ≡ self.old ++ open_line names.now (Happens event.now)) }
+        ensures ok { OnOk result (self.new ≡ self.old ++ open_line names.now (Happens event.now)) }
+        ensures err { OnErr result (self.new ≡ self.old) }
     {
         self.page.push_event(names, event)
     }
 
     // Appends the line of an act.
     pub(crate) fn push_act(&mut self, names: &NameRows, act: &Act<Edit>) -> Result<(), AllocError>
-        ensures { OnOk result (self.new ≡ self.old ++ open_line names.now (Does act.now)) }
+        ensures ok { OnOk result (self.new ≡ self.old ++ open_line names.now (Does act.now)) }
+        ensures err { OnErr result (self.new ≡ self.old) }
     {
         self.page.push_act(names, act)
     }
@@ -73,7 +75,8 @@ impl OpenText {
         names: &NameRows,
         change: &StatusChange,
     ) -> Result<(), AllocError>
-        ensures { OnOk result (self.new ≡ self.old ++ open_told names.now (status_lines change.now.seat change.now.write_half change.now.status)) }
+        ensures ok { OnOk result (self.new ≡ self.old ++ open_told names.now (status_lines change.now.seat change.now.write_half change.now.status)) }
+        ensures err { OnErr result (self.new ≡ self.old) }
     {
         self.page.push_status(names, change)
     }
@@ -84,17 +87,20 @@ impl OpenText {
         names: &NameRows,
         change: &GrantChange,
     ) -> Result<(), AllocError>
-        ensures { OnOk result (self.new ≡ self.old ++ open_line names.now (grant_line change.now)) }
+        ensures ok { OnOk result (self.new ≡ self.old ++ open_line names.now (grant_line change.now)) }
+        ensures err { OnErr result (self.new ≡ self.old) }
     {
         self.page.push_grant(names, change)
     }
 
-    // Appends the line of a wait, with a gap for its bound and for the end of the line.
+    // Appends the line of a wait, with a gap for its bound and for the end of the line. Room for the gap is made first.
     pub(crate) fn push_wait(&mut self, names: &NameRows, wait: &WaitEnd) -> Result<(), AllocError>
-        ensures { OnOk result (self.new ≡ self.old ++ open_line names.now (wait_line no_bounds wait.now)) }
+        ensures ok { OnOk result (self.new ≡ self.old ++ open_line names.now (wait_line no_bounds wait.now)) }
+        ensures err { OnErr result (self.new ≡ self.old) }
     {
+        self.gaps.reserve(1)?;
         self.page.push_cover(names, wait)?;
-        self.gaps.push(self.page.len())?;
+        self.gaps.push_reserved(self.page.len());
         Ok(())
     }
 

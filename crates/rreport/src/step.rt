@@ -1,10 +1,10 @@
 // The lines of a step: an event, what its section did, and what it changes.
-ghost use Rattle.std.specs.Prelude.{◌≡◌, ◌++◌, ◌∷◌, [], map, OnOk, IsTrue, flat_map};
+ghost use Rattle.std.specs.Prelude.{◌≡◌, ◌++◌, ◌∷◌, [], map, OnOk, OnErr, IsTrue, flat_map};
 ghost use Rattle.rclaim.specs.declared.changes.StatusChange.{StatusChange};
 ghost use Rattle.rforms.specs.Lines.{Happens, Does};
 ghost use Rattle.rforms.specs.Reports.{status_lines, grant_line, wait_line};
 ghost use Rattle.rforms.specs.Waits.{no_bounds};
-ghost use Rattle.rreport.specs.Open.{open_told};
+ghost use Rattle.rreport.specs.Open.{open_told, GrewBySome};
 ghost use Rattle.rpage.specs.Told.{entry_told, step_told};
 
 use crate::open::OpenText;
@@ -19,7 +19,7 @@ use std::alloc::AllocError;
 ///
 /// # Errors
 ///
-/// Want of memory. The text may then have grown by some of these lines.
+/// Want of memory. The text may then have grown by the first of these lines (`GrewBySome`).
 pub fn push_step(
     text: &mut OpenText,
     names: &NameRows,
@@ -27,7 +27,8 @@ pub fn push_step(
     changes: &Changes,
     ended: &[WaitEnd],
 ) -> Result<(), AllocError>
-    ensures { OnOk result (text.new ≡ text.old ++ open_told names.now (Happens event.now ∷ step_told changes.now ended.now)) }
+    ensures ok { OnOk result (text.new ≡ text.old ++ open_told names.now (Happens event.now ∷ step_told changes.now ended.now)) }
+    ensures err { OnErr result (GrewBySome names.now text.old text.new (Happens event.now ∷ step_told changes.now ended.now)) }
 {
     text.push_event(names, event)?;
     if is_untold(changes, ended) {
@@ -41,7 +42,7 @@ pub fn push_step(
 ///
 /// # Errors
 ///
-/// Want of memory. The text may then have grown by some of these lines.
+/// Want of memory. The text may then have grown by the first of these lines (`GrewBySome`).
 pub fn push_entry(
     text: &mut OpenText,
     names: &NameRows,
@@ -49,7 +50,8 @@ pub fn push_entry(
     changes: &Changes,
     ended: &[WaitEnd],
 ) -> Result<(), AllocError>
-    ensures { OnOk result (text.new ≡ text.old ++ open_told names.now (entry_told entry.now changes.now ended.now)) }
+    ensures ok { OnOk result (text.new ≡ text.old ++ open_told names.now (entry_told entry.now changes.now ended.now)) }
+    ensures err { OnErr result (GrewBySome names.now text.old text.new (entry_told entry.now changes.now ended.now)) }
 {
     text.push_event(names, &entry.event)?;
     push_acts(text, names, &entry.acts)?;
@@ -71,7 +73,8 @@ fn push_told(
     changes: &Changes,
     ended: &[WaitEnd],
 ) -> Result<(), AllocError>
-    ensures { OnOk result (text.new ≡ text.old ++ open_told names.now (step_told changes.now ended.now)) }
+    ensures ok { OnOk result (text.new ≡ text.old ++ open_told names.now (step_told changes.now ended.now)) }
+    ensures err { OnErr result (GrewBySome names.now text.old text.new (step_told changes.now ended.now)) }
 {
     push_statuses(text, names, &changes.statuses)?;
     push_grants(text, names, &changes.grants)?;
@@ -80,7 +83,8 @@ fn push_told(
 
 // Appends the lines of what a section did.
 fn push_acts(text: &mut OpenText, names: &NameRows, acts: &[Act<Edit>]) -> Result<(), AllocError>
-    ensures { OnOk result (text.new ≡ text.old ++ open_told names.now (map Does acts.now)) }
+    ensures ok { OnOk result (text.new ≡ text.old ++ open_told names.now (map Does acts.now)) }
+    ensures err { OnErr result (GrewBySome names.now text.old text.new (map Does acts.now)) }
 {
     for act in acts {
         text.push_act(names, act)?;
@@ -94,8 +98,9 @@ fn push_statuses(
     names: &NameRows,
     changes: &[StatusChange],
 ) -> Result<(), AllocError>
-    ensures { OnOk result (text.new ≡ text.old
+    ensures ok { OnOk result (text.new ≡ text.old
         ++ open_told names.now (flat_map (λ (c : StatusChange). status_lines c.seat c.write_half c.status) changes.now)) }
+    ensures err { OnErr result (GrewBySome names.now text.old text.new (flat_map (λ (c : StatusChange). status_lines c.seat c.write_half c.status) changes.now)) }
 {
     for change in changes {
         text.push_status(names, change)?;
@@ -109,7 +114,8 @@ fn push_grants(
     names: &NameRows,
     changes: &[GrantChange],
 ) -> Result<(), AllocError>
-    ensures { OnOk result (text.new ≡ text.old ++ open_told names.now (map grant_line changes.now)) }
+    ensures ok { OnOk result (text.new ≡ text.old ++ open_told names.now (map grant_line changes.now)) }
+    ensures err { OnErr result (GrewBySome names.now text.old text.new (map grant_line changes.now)) }
 {
     for change in changes {
         text.push_grant(names, change)?;
@@ -119,7 +125,8 @@ fn push_grants(
 
 // Appends the lines of waits, with a gap for the bound of each.
 fn push_waits(text: &mut OpenText, names: &NameRows, ended: &[WaitEnd]) -> Result<(), AllocError>
-    ensures { OnOk result (text.new ≡ text.old ++ open_told names.now (map (wait_line no_bounds) ended.now)) }
+    ensures ok { OnOk result (text.new ≡ text.old ++ open_told names.now (map (wait_line no_bounds) ended.now)) }
+    ensures err { OnErr result (GrewBySome names.now text.old text.new (map (wait_line no_bounds) ended.now)) }
 {
     for wait in ended {
         text.push_wait(names, wait)?;

@@ -22,7 +22,7 @@ returns-clause-text c = on_ok_weaker c.tell.result
     let next = coming_next c.in-Some-Some.following p c.args.event.now c.ended-ended.result.now
     (followed_by c.args.reading.now.following c.in-Some-Some.following (with_event p c.args.event.now) c.in-Some-Some.is-1 followed) c.ended-ended.ensures.ended in
     let changes = c.changes.ensures ∙ ap changes_in (sym c.in-Some-Some.is-0) in
-    c.in_ok-push_step.ensures ∙ (λ i. c.args.history.now ++ open_told c.args.telling.now.names (Happens c.args.event.now ∷ step_told (changes i) (next.ended i))))
+    c.in_ok-push_step.ensures.ok ∙ (λ i. c.args.history.now ++ open_told c.args.telling.now.names (Happens c.args.event.now ∷ step_told (changes i) (next.ended i))))
     c.tell.ensures
 
 pub returns-clause-gathered : goal.returns-clause-gathered

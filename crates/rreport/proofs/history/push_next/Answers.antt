@@ -45,7 +45,7 @@ returns-clause-text c =
     let took = c.advance.ensures p behind (subst (λ (e : Event). Comes (state_of p) e) (sym event) comes) in
     let changes = c.changes.ensures ∙ took.changes ∙ ap (λ (e : Event). changes_between (state_of p) (next (state_of p) e)) event in
     let ended = c.ended.ensures.ended (with_event p c.entry.inside.event) took.behind.follows p.events c.entry.inside.event refl ∙ ap (λ (e : Event). ended_by (start_of p) p.events e) event in
-    c.in_ok-push_entry.ensures ∙ (λ i. c.args.text.now ++ open_told c.args.names.now (entry_told c.args.entry.now (changes i) (ended i))))
+    c.in_ok-push_entry.ensures.ok ∙ (λ i. c.args.text.now ++ open_told c.args.names.now (entry_told c.args.entry.now (changes i) (ended i))))
 
 pub returns-clause-gathered : goal.returns-clause-gathered
 returns-clause-gathered c =
