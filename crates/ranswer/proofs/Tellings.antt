@@ -46,6 +46,12 @@ no_script s memory script = cc
 no_trace : (s : ToolStatus) → s ≡ status.NoMemory → s ≡ status.Trace → ⊥
 no_trace s memory trace = cc
 
+-- the line of a fault was written, which was noted for what the input was, as far as that is known; or memory ran out before
+pub trace_told : (line : List ℕ) (written written_after : Option (List ℕ)) (quiet failed same : Type 0) (behind : Option Told) (asked : Option Command) (left : Option (List ℕ)) (before after : Option Told) (s : ToolStatus)
+    → IsTold line written written_after quiet failed same status.Trace s → (s ≡ status.Trace → IfSome left (λ bytes. IsFaultTold asked bytes after)) → (s ≢ status.Trace → after ≡ before) → TellsBehind behind asked left before after s
+trace_told line written written_after quiet failed same behind asked left before after s (inl h) noted kept = subst (λ (t : ToolStatus). TellsBehind behind asked left before after t) (sym h.0) (noted h.0)
+trace_told line written written_after quiet failed same behind asked left before after s (inr h) noted kept = subst (λ (t : ToolStatus). TellsBehind behind asked left before after t) (sym h.0) (kept (no_trace s h.0))
+
 -- the line of the first fault was written, which was noted, or memory ran out before
 module _ (line : List ℕ) (written written_after : Option (List ℕ)) (quiet failed same : Type 0) (behind : Option Told) (asked : Option Command) (bytes : List ℕ) (before after : Option Told) (s : ToolStatus) where
   pub script_tells : IsTold line written written_after quiet failed same status.Script s → (s ≡ status.Script → IsFaultTold asked bytes after) → (s ≢ status.Script → after ≡ before) → TellsBehind behind asked (Some bytes) before after s
@@ -53,8 +59,7 @@ module _ (line : List ℕ) (written written_after : Option (List ℕ)) (quiet fa
   script_tells (inr h) noted kept = subst (λ (t : ToolStatus). TellsBehind behind asked (Some bytes) before after t) (sym h.0) (kept (no_script s h.0))
 
   pub trace_tells : IsTold line written written_after quiet failed same status.Trace s → (s ≡ status.Trace → IsFaultTold asked bytes after) → (s ≢ status.Trace → after ≡ before) → TellsBehind behind asked (Some bytes) before after s
-  trace_tells (inl h) noted kept = subst (λ (t : ToolStatus). TellsBehind behind asked (Some bytes) before after t) (sym h.0) (noted h.0)
-  trace_tells (inr h) noted kept = subst (λ (t : ToolStatus). TellsBehind behind asked (Some bytes) before after t) (sym h.0) (kept (no_trace s h.0))
+  trace_tells = trace_told line written written_after quiet failed same behind asked (Some bytes) before after s
 
 -- an input that was not read
 pub unread_tells : {S : Type 0} (lefts : S → Option (List ℕ)) (reads : S → ℕ) (command : Option Command) (source source' : S) (behind : Option Told) (asked : Option Command) (left : Option (List ℕ)) (before : Option Told) (s : ToolStatus)

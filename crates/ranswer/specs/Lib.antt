@@ -8,4 +8,5 @@ pub mod Answer
 pub mod Receipts
 pub mod Promise
 pub mod Watched
+pub mod Due
 pub mod Told

@@ -1,5 +1,5 @@
 -- What a person may be told beyond a status.
-use Rattle.std.specs.Prelude.{◌≡◌, ℕ, true, false, List, [], ◌∷◌, Option, Some, None, IfSome}
+use Rattle.std.specs.Prelude.{◌≡◌, ℕ, true, false, List, [], ◌∷◌, Option, Some, None, IfSome, option_map, string_bytes}
 use Rattle.rforms.specs.Takers.{IsFirstFault}
 use Rattle.rforms.specs.declared.fault.Code.{Code}
 use Rattle.rforms.specs.declared.fault.Fault.{Fault}
@@ -12,20 +12,28 @@ use Rattle.ranswer.specs.declared.status.ToolStatus.{ToolStatus}
 use Rattle.ranswer.specs.declared.status.ToolStatus.TheVariants as status
 use Rattle.ranswer.specs.declared.told.Told.{Told}
 use Rattle.ranswer.specs.declared.told.Told.TheVariants as what
+use Rattle.ranswer.specs.Due.{IsDueAt}
 
--- the fault of a list or a report that is told, whichever line is said to be due there
+-- the fault of a list or a report that is told
 abbrev pub told_fault : Option Told → Option (Fault Code)
 told_fault None = None
 told_fault (Some what.Steps) = None
 told_fault (Some (what.List fault expected)) = Some fault
 told_fault (Some (what.Script line code)) = None
 
--- the first fault of an input is told: of a script, of an event list, with no line that is due, or of a report
+-- the line that is said to be due there, if one is
+abbrev pub told_due : Option Told → Option (List ℕ)
+told_due None = None
+told_due (Some what.Steps) = None
+told_due (Some (what.List fault expected)) = option_map string_bytes expected
+told_due (Some (what.Script line code)) = None
+
+-- the first fault of an input is told: of a script, of an event list, with no line that is due, or of a report, with the line that is due there or none
 abbrev pub IsFaultTold : Option Command → List ℕ → Option Told → Type 0
 IsFaultTold None bytes told = ⊥
 IsFaultTold (Some Run) bytes told = (line : ℕ) × (code : script_code.Code) × scripts_read.IsFirstFault bytes line code × (told ≡ Some (what.Script line code))
 IsFaultTold (Some Replay) bytes told = (fault : Fault Code) × IsFirstFault false bytes fault × (told ≡ Some (what.List fault None))
-IsFaultTold (Some Audit) bytes told = (fault : Fault Code) × IsFirstFault true bytes fault × (told_fault told ≡ Some fault)
+IsFaultTold (Some Audit) bytes told = (fault : Fault Code) × IsFirstFault true bytes fault × (told_fault told ≡ Some fault) × IfSome (told_due told) (IsDueAt bytes fault)
 IsFaultTold (Some (Bound cap)) bytes told = (line : ℕ) × (code : script_code.Code) × scripts_read.IsFirstFault bytes line code × (told ≡ Some (what.Script line code))
 IsFaultTold (Some (Drill count)) bytes told = ⊥
 

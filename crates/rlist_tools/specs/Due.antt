@@ -1,5 +1,5 @@
--- The line that is due where a report has another one, as a person is told it.
-use Rattle.std.specs.Prelude.{ℕ, ◌-◌, List, [], ◌∷◌, ◌++◌, codes, length, map, take, Option, option_map, slice_get}
+-- The lines that are due beside what a reader keeps, as a person is told them.
+use Rattle.std.specs.Prelude.{ℕ, List, ◌++◌, map, Option, option_map, slice_get}
 use Rattle.rclaim.specs.Changes.{ChangeLists}
 use Rattle.rclaim.specs.declared.changes.GrantChange.{GrantChange}
 use Rattle.rclaim.specs.declared.changes.StatusChange.{StatusChange}
@@ -10,15 +10,11 @@ use Rattle.rforms.specs.Lines.{Leaves}
 use Rattle.rforms.specs.Reports.{grant_line, status_lines}
 use Rattle.rforms.specs.Waits.{stage_of, cover_of}
 use Rattle.rpage.specs.Told.{told, told_line}
-use Rattle.rpage.specs.Waits.{cover_text}
-
--- a line without the byte at its end
-abbrev pub without_end : List ℕ → List ℕ
-without_end line = take (length line - 1) line
+use Rattle.ranswer.specs.Due.{cover_line}
 
 -- the line of a wait up to its bound
 abbrev pub wait_text : Names → WaitEnd → List ℕ
-wait_text names w = cover_text names w.seat (stage_of w.which) (cover_of w) ++ (codes " and its bound" ++ 10 ∷ [])
+wait_text names w = cover_line names w.seat (stage_of w.which) (cover_of w)
 
 -- the lines of changes, of which those of statuses come first, and behind them those of waits
 abbrev pub due_texts : Names → ChangeLists → List WaitEnd → List (List ℕ)

@@ -1,5 +1,5 @@
 // Which line of a report is due where another one stands, for a person.
-ghost use Rattle.std.specs.Prelude.{◌≡◌, ◌≢◌, ◌∷◌, ◌++◌, ◌≤◌, [], List, None, Some, IfOk, IfSome, IsOkAnd, IsSomeAnd, OnOk, decimal, option_map, slice_get, string_bytes};
+ghost use Rattle.std.specs.Prelude.{◌≡◌, ◌≢◌, ◌∷◌, ◌++◌, ◌≤◌, ◌<◌, [], List, None, Some, IfOk, IfSome, IsOkAnd, IsSomeAnd, OnOk, decimal, option_map, slice_get, string_bytes};
 ghost use Rattle.rclaim.specs.declared.event.Event.{Event};
 ghost use Rattle.rcover.specs.Ended.{ended_by};
 ghost use Rattle.rpage.specs.Told.{told, told_line};
@@ -13,7 +13,8 @@ ghost use Rattle.rreading.specs.Takes.{ledgers_told};
 ghost use Rattle.rreplay.specs.Names.{names_read};
 ghost use Rattle.rwaits.specs.Follows.{Follows};
 ghost use Rattle.rwaits.specs.Past.{Past, start_of};
-ghost use Rattle.rlist_tools.specs.Due.{due_texts, wait_text, ledger_text, without_end};
+ghost use Rattle.ranswer.specs.Due.{without_end};
+ghost use Rattle.rlist_tools.specs.Due.{due_texts, wait_text, ledger_text};
 
 use itoa::Buffer;
 use rclaim::{Changes, GrantChange, StatusChange};
@@ -30,20 +31,26 @@ use std::alloc::{AllocError, Global};
 const AT_LEDGERS: u8 = 8;
 
 /// The line that is due behind what was read, where the fault is that another one stands there. Of a wait it is the line up
-/// to the bound, which is known only where the whole report is. None also for want of memory.
+/// to the bound, which is known only where the whole report is. Behind the end of the report none is; nor is one told for
+/// want of memory.
 pub fn expected(alloc: Global, reading: &Reading, code: Code) -> Option<String>
     ensures change { (p : Past) (before : List Event) (last : Event) → IfSome reading.now.following (λ f. Follows f p) → p.events ≡ before ++ last ∷ [] → code ≡ Code.WrongChange
         → IfSome result (λ line. option_map without_end (slice_get (due_texts (names_read reading.now) (changes_in reading.now.machine) (ended_by (start_of p) before last)) reading.now.told) ≡ Some (string_bytes line)) }
+    ensures begun { (p : Past) → IfSome reading.now.following (λ f. Follows f p) → p.events ≡ [] → code ≡ Code.WrongChange
+        → IfSome result (λ line. option_map without_end (slice_get (due_texts (names_read reading.now) (changes_in reading.now.machine) []) reading.now.told) ≡ Some (string_bytes line)) }
     ensures ledger { code ≡ Code.WrongLedger
         → IfSome result (λ line. option_map without_end (ledger_text (names_read reading.now) reading.now.ledgers.items (ledgers_told reading.now)) ≡ Some (string_bytes line)) }
     ensures behind { code ≡ Code.WrongChange → at_ledgers ≤ reading.now.last → result ≡ None }
+    ensures ended { code ≡ Code.WrongLedger → at_ledgers < reading.now.last → result ≡ None }
     ensures other { code ≢ Code.WrongChange → code ≢ Code.WrongLedger → result ≡ None }
 {
     match code {
         Code::WrongChange if reading.last < AT_LEDGERS => {
             as_text(alloc, change_due(alloc, reading))
         }
-        Code::WrongLedger => as_text(alloc, ledger_due(alloc, reading)),
+        Code::WrongLedger if reading.last <= AT_LEDGERS => {
+            as_text(alloc, ledger_due(alloc, reading))
+        }
         _ => None,
     }
 }
@@ -73,8 +80,10 @@ fn text_of(alloc: Global, bytes: &[u8]) -> Option<String>
 
 // The line of the change or the wait that is due, if one is.
 fn change_due(alloc: Global, reading: &Reading) -> Result<Option<Page>, AllocError>
-    ensures { (p : Past) (before : List Event) (last : Event) → IfSome reading.now.following (λ f. Follows f p) → p.events ≡ before ++ last ∷ []
+    ensures change { (p : Past) (before : List Event) (last : Event) → IfSome reading.now.following (λ f. Follows f p) → p.events ≡ before ++ last ∷ []
         → IfOk result (λ page. IfSome page (λ line. slice_get (due_texts (names_read reading.now) (changes_in reading.now.machine) (ended_by (start_of p) before last)) reading.now.told ≡ Some line)) }
+    ensures begun { (p : Past) → IfSome reading.now.following (λ f. Follows f p) → p.events ≡ []
+        → IfOk result (λ page. IfSome page (λ line. slice_get (due_texts (names_read reading.now) (changes_in reading.now.machine) []) reading.now.told ≡ Some line)) }
 {
     let (Some(machine), Some(following)) = (&reading.machine, &reading.following) else {
         return Ok(None);

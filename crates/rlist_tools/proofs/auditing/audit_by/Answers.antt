@@ -1,13 +1,26 @@
-use Rattle.std.proofs.Common.{Some, Err, refl, ap}
+use Rattle.std.proofs.Common.{◌≡◌, ◌≢◌, Some, Err, refl, sym, ap, subst, ◌∙◌}
+use Rattle.std.specs.Prelude.{IfSome, string_bytes}
+use Rattle.rforms.specs.declared.fault.Code.TheVariants.{WrongChange, WrongLedger, WrongBound}
+use Rattle.rforms.proofs.facts.Choices.{some_none}
+use Rattle.rreplay.specs.Names.{names_read}
 use Rattle.ranswer.specs.Outputs.{audit_text, report_limit}
-use Rattle.ranswer.specs.Told.{told_fault}
+use Rattle.ranswer.specs.Due.{IsDueAt, first_due_text}
+use Rattle.ranswer.specs.Told.{told_due, told_fault}
 use Rattle.ranswer.proofs.Outcomes.{told, written}
 use Rattle.ranswer.proofs.Streams.{stream_read, stream_within}
-use Rattle.ranswer.proofs.Tellings.{written_tells, trace_tells, tells_left}
+use Rattle.ranswer.proofs.Tellings.{written_tells, trace_told}
 use Rattle.ranswer.proofs.ToolAnswers.{answered, unread}
 use Rattle.ranswer.specs.declared.command.Command.TheVariants.{Audit}
 use Rattle.ranswer.specs.declared.status.ToolStatus.TheVariants as status
+use Rattle.rlist_tools.proofs.FirstDue.{first_made}
+use Rattle.rlist_tools.proofs.ToldDue.{due_at, line_told, fault_told}
 use Rattle.rlist_tools.proofs.auditing.audit_by.Goals as goal
+
+clash : ◌≡◌ WrongBound WrongChange → ⊥
+clash e = cc
+
+clash_ledger : ◌≡◌ WrongBound WrongLedger → ⊥
+clash_ledger e = cc
 
 pub returns-in-Ok-clause-answer : goal.returns-in-Ok-clause-answer
 returns-in-Ok-clause-answer g c = λ watchers.
@@ -51,7 +64,22 @@ returns-in-Ok-clause-told g c = λ watchers.
 pub returns-in-Err-Bad-clause-told : goal.returns-in-Err-Bad-clause-told
 returns-in-Err-Bad-clause-told g c = λ watchers.
     let fault = c.in-Err-Bad.fault in
-    let found = c.in-Err-Bad.ensures.bad fault (ap Err c.in-Err-Bad.field-0-is) in
-    let read = stream_read g.S.Source.left g.S.Source.faults c.args.source.now c.count_stream.new.source found.0 found.1 (c.in-Err-Bad.ensures.within (λ e. cc)) (c.in-Err-Bad.ensures.quiet (λ e. cc)) in
-    tells_left Audit (g.S.Source.left c.args.source.now) found.0 c.args.told.now c.args.told.now c.refuse.new.told c.refuse.result read.whole
-    (trace_tells _ _ _ _ _ _ c.args.told.now (Some Audit) found.0 c.args.told.now c.refuse.new.told c.refuse.result c.refuse.ensures.written (λ e. (fault, found.2, ap told_fault (c.refuse.ensures.noted e))) c.refuse.ensures.kept)
+    let is = ap Err c.in-Err-Bad.field-0-is in
+    let left = g.S.Source.left c.args.source.now in
+    let later = g.S.Source.left c.count_stream.new.source in
+    let counting = c.count_stream.new.counting in
+    let made = c.expected-due.ensures in
+    let found = c.in-Err-Bad.ensures.bad fault is in
+    let due = line_told string_bytes left later fault c.expected-due.result (λ line told.
+    let bound : fault.code ≢ WrongBound = λ e. some_none (sym (made.other (λ f. clash (sym e ∙ f)) (λ f. clash_ledger (sym e ∙ f))) ∙ told) in
+    let stands = c.in-Err-Bad.ensures.still fault is bound in (
+      stands.0,
+      stands.1,
+      due_at stands.0 fault counting (string_bytes line) stands.2 (λ was s knows still.
+          subst (λ o. IfSome o (λ l. first_due_text (names_read counting.reading) s fault.code ≡ Some (string_bytes l))) told
+          (first_made was counting.reading s knows still string_bytes fault.code c.expected-due.result made.change made.begun made.ledger made.behind made.ended made.other)),
+    )) in
+    trace_told _ _ _ _ _ _ c.args.told.now (Some Audit) left c.args.told.now c.refuse.new.told c.refuse.result c.refuse.ensures.written
+    (λ e. fault_told left later found.0 fault c.refuse.new.told found.1 found.2 (ap told_fault (c.refuse.ensures.noted e))
+    (subst (λ t. IfSome left (λ all. IfSome (told_due t) (IsDueAt all fault))) (sym (c.refuse.ensures.noted e)) due))
+    c.refuse.ensures.kept
