@@ -7,7 +7,7 @@ use Rattle.rwatch.specs.Seen.{Seen}
 use Rattle.ranswer.specs.Outputs.{input_of}
 use Rattle.ranswer.specs.Reading.{NotRead}
 use Rattle.ranswer.specs.Running.{IsRun}
-use Rattle.ranswer.specs.Told.{IsFaultTold, told_behind, TellsBehind, Tells}
+use Rattle.ranswer.specs.Told.{IsFaultTold, told_behind, TellsBehind}
 use Rattle.ranswer.specs.Writing.{IsTold, IsWritten}
 use Rattle.ranswer.specs.declared.command.Command.{Command}
 use Rattle.ranswer.specs.declared.command.Command.TheVariants.{Run, Replay, Audit, Bound, Drill}

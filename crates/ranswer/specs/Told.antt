@@ -12,7 +12,7 @@ use Rattle.ranswer.specs.declared.status.ToolStatus.{ToolStatus}
 use Rattle.ranswer.specs.declared.status.ToolStatus.TheVariants as status
 use Rattle.ranswer.specs.declared.told.Told.{Told}
 use Rattle.ranswer.specs.declared.told.Told.TheVariants as what
-use Rattle.ranswer.specs.Due.{IsDueAt}
+use Rattle.ranswer.specs.Due.{IsDueFor}
 
 -- the fault of a list or a report that is told
 abbrev pub told_fault : Option Told → Option (Fault Code)
@@ -28,12 +28,12 @@ told_due (Some what.Steps) = None
 told_due (Some (what.List fault expected)) = option_map string_bytes expected
 told_due (Some (what.Script line code)) = None
 
--- the first fault of an input is told: of a script, of an event list, with no line that is due, or of a report, with the line that is due there or none
+-- the first fault of an input is told: of a script, of an event list, with no line that is due, or of a report, with the line that is due there, if one is
 abbrev pub IsFaultTold : Option Command → List ℕ → Option Told → Type 0
 IsFaultTold None bytes told = ⊥
 IsFaultTold (Some Run) bytes told = (line : ℕ) × (code : script_code.Code) × scripts_read.IsFirstFault bytes line code × (told ≡ Some (what.Script line code))
 IsFaultTold (Some Replay) bytes told = (fault : Fault Code) × IsFirstFault false bytes fault × (told ≡ Some (what.List fault None))
-IsFaultTold (Some Audit) bytes told = (fault : Fault Code) × IsFirstFault true bytes fault × (told_fault told ≡ Some fault) × IfSome (told_due told) (IsDueAt bytes fault)
+IsFaultTold (Some Audit) bytes told = (fault : Fault Code) × IsFirstFault true bytes fault × (told_fault told ≡ Some fault) × IsDueFor fault.code bytes fault (told_due told)
 IsFaultTold (Some (Bound cap)) bytes told = (line : ℕ) × (code : script_code.Code) × scripts_read.IsFirstFault bytes line code × (told ≡ Some (what.Script line code))
 IsFaultTold (Some (Drill count)) bytes told = ⊥
 

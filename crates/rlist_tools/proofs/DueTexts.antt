@@ -21,7 +21,7 @@ use Rattle.rforms.specs.Reports.{status_lines, status_line, grant_line, wait_lin
 use Rattle.rforms.specs.Waits.{no_bounds}
 use Rattle.rdue.specs.Due.{change_list, due_list}
 use Rattle.rpage.specs.Told.{told, told_line}
-use Rattle.ranswer.specs.Due.{without_end, due_text}
+use Rattle.ranswer.specs.Due.{as_text, due_text}
 use Rattle.rlist_tools.specs.Due.{due_texts, ledger_text}
 
 -- ---- changes and waits
@@ -62,11 +62,11 @@ twice g f (Some a) = refl
 
 -- the first of the lines behind so many stands at that place
 pub first_left : (names : Names) (lines : List Line) (n : ℕ) (due : List Line) → due ≡ drop n lines
-    → option_map (λ (line : Line). without_end (due_text names line)) (slice_get due 0) ≡ option_map without_end (slice_get (map (due_text names) lines) n)
+    → option_map (λ (line : Line). as_text (due_text names line)) (slice_get due 0) ≡ option_map as_text (slice_get (map (due_text names) lines) n)
 first_left names lines n due is =
-    ap (option_map (λ (line : Line). without_end (due_text names line))) (ap (λ (xs : List Line). slice_get xs 0) is ∙ first_at lines n)
-    ∙ twice without_end (due_text names) (slice_get lines n)
-    ∙ ap (option_map without_end) (sym (slice_get-map (due_text names) lines n))
+    ap (option_map (λ (line : Line). as_text (due_text names line))) (ap (λ (xs : List Line). slice_get xs 0) is ∙ first_at lines n)
+    ∙ twice as_text (due_text names) (slice_get lines n)
+    ∙ ap (option_map as_text) (sym (slice_get-map (due_text names) lines n))
 
 -- ---- ledgers
 

@@ -1,11 +1,12 @@
 -- The line that is told to be due is due where the report has its first fault.
-use Rattle.std.proofs.Common.{◌≡◌, ℕ, true, List, [], ◌∷◌, ◌++◌, Option, Some, None, refl, ap, subst, ◌∙◌}
-use Rattle.std.specs.Prelude.{IfSome, option_map}
+use Rattle.std.proofs.Common.{◌≡◌, ◌≢◌, ℕ, true, List, [], ◌∷◌, ◌++◌, Option, Some, None, refl, ap, subst, ◌∙◌}
+use Rattle.std.specs.Prelude.{IfSome}
 use Rattle.rforms.specs.Faults.{read_all}
 use Rattle.rforms.specs.Records.{Row}
 use Rattle.rforms.specs.SoFar.{SoFar}
 use Rattle.rforms.specs.Takers.{IsFirstFault, IsLeftBy, StandsAt}
 use Rattle.rforms.specs.declared.fault.Code.{Code}
+use Rattle.rforms.specs.declared.fault.Code.TheVariants.{BadField, UnknownName, BadOrder, Refused, WrongChange, WrongShow, WrongLedger, NoEnd, WrongBound}
 use Rattle.rforms.specs.declared.fault.Fault.{Fault}
 use Rattle.rstream.specs.Coming.{CameWhole}
 use Rattle.rreading.specs.Knows.{Knows}
@@ -15,7 +16,7 @@ use Rattle.rreading.proofs.Still.{same_still}
 use Rattle.rreplay.specs.Names.{names_read}
 use Rattle.rtrace.specs.Collects.{KnowsCount, CountStays}
 use Rattle.rtrace.specs.declared.count.Counting.{Counting}
-use Rattle.ranswer.specs.Due.{IsDueAt, first_due_text}
+use Rattle.ranswer.specs.Due.{IsDueAt, IsDueFor, first_due_text}
 use Rattle.ranswer.specs.Told.{IsFaultTold, told_due, told_fault}
 use Rattle.ranswer.specs.declared.command.Command.TheVariants.{Audit}
 use Rattle.ranswer.specs.declared.told.Told.{Told}
@@ -28,9 +29,9 @@ left_still (refused ∷ rest) was now stays = stays
 longer : (read said all : List (List ℕ)) → read ≡ said → (more : List (List ℕ)) × (all ≡ read ++ more) → (more : List (List ℕ)) × (all ≡ said ++ more)
 longer read said all same h = (h.0, h.1 ∙ ap (λ (front : List (List ℕ)). front ++ h.0) same)
 
--- the first line that is due to a reader is due where its report has its fault
-pub due_at : (bytes : List ℕ) (fault : Fault Code) (counting : Counting) (line : List ℕ) → StandsAt KnowsCount CountStays bytes fault.line counting
-    → ((was : Reading) (s : SoFar) → Knows true was s → StillDue was counting.reading → first_due_text (names_read counting.reading) s fault.code ≡ Some line) → IsDueAt bytes fault line
+-- the first line that is due to a reader is due where its report has its fault; so it is where none is
+pub due_at : (bytes : List ℕ) (fault : Fault Code) (counting : Counting) (line : Option (List ℕ)) → StandsAt KnowsCount CountStays bytes fault.line counting
+    → ((was : Reading) (s : SoFar) → Knows true was s → StillDue was counting.reading → first_due_text (names_read counting.reading) s fault.code ≡ line) → IsDueAt bytes fault line
 due_at bytes fault counting line at first =
     let said = at.knows.knows in
     let still = left_still at.behind at.was counting at.left in
@@ -44,15 +45,37 @@ due_at bytes fault counting line at first =
       first = first at.was.reading (read_all true at.before) said still;
     }
 
--- so is a line that may be told, of what the source had left
-pub line_told : {S : Type 0} (bytes : S → List ℕ) (left after : Option (List ℕ)) (fault : Fault Code) (made : Option S)
-    → ((line : S) → made ≡ Some line → (text : List ℕ) × CameWhole left after text × IsDueAt text fault (bytes line)) → IfSome left (λ all. IfSome (option_map bytes made) (IsDueAt all fault))
-line_told bytes None after fault made h = tt
-line_told bytes (Some all) after fault None h = tt
-line_told bytes (Some all) after fault (Some line) h = let due = h line refl in subst (λ (text : List ℕ). IsDueAt text fault (bytes line)) due.1.0 due.2
+-- what is due of the kind that the fault is about, and nothing where it is about none
+due_for : (bytes : List ℕ) (fault : Fault Code) (line : Option (List ℕ)) → (fault.code ≡ WrongChange → IsDueAt bytes fault line) → (fault.code ≡ WrongLedger → IsDueAt bytes fault line)
+    → (fault.code ≢ WrongChange → fault.code ≢ WrongLedger → line ≡ None) → IsDueFor fault.code bytes fault line
+due_for bytes fault line = at fault.code
+  where
+    at : (code : Code) → (code ≡ WrongChange → IsDueAt bytes fault line) → (code ≡ WrongLedger → IsDueAt bytes fault line) → (code ≢ WrongChange → code ≢ WrongLedger → line ≡ None)
+        → IsDueFor code bytes fault line
+    at WrongChange change ledger other = change refl
+    at WrongLedger change ledger other = ledger refl
+    at BadField change ledger other = other (λ e. cc) (λ e. cc)
+    at UnknownName change ledger other = other (λ e. cc) (λ e. cc)
+    at BadOrder change ledger other = other (λ e. cc) (λ e. cc)
+    at (Refused cause) change ledger other = other (λ e. cc) (λ e. cc)
+    at WrongShow change ledger other = other (λ e. cc) (λ e. cc)
+    at NoEnd change ledger other = other (λ e. cc) (λ e. cc)
+    at WrongBound change ledger other = other (λ e. cc) (λ e. cc)
 
--- the first fault of a report is told, and with it the line
+-- so it is of what the source had left
+pub due_told : (left after : Option (List ℕ)) (fault : Fault Code) (line : Option (List ℕ))
+    → (fault.code ≡ WrongChange → (text : List ℕ) × CameWhole left after text × IsDueAt text fault line)
+    → (fault.code ≡ WrongLedger → (text : List ℕ) × CameWhole left after text × IsDueAt text fault line)
+    → (fault.code ≢ WrongChange → fault.code ≢ WrongLedger → line ≡ None) → IfSome left (λ all. IsDueFor fault.code all fault line)
+due_told None after fault line change ledger other = tt
+due_told (Some all) after fault line change ledger other =
+    due_for all fault line
+    (λ e. let due = change e in subst (λ (text : List ℕ). IsDueAt text fault line) due.1.0 due.2)
+    (λ e. let due = ledger e in subst (λ (text : List ℕ). IsDueAt text fault line) due.1.0 due.2)
+    other
+
+-- the first fault of a report is told, and with it what is due
 pub fault_told : (left after : Option (List ℕ)) (text : List ℕ) (fault : Fault Code) (told : Option Told) → CameWhole left after text → IsFirstFault true text fault → told_fault told ≡ Some fault
-    → IfSome left (λ all. IfSome (told_due told) (IsDueAt all fault)) → IfSome left (λ all. IsFaultTold (Some Audit) all told)
+    → IfSome left (λ all. IsDueFor fault.code all fault (told_due told)) → IfSome left (λ all. IsFaultTold (Some Audit) all told)
 fault_told None after text fault told came first is due = tt
 fault_told (Some all) after text fault told came first is due = (fault, subst (λ (bytes : List ℕ). IsFirstFault true bytes fault) came.0 first, is, due)

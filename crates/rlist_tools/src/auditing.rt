@@ -18,7 +18,8 @@ use rtrace::{AuditCounts, AuditErr, Counting, count_stream};
 use std::alloc::{AllocError, Global};
 
 /// Checks the report that a source has left, as it is read, and writes how many events and how many waits it tells. The first
-/// fault of an input that is no right report is put into `told` too, for a person.
+/// fault of an input that is no right report is put into `told` too, for a person, with the line that is due in its place,
+/// where one is.
 pub fn audit<S: Source, K: Sink>(
     alloc: Global,
     source: &mut S,
@@ -45,10 +46,10 @@ fn audit_by<S: Source, K: Sink>(
 {
     match count_stream(alloc, source, REPORT_LIMIT, counting) {
         Ok(counts) => tell(alloc, counts, sink),
-        Err(AuditErr::Bad(fault)) => {
-            let due = expected(alloc, &counting.reading, fault.code);
-            refuse(alloc, fault, due, sink, told)
-        }
+        Err(AuditErr::Bad(fault)) => match expected(alloc, &counting.reading, fault.code) {
+            Ok(due) => refuse(alloc, fault, due, sink, told),
+            Err(_) => ToolStatus::NoMemory,
+        },
         Err(AuditErr::ReadFault) => ToolStatus::ReadFault,
         Err(AuditErr::TooLong) => ToolStatus::TooLong,
         Err(AuditErr::Memory) => ToolStatus::NoMemory,

@@ -1,5 +1,5 @@
 // Which line of a report is due where another one stands, for a person.
-ghost use Rattle.std.specs.Prelude.{◌≡◌, ◌≢◌, ◌∷◌, ◌++◌, ◌≤◌, ◌<◌, [], List, None, Some, IfOk, IfSome, IsOkAnd, IsSomeAnd, OnOk, decimal, option_map, slice_get, string_bytes};
+ghost use Rattle.std.specs.Prelude.{◌≡◌, ◌≢◌, ◌∷◌, ◌++◌, ◌≤◌, ◌<◌, [], List, None, Some, IfOk, IsSomeAnd, OnOk, decimal, option_map, slice_get, string_bytes};
 ghost use Rattle.rclaim.specs.declared.event.Event.{Event};
 ghost use Rattle.rcover.specs.Ended.{ended_by};
 ghost use Rattle.rpage.specs.Told.{told, told_line};
@@ -13,15 +13,16 @@ ghost use Rattle.rreading.specs.Takes.{ledgers_told};
 ghost use Rattle.rreplay.specs.Names.{names_read};
 ghost use Rattle.rwaits.specs.Follows.{Follows};
 ghost use Rattle.rwaits.specs.Past.{Past, start_of};
-ghost use Rattle.ranswer.specs.Due.{without_end};
+ghost use Rattle.ranswer.specs.Due.{as_text};
 ghost use Rattle.rlist_tools.specs.Due.{due_texts, wait_text, ledger_text};
 
 use itoa::Buffer;
-use rclaim::{Changes, GrantChange, StatusChange};
+use rclaim::{GrantChange, StatusChange};
 use rcover::WaitEnd;
 use rforms::Code;
 use rmodel::Machine;
 use rpage::{NameRows, Page};
+use rplain::Plain;
 use rreading::Reading;
 use rset::NameTable;
 use rvalue::Ledger;
@@ -30,92 +31,108 @@ use std::alloc::{AllocError, Global};
 // The place of ledgers, as `rforms` numbers places.
 const AT_LEDGERS: u8 = 8;
 
-/// The line that is due behind what was read, where the fault is that another one stands there. Of a wait it is the line up
-/// to the bound, which is known only where the whole report is. Behind the end of the report none is; nor is one told for
-/// want of memory.
-pub fn expected(alloc: Global, reading: &Reading, code: Code) -> Option<String>
-    ensures change { (p : Past) (before : List Event) (last : Event) → IfSome reading.now.following (λ f. Follows f p) → p.events ≡ before ++ last ∷ [] → code ≡ Code.WrongChange
-        → IfSome result (λ line. option_map without_end (slice_get (due_texts (names_read reading.now) (changes_in reading.now.machine) (ended_by (start_of p) before last)) reading.now.told) ≡ Some (string_bytes line)) }
-    ensures begun { (p : Past) → IfSome reading.now.following (λ f. Follows f p) → p.events ≡ [] → code ≡ Code.WrongChange
-        → IfSome result (λ line. option_map without_end (slice_get (due_texts (names_read reading.now) (changes_in reading.now.machine) []) reading.now.told) ≡ Some (string_bytes line)) }
-    ensures ledger { code ≡ Code.WrongLedger
-        → IfSome result (λ line. option_map without_end (ledger_text (names_read reading.now) reading.now.ledgers.items (ledgers_told reading.now)) ≡ Some (string_bytes line)) }
-    ensures behind { code ≡ Code.WrongChange → at_ledgers ≤ reading.now.last → result ≡ None }
-    ensures ended { code ≡ Code.WrongLedger → at_ledgers < reading.now.last → result ≡ None }
-    ensures other { code ≢ Code.WrongChange → code ≢ Code.WrongLedger → result ≡ None }
+/// The line that is due behind what was read, where the fault is that another one stands there, if one is. Of a wait it is
+/// the line up to the bound, which is known only where the whole report is. Behind the end of the report none is.
+///
+/// # Errors
+///
+/// Want of memory.
+pub fn expected(alloc: Global, reading: &Reading, code: Code) -> Result<Option<String>, AllocError>
+    ensures change { (p : Past) (before : List Event) (last : Event) → IsSomeAnd reading.now.following (λ f. Follows f p) → p.events ≡ before ++ last ∷ [] → code ≡ Code.WrongChange → reading.now.last < at_ledgers
+        → IfOk result (λ line. option_map string_bytes line ≡ option_map as_text (slice_get (due_texts (names_read reading.now) (changes_in reading.now.machine) (ended_by (start_of p) before last)) reading.now.told)) }
+    ensures begun { (p : Past) → IsSomeAnd reading.now.following (λ f. Follows f p) → p.events ≡ [] → code ≡ Code.WrongChange → reading.now.last < at_ledgers
+        → IfOk result (λ line. option_map string_bytes line ≡ option_map as_text (slice_get (due_texts (names_read reading.now) (changes_in reading.now.machine) []) reading.now.told)) }
+    ensures unbegun { reading.now.following ≡ None → code ≡ Code.WrongChange → IfOk result (λ line. line ≡ None) }
+    ensures ledger { code ≡ Code.WrongLedger → reading.now.last ≤ at_ledgers
+        → IfOk result (λ line. option_map string_bytes line ≡ option_map as_text (ledger_text (names_read reading.now) reading.now.ledgers.items (ledgers_told reading.now))) }
+    ensures behind { code ≡ Code.WrongChange → at_ledgers ≤ reading.now.last → IfOk result (λ line. line ≡ None) }
+    ensures ended { code ≡ Code.WrongLedger → at_ledgers < reading.now.last → IfOk result (λ line. line ≡ None) }
+    ensures other { code ≢ Code.WrongChange → code ≢ Code.WrongLedger → IfOk result (λ line. line ≡ None) }
 {
     match code {
         Code::WrongChange if reading.last < AT_LEDGERS => {
-            as_text(alloc, change_due(alloc, reading))
+            text_of(alloc, change_due(alloc, reading)?)
         }
         Code::WrongLedger if reading.last <= AT_LEDGERS => {
-            as_text(alloc, ledger_due(alloc, reading))
+            text_of(alloc, ledger_due(alloc, reading)?)
         }
-        _ => None,
+        _ => Ok(None),
     }
 }
 
 // A line without its end, as text.
-fn as_text(alloc: Global, line: Result<Option<Page>, AllocError>) -> Option<String>
-    ensures { IfSome result (λ text. IsOkAnd line (λ page. IsSomeAnd page (λ bytes. string_bytes text ≡ without_end bytes))) }
+fn text_of(alloc: Global, line: Option<Page>) -> Result<Option<String>, AllocError>
+    ensures { IfOk result (λ text. option_map string_bytes text ≡ option_map as_text line) }
 {
-    match line {
-        Ok(Some(page)) => text_of(alloc, page.as_slice()),
-        _ => None,
-    }
+    let Some(line) = line else {
+        return Ok(None);
+    };
+    let bytes = line.as_slice();
+    let text = String::from_utf8_lossy(alloc, &bytes[..bytes.len().saturating_sub(1)])?;
+    Ok(Some(text))
 }
 
-// All bytes but the last, as text.
-fn text_of(alloc: Global, bytes: &[u8]) -> Option<String>
-    ensures { IfSome result (λ text. string_bytes text ≡ without_end bytes.now) }
-{
-    match str::from_utf8(&bytes[..bytes.len().saturating_sub(1)]) {
-        Ok(text) => match String::from_str(alloc, text) {
-            Ok(text) => Some(text),
-            Err(_) => None,
-        },
-        Err(_) => None,
-    }
-}
-
-// The line of the change or the wait that is due, if one is.
+// The line of the change or the wait that is due, if one is. Before the first event none is.
 fn change_due(alloc: Global, reading: &Reading) -> Result<Option<Page>, AllocError>
-    ensures change { (p : Past) (before : List Event) (last : Event) → IfSome reading.now.following (λ f. Follows f p) → p.events ≡ before ++ last ∷ []
-        → IfOk result (λ page. IfSome page (λ line. slice_get (due_texts (names_read reading.now) (changes_in reading.now.machine) (ended_by (start_of p) before last)) reading.now.told ≡ Some line)) }
-    ensures begun { (p : Past) → IfSome reading.now.following (λ f. Follows f p) → p.events ≡ []
-        → IfOk result (λ page. IfSome page (λ line. slice_get (due_texts (names_read reading.now) (changes_in reading.now.machine) []) reading.now.told ≡ Some line)) }
+    ensures change { (p : Past) (before : List Event) (last : Event) → IsSomeAnd reading.now.following (λ f. Follows f p) → p.events ≡ before ++ last ∷ []
+        → IfOk result (λ page. page ≡ slice_get (due_texts (names_read reading.now) (changes_in reading.now.machine) (ended_by (start_of p) before last)) reading.now.told) }
+    ensures begun { (p : Past) → IsSomeAnd reading.now.following (λ f. Follows f p) → p.events ≡ []
+        → IfOk result (λ page. page ≡ slice_get (due_texts (names_read reading.now) (changes_in reading.now.machine) []) reading.now.told) }
+    ensures unbegun { reading.now.following ≡ None → IfOk result (λ page. page ≡ None) }
 {
-    let (Some(machine), Some(following)) = (&reading.machine, &reading.following) else {
+    let Some(following) = &reading.following else {
         return Ok(None);
     };
     let names = NameRows::new(alloc, &reading.resources, &reading.tasks)?;
     due_at(
         alloc,
         &names,
-        machine.changes(),
+        statuses_of(&reading.machine),
+        grants_of(&reading.machine),
         following.ended(),
         reading.told,
     )
+}
+
+// What the latest event changed; before the first event nothing.
+fn statuses_of(machine: &Option<Plain>) -> &[StatusChange]
+    ensures { result.now ≡ (changes_in machine.now).statuses }
+{
+    match machine {
+        Some(machine) => &machine.changes().statuses,
+        None => &[],
+    }
+}
+
+// And what came to be held behind it.
+fn grants_of(machine: &Option<Plain>) -> &[GrantChange]
+    ensures { result.now ≡ (changes_in machine.now).grants }
+{
+    match machine {
+        Some(machine) => &machine.changes().grants,
+        None => &[],
+    }
 }
 
 // The line at a place, counted from the first change.
 fn due_at(
     alloc: Global,
     names: &NameRows,
-    changes: &Changes,
+    statuses: &[StatusChange],
+    grants: &[GrantChange],
     ended: &[WaitEnd],
     place: usize,
 ) -> Result<Option<Page>, AllocError>
-    ensures { IfOk result (λ page. page ≡ slice_get (due_texts names.now changes.now ended.now) place) }
+    ensures { IfOk result (λ page. page ≡ slice_get (due_texts names.now (record { statuses = statuses.now; grants = grants.now }) ended.now) place) }
 {
-    if let Some(change) = changes.statuses.get(place) {
+    if let Some(change) = statuses.get(place) {
         return status_due(alloc, names, change);
     }
-    let behind = place.saturating_sub(changes.statuses.len());
-    if let Some(grant) = changes.grants.get(behind) {
+    let behind = place.saturating_sub(statuses.len());
+    if let Some(grant) = grants.get(behind) {
         return grant_due(alloc, names, grant);
     }
-    match ended.get(behind.saturating_sub(changes.grants.len())) {
+    match ended.get(behind.saturating_sub(grants.len())) {
         Some(wait) => wait_due(alloc, names, wait),
         None => Ok(None),
     }
@@ -157,12 +174,12 @@ fn wait_due(alloc: Global, names: &NameRows, wait: &WaitEnd) -> Result<Option<Pa
 
 // The line of the ledger that is due: the first one, where none was told yet.
 fn ledger_due(alloc: Global, reading: &Reading) -> Result<Option<Page>, AllocError>
-    ensures { IfOk result (λ page. IfSome page (λ line. ledger_text (names_read reading.now) reading.now.ledgers.items (ledgers_told reading.now) ≡ Some line)) }
+    ensures { IfOk result (λ page. page ≡ ledger_text (names_read reading.now) reading.now.ledgers.items (ledgers_told reading.now)) }
 {
     let due = ledgers_told(reading);
     match reading.ledgers.get(due) {
-        Some(ledger) if due < 256 => ledger_at(alloc, reading, due as u8, ledger),
-        _ => Ok(None),
+        Some(ledger) => ledger_at(alloc, reading, due, ledger),
+        None => Ok(None),
     }
 }
 
@@ -180,7 +197,7 @@ fn ledgers_told(reading: &Reading) -> usize
 fn ledger_at(
     alloc: Global,
     reading: &Reading,
-    place: u8,
+    place: usize,
     ledger: &Ledger,
 ) -> Result<Option<Page>, AllocError>
     ensures { IfOk result (λ page. page ≡ Some (told_line (names_read reading.now) (Leaves place ledger.now))) }
@@ -194,13 +211,13 @@ fn ledger_at(
 }
 
 // The name with a number; nothing where there is none.
-fn name_of(names: &NameTable, n: u8) -> &[u8]
+fn name_of(names: &NameTable, n: usize) -> &[u8]
     ensures { result.now ≡ name_at names.now n }
 {
-    if n >= names.len() {
+    if n >= usize::from(names.len()) {
         return &[];
     }
-    names.name_of(n)
+    names.name_of(n as u8)
 }
 
 // Appends a number as one field more.

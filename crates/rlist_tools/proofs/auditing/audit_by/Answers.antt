@@ -1,10 +1,9 @@
-use Rattle.std.proofs.Common.{◌≡◌, ◌≢◌, Some, Err, refl, sym, ap, subst, ◌∙◌}
-use Rattle.std.specs.Prelude.{IfSome, string_bytes}
+use Rattle.std.proofs.Common.{◌≡◌, Some, Err, refl, sym, ap, subst, ◌∙◌}
+use Rattle.std.specs.Prelude.{IfSome, option_map, string_bytes}
 use Rattle.rforms.specs.declared.fault.Code.TheVariants.{WrongChange, WrongLedger, WrongBound}
-use Rattle.rforms.proofs.facts.Choices.{some_none}
 use Rattle.rreplay.specs.Names.{names_read}
 use Rattle.ranswer.specs.Outputs.{audit_text, report_limit}
-use Rattle.ranswer.specs.Due.{IsDueAt, first_due_text}
+use Rattle.ranswer.specs.Due.{IsDueFor, first_due_text}
 use Rattle.ranswer.specs.Told.{told_due, told_fault}
 use Rattle.ranswer.proofs.Outcomes.{told, written}
 use Rattle.ranswer.proofs.Streams.{stream_read, stream_within}
@@ -12,8 +11,8 @@ use Rattle.ranswer.proofs.Tellings.{written_tells, trace_told}
 use Rattle.ranswer.proofs.ToolAnswers.{answered, unread}
 use Rattle.ranswer.specs.declared.command.Command.TheVariants.{Audit}
 use Rattle.ranswer.specs.declared.status.ToolStatus.TheVariants as status
-use Rattle.rlist_tools.proofs.FirstDue.{first_made}
-use Rattle.rlist_tools.proofs.ToldDue.{due_at, line_told, fault_told}
+use Rattle.rlist_tools.proofs.FirstDue.{change_made, ledger_made}
+use Rattle.rlist_tools.proofs.ToldDue.{due_at, due_told, fault_told}
 use Rattle.rlist_tools.proofs.auditing.audit_by.Goals as goal
 
 clash : ◌≡◌ WrongBound WrongChange → ⊥
@@ -30,8 +29,8 @@ returns-in-Ok-clause-answer g c = λ watchers.
     (stream_read g.S.Source.left g.S.Source.faults c.args.source.now c.count_stream.new.source found.0 found.1 within (c.in-Ok.ensures.quiet (λ e. cc)))
     (written watchers (Some Audit) found.0 _ _ _ _ _ _ c.tell.result (found.2.report, found.2.spelled, λ i. audit_text (found.2.events i) (found.2.waits i)) c.tell.ensures)
 
-pub returns-in-Err-Bad-clause-answer : goal.returns-in-Err-Bad-clause-answer
-returns-in-Err-Bad-clause-answer g c = λ watchers.
+pub returns-in-Ok-expected-clause-answer : goal.returns-in-Ok-expected-clause-answer
+returns-in-Ok-expected-clause-answer g c = λ watchers.
     let fault = c.in-Err-Bad.fault in
     let found = c.in-Err-Bad.ensures.bad fault (ap Err c.in-Err-Bad.field-0-is) in
     answered g.S.Source.left g.S.Source.faults g.K.Sink.written g.K.Sink.faults watchers (Some Audit) Audit c.args.source.now c.count_stream.new.source c.args.sink.now c.refuse.new.sink found.0 c.refuse.result refl
@@ -61,25 +60,37 @@ pub returns-in-Ok-clause-told : goal.returns-in-Ok-clause-told
 returns-in-Ok-clause-told g c = λ watchers.
     written_tells _ _ _ _ _ _ c.args.told.now (Some Audit) (g.S.Source.left c.args.source.now) c.args.told.now c.args.told.now c.tell.result refl (λ same. refl) c.tell.ensures
 
-pub returns-in-Err-Bad-clause-told : goal.returns-in-Err-Bad-clause-told
-returns-in-Err-Bad-clause-told g c = λ watchers.
+pub returns-in-Ok-expected-clause-told : goal.returns-in-Ok-expected-clause-told
+returns-in-Ok-expected-clause-told g c = λ watchers.
     let fault = c.in-Err-Bad.fault in
     let is = ap Err c.in-Err-Bad.field-0-is in
     let left = g.S.Source.left c.args.source.now in
     let later = g.S.Source.left c.count_stream.new.source in
     let counting = c.count_stream.new.counting in
-    let made = c.expected-due.ensures in
     let found = c.in-Err-Bad.ensures.bad fault is in
-    let due = line_told string_bytes left later fault c.expected-due.result (λ line told.
-    let bound : fault.code ≢ WrongBound = λ e. some_none (sym (made.other (λ f. clash (sym e ∙ f)) (λ f. clash_ledger (sym e ∙ f))) ∙ told) in
-    let stands = c.in-Err-Bad.ensures.still fault is bound in (
+    let made = c.in-Ok-expected.ensures in
+    let line = option_map string_bytes c.in-Ok-expected.due in
+    let nothing = ap (option_map string_bytes) in
+    let due = due_told left later fault line
+    (λ e.
+    let stands = c.in-Err-Bad.ensures.still fault is (λ f. clash (sym f ∙ e)) in (
       stands.0,
       stands.1,
-      due_at stands.0 fault counting (string_bytes line) stands.2 (λ was s knows still.
-          subst (λ o. IfSome o (λ l. first_due_text (names_read counting.reading) s fault.code ≡ Some (string_bytes l))) told
-          (first_made was counting.reading s knows still string_bytes fault.code c.expected-due.result made.change made.begun made.ledger made.behind made.ended made.other)),
-    )) in
+      due_at stands.0 fault counting line stands.2 (λ was s knows still.
+          subst (λ code. first_due_text (names_read counting.reading) s code ≡ line) (sym e)
+          (change_made was counting.reading s knows still line (λ p before last follows events low. made.change p before last follows events e low) (λ p follows none low. made.begun p follows none e low)
+          (λ none. nothing (made.unbegun none e)) (λ past. nothing (made.behind e past)))),
+    ))
+    (λ e.
+    let stands = c.in-Err-Bad.ensures.still fault is (λ f. clash_ledger (sym f ∙ e)) in (
+      stands.0,
+      stands.1,
+      due_at stands.0 fault counting line stands.2 (λ was s knows still.
+          subst (λ code. first_due_text (names_read counting.reading) s code ≡ line) (sym e)
+          (ledger_made was counting.reading s knows still line (made.ledger e) (λ past. nothing (made.ended e past)))),
+    ))
+    (λ change ledger. nothing (made.other change ledger)) in
     trace_told _ _ _ _ _ _ c.args.told.now (Some Audit) left c.args.told.now c.refuse.new.told c.refuse.result c.refuse.ensures.written
     (λ e. fault_told left later found.0 fault c.refuse.new.told found.1 found.2 (ap told_fault (c.refuse.ensures.noted e))
-    (subst (λ t. IfSome left (λ all. IfSome (told_due t) (IsDueAt all fault))) (sym (c.refuse.ensures.noted e)) due))
+    (subst (λ t. IfSome left (λ all. IsDueFor fault.code all fault (told_due t))) (sym (c.refuse.ensures.noted e)) due))
     c.refuse.ensures.kept
