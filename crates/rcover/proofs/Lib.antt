@@ -4,3 +4,4 @@ pub mod runs
 pub mod covers
 pub mod bounds
 pub mod told
+pub mod past

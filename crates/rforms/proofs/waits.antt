@@ -1,4 +1,3 @@
-pub mod Asks
 pub mod AskedSets
 pub mod EndedWaits
 pub mod SmallBounds

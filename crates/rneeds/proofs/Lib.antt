@@ -1,7 +1,7 @@
 pub mod Places
 pub mod OneMore
 pub mod Following
-pub mod Asks
+pub mod LastAsked
 pub mod KnownClaims
 pub mod HistoryShapes
 pub mod Later

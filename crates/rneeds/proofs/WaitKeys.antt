@@ -46,9 +46,11 @@ use Rattle.rshapes.proofs.ShapesGrow.{one_only}
 use Rattle.rneeds.specs.History.{shapes_told}
 use Rattle.rneeds.specs.Keys.{place_among, ask_among, place_of, ask_of, with_ask_number, key_of, IsLastEnded}
 use Rattle.rneeds.specs.Knows.{bound_by}
-use Rattle.rneeds.proofs.Asks.{more_asked, asked_since, asked_push, asked_count, asks_behind, request_asks, is_issue_of, last_at, last_asked}
+use Rattle.rcover.proofs.past.Asks.{more_asked, asked_since, asked_push, asked_count, asks_behind, request_asks, is_issue_of, last_at}
+use Rattle.rcover.proofs.past.KnownAsks.{not_of}
+use Rattle.rneeds.proofs.LastAsked.{last_asked}
 use Rattle.rneeds.proofs.HistoryShapes.{have_shapes, needs_fine, requests_by, as_many}
-use Rattle.rneeds.proofs.KnownClaims.{IsOfLast, IsKnown, known_claims, known_on, not_of, of_last_on}
+use Rattle.rneeds.proofs.KnownClaims.{IsOfLast, IsKnown, known_claims, known_on, of_last_on}
 use Rattle.rneeds.proofs.Later.{HasBecome, shapes_stay, shape_found, parts_at, task_is, part_found, found_still}
 use Rattle.rneeds.proofs.OneMore.{last_known}
 
@@ -191,7 +193,7 @@ module _ (groups : ReadGroups) (seats cap : ℕ) (before : List Event) (e : Even
           let stands : StandsAs waits_for_ask x.claim now.claims = record { at = x; among = there; is = refl; passes = waits } in
           let w = ask_waits now reached x.claim x.asked stands refl in
           let same : w.at ≡ x = one_claim now reached w.at x w.among there w.is in
-          known.last (λ none. w.holds_some (ap (λ (y : Claimed). y.granted) same ∙ none)) w.some
+          known.asks.last (λ none. w.holds_some (ap (λ (y : Claimed). y.granted) same ∙ none)) w.some
 
       asked_now : asked_since seat es ≡ asked.0 ++ x.asked ∷ []
       asked_now = asked_push seat before e ∙ no_ask pending (asked_since seat before) ∙ asked.1
@@ -202,14 +204,14 @@ module _ (groups : ReadGroups) (seats cap : ℕ) (before : List Event) (e : Even
           let count = ap length (sym asked.1) ∙ asked_count seat before in
           let long = length-append asked.0 (x.asked ∷ []) in
           let at : last_ask before x.claim ≡ length asked.0 = omega (arith, count, long) in
-          let asks : n.asks ≡ (asked.0 ++ x.asked ∷ []) ++ history.asks_of seat rest = still.behind rest ∙ ap (λ (parts : List Set). parts ++ history.asks_of seat rest) asked_now in
+          let asks : n.asks ≡ (asked.0 ++ x.asked ∷ []) ++ history.asks_of seat rest = still.asks.behind rest ∙ ap (λ (parts : List Set). parts ++ history.asks_of seat rest) asked_now in
           (λ i. slice_get (asks i) (at i)) ∙ last_at asked.0 x.asked (history.asks_of seat rest)
 
       -- its set is among those for which its shape asks by now
       part_there : Among x.asked found.0.asks
       part_there =
           let m : RequestNeeds = record { request = r; asks = asks_behind (es ++ []) x.claim.stamp seat } in
-          let asks : m.asks ≡ (asked.0 ++ x.asked ∷ []) ++ [] = still.behind [] ∙ ap (λ (parts : List Set). parts ++ []) asked_now in
+          let asks : m.asks ≡ (asked.0 ++ x.asked ∷ []) ++ [] = still.asks.behind [] ∙ ap (λ (parts : List Set). parts ++ []) asked_now in
           let accepted_now = subst (AreAccepted o) (sym (append-nil es)) behind in
           let request = ap (λ (ns : List RequestNeeds). slice_get ns (number_from (es ++ []) x.claim.stamp seat)) (requests_by seats (es ++ []) seat below) ∙ request_asks (es ++ []) x.claim.stamp seat r (of_last.at []) in
           let shapes = have_shapes o (es ++ []) accepted_now in

@@ -1,4 +1,4 @@
-//! Tests on threads, through public functions alone. The crate has nothing else.
+//! Tests of guards, on threads, through public functions alone. The crate has nothing else.
 #![tactic(auto)]
 
 #[cfg(test)]
@@ -14,12 +14,6 @@ mod refusals;
 #[cfg(test)]
 mod rising;
 #[cfg(test)]
-mod roll;
-#[cfg(test)]
 mod sections;
-#[cfg(test)]
-mod signing;
-#[cfg(test)]
-mod states;
 #[cfg(test)]
 mod tasks;

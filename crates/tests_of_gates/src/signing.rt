@@ -2,8 +2,8 @@
 ghost use Rattle.std.specs.Prelude.{◌≡◌, ℕ, ◌<◌, length, All, IsTrue, IfOk, slice_index_or};
 ghost use denote.Param.Send.{IsSync};
 ghost use Rattle.rlock.specs.Known.{Known};
-ghost use Rattle.tests_on_threads.specs.declared.roll.Roll.{Roll};
-ghost use Rattle.tests_on_threads.specs.declared.roll.Signature.{Signature};
+ghost use Rattle.tests_of_gates.specs.declared.roll.Roll.{Roll};
+ghost use Rattle.tests_of_gates.specs.declared.roll.Signature.{Signature};
 
 use crate::roll::Roll;
 use rlock::{Gate, Pass};

@@ -100,6 +100,14 @@ asks_next (Finish t ∷ es) ds seat task r = asks_next es ds seat task r
 asks_next (Rise t ∷ es) ds seat task r = asks_next es ds seat task r
 asks_next (Ask t part ∷ es) ds seat task r = asks_next es ds seat task r
 
+-- and is that of its seat
+pub issue_next : (es ds : List Event) (seat : ℕ) (r : RequestFields) → IsIssueAt (es ++ Issue seat r ∷ ds) (issues es) seat r
+issue_next [] ds seat r = (refl, refl)
+issue_next (Issue t q ∷ es) ds seat r = issue_next es ds seat r
+issue_next (Finish t ∷ es) ds seat r = issue_next es ds seat r
+issue_next (Rise t ∷ es) ds seat r = issue_next es ds seat r
+issue_next (Ask t part ∷ es) ds seat r = issue_next es ds seat r
+
 -- ---- from one event to the next
 
 -- an event is an issue of this seat

@@ -1,9 +1,9 @@
 use Rattle.std.proofs.Common.{rules, ◌≡◌, ◌<◌, ℕ, List, length, get_or, true, None, [], sym, ap, ◌∙◌, subst}
 use Rattle.std.proofs.lemmas.List.{get_or_default}
 use Rattle.rlock.specs.Known.{Known}
-use Rattle.tests_on_threads.specs.declared.roll.Roll.{Roll}
-use Rattle.tests_on_threads.specs.declared.roll.Signature.{Signature}
-use Rattle.tests_on_threads.proofs.signing.closed.Goals as goal
+use Rattle.tests_of_gates.specs.declared.roll.Roll.{Roll}
+use Rattle.tests_of_gates.specs.declared.roll.Signature.{Signature}
+use Rattle.tests_of_gates.proofs.signing.closed.Goals as goal
 
 pub close-requires-clause-all : goal.close-requires-clause-all
 close-requires-clause-all g c = λ n low. let d : Known Roll ℕ Signature = record { gate = c.args.gate.gate; number = 0; opening = None; seen = []; mine = []; last = None; turns = 0 } in let passes = c.args.passes.items in let same = c.as_slice.ensures.value in

@@ -1,0 +1,3 @@
+-- What the events so far tell of claims.
+pub mod Asks
+pub mod KnownAsks
