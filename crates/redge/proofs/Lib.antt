@@ -1,2 +1,1 @@
 pub mod Edges
-mod Telling

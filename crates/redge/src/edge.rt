@@ -4,15 +4,15 @@ ghost use Rattle.std.specs.Process.{exit_status};
 ghost use Rattle.ranswer.specs.Status.{status_number};
 ghost use Rattle.ranswer.specs.Words.{command_in};
 ghost use Rattle.ranswer.specs.declared.told.Told.{Told};
-ghost use Rattle.redge.specs.Lines.{told_lines};
+ghost use Rattle.rmessages.specs.Lines.{told_lines};
 ghost use Rattle.redge.specs.Program.{ProgramAnswer, ProgramTells, RunAnswer, RunTells, ShownAnswer, ShownTells, IsUntouched, is_replay, is_unwatched};
 
 use crate::explain::explain;
-use crate::lines::lines_of;
 use crate::own::own_text;
 use io_ends::{Sink, Source};
 use ranswer::{Command, ToolStatus, are_for_run, plain_of, write_output};
 use rguard::Receipt;
+use rmessages::lines_of;
 use rnlp_cli::{Told, told_run, told_tool};
 use rrun::Pace;
 use rvalue::Edit;

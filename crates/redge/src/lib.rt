@@ -6,8 +6,6 @@
 
 mod edge;
 mod explain;
-mod lines;
-mod meanings;
 mod own;
 mod progress;
 

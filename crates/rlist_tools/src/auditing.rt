@@ -9,11 +9,11 @@ ghost use Rattle.ranswer.specs.Writing.{IsWritten};
 ghost use Rattle.ranswer.specs.declared.command.Command.TheVariants.{Audit};
 ghost use Rattle.rtrace.specs.Collects.{KnowsCount};
 
-use crate::expected::expected;
 use crate::refusing::refuse;
 use io_ends::{Sink, Source};
 use itoa::Buffer;
 use ranswer::{REPORT_LIMIT, Told, ToolStatus, write_output};
+use rexpected::expected;
 use rtrace::{AuditCounts, AuditErr, Counting, count_stream};
 use std::alloc::{AllocError, Global};
 

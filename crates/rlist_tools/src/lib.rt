@@ -4,7 +4,6 @@
 #![tactic(auto)]
 
 mod auditing;
-mod expected;
 mod refusing;
 mod replaying;
 

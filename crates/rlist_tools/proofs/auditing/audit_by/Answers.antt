@@ -11,7 +11,7 @@ use Rattle.ranswer.proofs.Tellings.{written_tells, trace_told}
 use Rattle.ranswer.proofs.ToolAnswers.{answered, unread}
 use Rattle.ranswer.specs.declared.command.Command.TheVariants.{Audit}
 use Rattle.ranswer.specs.declared.status.ToolStatus.TheVariants as status
-use Rattle.rlist_tools.proofs.FirstDue.{change_made, ledger_made}
+use Rattle.rexpected.proofs.FirstDue.{change_made, ledger_made}
 use Rattle.rlist_tools.proofs.ToldDue.{due_at, due_told, fault_told}
 use Rattle.rlist_tools.proofs.auditing.audit_by.Goals as goal
 

@@ -1,7 +1,7 @@
 use Rattle.std.proofs.Common.{Some, ap, ◌∙◌}
 use Rattle.rreplay.specs.Names.{names_read}
-use Rattle.rlist_tools.proofs.Dues.{ledger_line}
-use Rattle.rlist_tools.proofs.expected.ledger_at.Goals as goal
+use Rattle.rexpected.proofs.Dues.{ledger_line}
+use Rattle.rexpected.proofs.due.ledger_at.Goals as goal
 
 pub returns : goal.returns
 returns c =

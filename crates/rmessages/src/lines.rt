@@ -1,14 +1,13 @@
 // The lines that a person is told.
 ghost use Rattle.std.specs.Prelude.{◌≡◌, ◌++◌, ◌∷◌, [], IfOk, OnOk, codes, decimal, flat_map, option_map, string_bytes};
-ghost use Rattle.redge.specs.Lines.{told_lines, record_line, meaning_line, watcher_line, counts_shown, cause_text, fault_text, expected_line, script_text};
-ghost use Rattle.redge.specs.Meanings.{status_meaning, kind_word, refusal_meaning};
+ghost use Rattle.rmessages.specs.Lines.{told_lines, record_line, meaning_line, watcher_line, counts_shown, cause_text, fault_text, expected_line, script_text};
+ghost use Rattle.rmessages.specs.Meanings.{status_meaning, kind_word, refusal_meaning};
 
 use crate::meanings::{
     meaning_in_script, meaning_of, meaning_of_refusal, meaning_of_status, word_of,
 };
-use ranswer::ToolStatus;
+use ranswer::{Told, ToolStatus};
 use rforms::{Code, Fault, Refusal};
-use rnlp_cli::Told;
 use rscript::Code as ScriptCode;
 use rwatch::{Audience, WatchKind};
 use std::alloc::{AllocError, Global};

@@ -1,6 +1,6 @@
 use Rattle.std.proofs.Common.{codes, string_bytes}
-use Rattle.redge.proofs.Telling.{put_three}
-use Rattle.redge.proofs.lines.push_due.Goals as goal
+use Rattle.rmessages.proofs.Telling.{put_three}
+use Rattle.rmessages.proofs.lines.push_due.Goals as goal
 
 pub returns : goal.returns
 returns c =

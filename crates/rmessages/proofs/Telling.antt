@@ -3,8 +3,8 @@ use Rattle.std.proofs.Common.{◌≡◌, ℕ, ◌+◌, ◌<◌, ◌≤◌, List,
 use Rattle.std.proofs.lemmas.List.{take_all, flat_map_more, take_more}
 use Rattle.rwatch.specs.Seen.{Seen, watcher_at, nobody}
 use Rattle.rwatch.specs.declared.kinds.WatchKind.{WatchKind}
-use Rattle.redge.specs.Meanings.{kind_word}
-use Rattle.redge.specs.Lines.{watcher_line}
+use Rattle.rmessages.specs.Meanings.{kind_word}
+use Rattle.rmessages.specs.Lines.{watcher_line}
 
 -- the lines of the first i watchers, and then that of the next
 pub counts_more : (first now then : List ℕ) (ws : List Seen) (i : ℕ) (kind : WatchKind) (n : ℕ) → i < length ws → now ≡ first ++ flat_map watcher_line (take i ws)

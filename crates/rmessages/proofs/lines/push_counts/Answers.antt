@@ -1,7 +1,7 @@
 use Rattle.std.proofs.Common.{◌≤◌, ◌<◌, string_bytes, sym, subst}
 use Rattle.std.proofs.lemmas.List.{append-nil}
-use Rattle.redge.proofs.Telling.{counts_more, counts_all}
-use Rattle.redge.proofs.lines.push_counts.Goals as goal
+use Rattle.rmessages.proofs.Telling.{counts_more, counts_all}
+use Rattle.rmessages.proofs.lines.push_counts.Goals as goal
 
 pub loop-i-init : goal.loop-i-init
 loop-i-init g c = sym (append-nil (string_bytes c.args.lines.now))

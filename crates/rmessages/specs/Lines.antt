@@ -8,7 +8,7 @@ use Rattle.ranswer.specs.declared.told.Told.TheVariants as what
 use Rattle.rscript.specs.Codes.{code_number}
 use Rattle.rscript.specs.declared.code.Code.{Code as ScriptCode}
 use Rattle.rwatch.specs.Seen.{Seen}
-use Rattle.redge.specs.Meanings.{status_meaning, kind_word, script_meaning, list_meaning, refusal_meaning}
+use Rattle.rmessages.specs.Meanings.{status_meaning, kind_word, script_meaning, list_meaning, refusal_meaning}
 
 -- the line of a meaning, if there is one
 abbrev pub meaning_line : Option (List ℕ) → List ℕ

@@ -22,7 +22,7 @@ use Rattle.rforms.specs.Waits.{no_bounds}
 use Rattle.rdue.specs.Due.{change_list, due_list}
 use Rattle.rpage.specs.Told.{told, told_line}
 use Rattle.ranswer.specs.Due.{as_text, due_text}
-use Rattle.rlist_tools.specs.Due.{due_texts, ledger_text}
+use Rattle.rexpected.specs.Due.{due_texts, ledger_text}
 
 -- ---- changes and waits
 

@@ -14,7 +14,7 @@ ghost use Rattle.rreplay.specs.Names.{names_read};
 ghost use Rattle.rwaits.specs.Follows.{Follows};
 ghost use Rattle.rwaits.specs.Past.{Past, start_of};
 ghost use Rattle.ranswer.specs.Due.{as_text};
-ghost use Rattle.rlist_tools.specs.Due.{due_texts, wait_text, ledger_text};
+ghost use Rattle.rexpected.specs.Due.{due_texts, wait_text, ledger_text};
 
 use itoa::Buffer;
 use rclaim::{GrantChange, StatusChange};

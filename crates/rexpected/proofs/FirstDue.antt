@@ -23,8 +23,8 @@ use Rattle.rreading.specs.declared.reading.Reading.{Reading}
 use Rattle.rreading.proofs.Steps.{events_push}
 use Rattle.rreplay.specs.Names.{names_read}
 use Rattle.ranswer.specs.Due.{as_text, due_text, due_behind, first_due_text}
-use Rattle.rlist_tools.specs.Due.{due_texts, ledger_text}
-use Rattle.rlist_tools.proofs.DueTexts.{due_texts_are, first_left, ledger_texts}
+use Rattle.rexpected.specs.Due.{due_texts, ledger_text}
+use Rattle.rexpected.proofs.DueTexts.{due_texts_are, first_left, ledger_texts}
 
 -- before the first entry nothing has happened
 none_happened : (machine : Option Standing) (o : Option Following) (latest : Option Entry) (p : Past) → StandBehind machine o latest p → latest ≡ None → p.events ≡ []

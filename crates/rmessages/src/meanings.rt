@@ -1,6 +1,6 @@
 // What a person is told in words.
 ghost use Rattle.std.specs.Prelude.{◌≡◌, option_map};
-ghost use Rattle.redge.specs.Meanings.{status_meaning, kind_word, script_meaning, list_meaning, refusal_meaning};
+ghost use Rattle.rmessages.specs.Meanings.{status_meaning, kind_word, script_meaning, list_meaning, refusal_meaning};
 
 use ranswer::ToolStatus;
 use rclaim::RequestErr;

@@ -1,0 +1,3 @@
+mod Dues
+pub mod DueTexts
+pub mod FirstDue
