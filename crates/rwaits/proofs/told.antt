@@ -7,6 +7,4 @@ pub mod Noted
 pub mod Reading
 pub mod Rising
 pub mod Stood
-pub mod Tables
-pub mod Undue
 pub mod Waiting

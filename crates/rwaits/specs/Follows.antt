@@ -8,12 +8,18 @@ use Rattle.rmodel.specs.Steps.{AreAccepted, Comes, next}
 use Rattle.rplain.specs.Machine.{Standing}
 use Rattle.rcover.specs.History.{length_in, asks_since}
 use Rattle.rwaits.specs.declared.following.Following.{Following}
-use Rattle.rwaits.specs.Follow.{table_of}
-use Rattle.rstretch.specs.Kept.{length_by, HasRoom, AreLong, AreOf}
+use Rattle.rkept.specs.Follow.{table_of}
+use Rattle.rstretch.specs.Kept.{length_by, HasRoom, AreLong, AreOf, kept_in}
 use Rattle.rheads.specs.Heads.{HasPlaces, TellsNow, TellsWrites}
 use Rattle.rwaits.specs.Past.{Past, start_of, state_of, moments_of, AreLastEnded}
-use Rattle.rstretch.specs.Tracked.{AreTracked}
-use Rattle.rwaits.specs.Waiting.{HoldWaiting, TellRising, HoldAsking, HoldReading, TellWanted, ends_none}
+use Rattle.rstretch.specs.Tracked.{AreTracked, no_sections}
+use Rattle.rkept.specs.Waiting.{HoldWaiting, TellRising, HoldAsking, HoldReading, TellWanted}
+use Rattle.rwaits.specs.Waiting.{ends_none}
+use Rattle.rstretch.specs.declared.run.Run.{Run}
+
+-- a run keeps nothing
+abbrev pub IsEmpty : Run → Type 0
+IsEmpty r = kept_in r ≡ no_sections
 
 -- a follower has its room
 pub record HaveRoom (a : Following) : Type 0 where

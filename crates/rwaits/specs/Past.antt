@@ -1,5 +1,5 @@
 -- The events that covers were told.
-use Rattle.std.specs.Prelude.{◌≡◌, ℕ, ◌==◌, Bool, true, false, not, List, [], ◌∷◌, ◌++◌, if◌then◌else◌}
+use Rattle.std.specs.Prelude.{◌≡◌, ℕ, ◌==◌, Bool, true, false, List, [], ◌∷◌, ◌++◌, if◌then◌else◌}
 use Rattle.rexpand.specs.Groups.{ReadGroups}
 use Rattle.rclaim.specs.declared.claim.Claim.{Claim}
 use Rattle.rclaim.specs.declared.event.Event.{Event}
@@ -9,10 +9,7 @@ use Rattle.rmodel.specs.Steps.{after}
 use Rattle.rbound.specs.Needs.{length_of}
 use Rattle.rcover.specs.Ended.{ended_by}
 use Rattle.rcover.specs.Moments.{Moment, moments}
-use Rattle.rcover.specs.Told.{waits_first, waits_to_rise, stands}
-use Rattle.rmodel.specs.declared.claimed.Claimed.{Claimed}
 use Rattle.rcover.specs.declared.wait_end.WaitEnd.{WaitEnd}
-use Rattle.rstretch.specs.Begun.{rises_at}
 
 -- the groups, the number of seats, the cap, and the events one after another
 pub record Past : Type 0 where
@@ -55,8 +52,3 @@ is_issue (Issue seat r) = true
 is_issue (Finish seat) = false
 is_issue (Rise seat) = false
 is_issue (Ask seat part) = false
-
--- a wait of a claim after an event stood before it, but for that of the upgrade that rises
-pub record StoodBy (e : Event) (m n : Moment) (x : Claimed) : Type 0 where
-  pub first : waits_first n x ≡ true → stands waits_first x.claim m ≡ not (rises_at e x.claim.seat)
-  pub rise : waits_to_rise n x ≡ true → stands waits_to_rise x.claim m ≡ not (rises_at e x.claim.seat)

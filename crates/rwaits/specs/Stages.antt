@@ -14,7 +14,8 @@ use Rattle.rheads.specs.Shares.{TellWrites}
 use Rattle.rwaits.specs.declared.following.Following.{Following}
 use Rattle.rwaits.specs.Follows.{HaveRoom, IsAhead}
 use Rattle.rwaits.specs.Past.{Past, start_of, state_of, noted}
-use Rattle.rwaits.specs.Waiting.{HoldAsking, HoldReading, HoldWaiting, TellRising, ends_none}
+use Rattle.rkept.specs.Waiting.{HoldAsking, HoldReading, HoldWaiting, TellRising}
+use Rattle.rwaits.specs.Waiting.{ends_none}
 
 -- the waits that an event ended are told, by a follower that was a before it: all else is as it was, and the heads are those of the moment before
 pub record HasTold (a b : Following) (machine : Standing) (p : Past) (e : Event) : Type 0 where

@@ -1,7 +1,7 @@
--- Which seats wait.
-use Rattle.std.specs.Prelude.{◌≡◌, ◌==◌, ℕ, Bool, true, false, nat_lt, not, ◌&&◌, ◌||◌, List, [], if◌then◌else◌}
-use Rattle.std.specs.List.{list_any, AllByRecursion}
-use Rattle.std.specs.FinSet.{contains, empty, insert, is_subset, len, remove}
+-- What an event makes of what is noted of seats: which of them wait, ask and read behind it, and what they read.
+use Rattle.std.specs.Prelude.{◌==◌, ℕ, Bool, true, false, nat_lt, not, ◌&&◌, ◌||◌, List, [], if◌then◌else◌}
+use Rattle.std.specs.List.{list_any}
+use Rattle.std.specs.FinSet.{empty, insert, is_subset, len, remove}
 use Rattle.rset.specs.Sets.{Set}
 use Rattle.rclaim.specs.declared.event.Event.{Event}
 use Rattle.rclaim.specs.declared.event.Event.TheVariants.{Issue, Finish, Rise, Ask}
@@ -11,34 +11,18 @@ use Rattle.rmodel.specs.declared.claimed.Claimed.{Claimed}
 use Rattle.rmodel.specs.Claims.{is_satisfied}
 use Rattle.rcover.specs.declared.wait_end.WaitEnd.{WaitEnd}
 use Rattle.rcover.specs.Moments.{Moment}
-use Rattle.rcover.specs.Told.{waits_first, waits_to_rise, waits_for_ask}
-use Rattle.rstretch.specs.Kept.{may_wait}
+use Rattle.rcover.specs.Told.{waits_first}
 use Rattle.rheads.specs.Lines.{set_at}
 use Rattle.rwaits.specs.Past.{is_issue}
+use Rattle.rkept.specs.Waiting.{some_wait}
 
--- a claim is in a wait, or asks for something
-abbrev pub some_wait : Moment → Claimed → Bool
-some_wait n x = may_wait n x || nat_lt 0 (len x.asked)
-
--- some claim of a seat is so
+-- some claim of a seat is in a wait, or asks for something
 abbrev pub seat_waits : Moment → ℕ → Bool
 seat_waits n seat = list_any (λ x. (x.claim.seat == seat) && some_wait n x) n
-
--- the seats of all claims that wait are among these
-abbrev pub HoldWaiting : Set → Moment → Type 0
-HoldWaiting seats n = AllByRecursion (λ x. some_wait n x ≡ true → contains seats x.claim.seat ≡ true) n
 
 -- seats, with one of which it is told whether it waits
 abbrev pub with_seat : Set → Moment → ℕ → Set
 with_seat seats n seat = if seat_waits n seat then insert seats seat else remove seats seat
-
--- a claim of one of these seats is not satisfied
-abbrev pub is_rising : Set → Claimed → Bool
-is_rising seats x = contains seats x.claim.seat && not (is_satisfied x)
-
--- these seats tell which claims wait to rise: just their claims that are not satisfied
-abbrev pub TellRising : Set → Moment → Type 0
-TellRising seats n = AllByRecursion (λ x. waits_to_rise n x ≡ is_rising seats x) n
 
 -- seats, with that of an upgrade that rises, and without that of a request that comes or is over
 abbrev pub risen_by : Set → Event → Set
@@ -50,10 +34,6 @@ risen_by seats (Ask seat part) = seats
 -- a claim is in a wait or asks for something, where it is told whether the upgrade of its seat rose
 abbrev pub waits_by : Bool → Claimed → Bool
 waits_by rose x = (waits_first [] x || (rose && not (is_satisfied x))) || nat_lt 0 (len x.asked)
-
--- the seats of all requests of which an ask is pending are among these
-abbrev pub HoldAsking : Set → Moment → Type 0
-HoldAsking seats n = AllByRecursion (λ x. waits_for_ask n x ≡ true → contains seats x.claim.seat ≡ true) n
 
 -- seats, with that of a request that asks, and without that of one that comes or is over
 abbrev pub asked_by : Set → Event → Set
@@ -70,20 +50,12 @@ has_read Mixed = false
 has_read Upgrade = true
 has_read Nested = false
 
--- the seats of all claims that read are among these
-abbrev pub HoldReading : Set → Moment → Type 0
-HoldReading seats n = AllByRecursion (λ x. x.claim.write_half ≡ false → contains seats x.claim.seat ≡ true) n
-
 -- seats, with that of a request that comes and reads, and without that of any other that comes, of an upgrade that rises, and of a request that is over
 abbrev pub reading_by : Set → Event → Set
 reading_by seats (Issue seat r) = if has_read r.kind then insert seats seat else remove seats seat
 reading_by seats (Finish seat) = remove seats seat
 reading_by seats (Rise seat) = remove seats seat
 reading_by seats (Ask seat part) = seats
-
--- what is noted of the seat of each claim that reads is what this reads
-abbrev pub TellWanted : List Set → Moment → Type 0
-TellWanted wanted n = AllByRecursion (λ x. x.claim.write_half ≡ false → set_at wanted x.claim.seat ≡ x.claim.reads) n
 
 -- what is noted of a seat: of that of a request that comes, what it reads
 abbrev pub wanted_by : List Set → Event → ℕ → Set

@@ -5,11 +5,9 @@
 #![tactic(auto)]
 
 mod covers;
-mod follow;
 mod following;
 mod noted;
 mod reading;
-mod tell;
 mod waiting;
 
 pub use covers::Covers;

@@ -5,22 +5,17 @@ ghost use Rattle.std.specs.List.{list_any};
 ghost use Rattle.rset.specs.declared.TheConstants.{SEATS};
 ghost use Rattle.rmodel.specs.Claims.{is_satisfied};
 ghost use Rattle.rcover.specs.Told.{waits_first};
-ghost use Rattle.rwaits.specs.Waiting.{waits_by, seat_waits, with_seat, TellRising, risen_by, asked_by, reading_by, has_end, first_of, ends_none};
+ghost use Rattle.rwaits.specs.Waiting.{waits_by, seat_waits, with_seat, risen_by, asked_by, reading_by, has_end, first_of, ends_none};
+ghost use Rattle.rkept.specs.Waiting.{TellRising};
 ghost use Rattle.rclaim.specs.Events.{seat_of};
 
 use crate::noted::is_issue;
 use crate::reading::note_reading;
 use rclaim::Event;
 use rcover::{WaitEnd, waits_first};
+use rkept::still_rises;
 use rmodel::Claimed;
 use rset::{ResourceSet, SEATS};
-
-/// Whether a claim waits to rise, where it is told whether the upgrade of its seat rose.
-pub(crate) fn still_rises(rose: bool, x: &Claimed) -> bool
-    ensures { result ≡ (rose && not (is_satisfied x.now)) }
-{
-    rose && !x.is_satisfied()
-}
 
 /// Whether a claim waits, before it holds anything or to rise.
 fn may_wait(rose: bool, x: &Claimed) -> bool

@@ -40,7 +40,7 @@ use Rattle.rcover.specs.Told.{is_rising_half, waits_first, has_read_claim, waits
 use Rattle.rcover.proofs.lists.Different.{among_filter_map}
 use Rattle.rcover.proofs.runs.Moments.{is_itself}
 use Rattle.rwaits.specs.Past.{is_issue}
-use Rattle.rwaits.specs.Quiet.{has_grant, is_quiet}
+use Rattle.rkept.specs.Quiet.{has_grant, is_quiet}
 use Rattle.rheads.specs.Lines.{tells_write_of}
 use Rattle.rwaits.proofs.told.Stood.{before, rising_parts}
 use Rattle.rheads.proofs.told.Taken.{one_write}

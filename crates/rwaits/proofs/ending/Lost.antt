@@ -31,18 +31,20 @@ use Rattle.rcover.proofs.runs.Moments.{are_one}
 use Rattle.rcover.proofs.states.LeastOfLine.{IsWriteThere, write_by_stamp, of_line_there, least_there, line_shrinks}
 use Rattle.rcover.proofs.states.Lines.{IsOfLine, earlier_of, least_is, least_below}
 use Rattle.rheads.specs.declared.lines.Head.{Head}
-use Rattle.rheads.specs.Lines.{head_of, takes_seat, set_at, IsBehind, HoldBehind, IsLost, IsTouched, with_told, TellAt, TellHeads, IsNoted, GoesBy}
-use Rattle.rwaits.specs.Due.{HoldWritten, ReadStays}
+use Rattle.rheads.specs.Lines.{head_of, takes_seat, set_at, IsBehind, HoldBehind, IsLost, IsTouched, with_told, TellAt, TellHeads, IsNoted, GoesBy, tells_write_of}
+use Rattle.rkept.specs.Due.{ReadStays}
 use Rattle.rheads.specs.declared.shares.Share.{Share}
 use Rattle.rheads.specs.Shares.{share_of, TellShares}
 use Rattle.rwaits.specs.Past.{is_issue}
-use Rattle.rheads.specs.Lines.{tells_write_of}
 use Rattle.rstretch.proofs.Kept.{keeper_there}
 use Rattle.rwaits.proofs.ending.Grants.{is_told, told_is}
 use Rattle.rheads.proofs.told.Heads.{holds_own}
-use Rattle.rheads.proofs.told.Leasts.{least_under, least_from, one_of_stamp}
-use Rattle.rheads.proofs.told.Leasts.{least_all}
+use Rattle.rheads.proofs.told.Leasts.{least_under, least_from, one_of_stamp, least_all}
 use Rattle.rwaits.proofs.told.Stood.{before}
+
+-- resources that hold all that those writes write that are told to be satisfied
+abbrev pub HoldWritten : Set → List StatusChange → Moment → Type 0
+HoldWritten written statuses m = AllByRecursion (λ x. x.claim.write_half ≡ true → tells_write_of statuses x.claim.seat ≡ true → is_subset x.claim.writes written ≡ true) m
 
 and_none : (b : Bool) → (b && false) ≡ false
 and_none true = refl

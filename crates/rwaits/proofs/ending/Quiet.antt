@@ -39,7 +39,7 @@ use Rattle.rcover.proofs.runs.Moments.{are_one, is_itself}
 use Rattle.rcover.proofs.states.Lines.{earlier_of}
 use Rattle.rcover.proofs.told.Few.{waits_told}
 use Rattle.rstretch.specs.Kept.{may_wait, kept_of}
-use Rattle.rwaits.specs.Follow.{with_entry}
+use Rattle.rkept.specs.Follow.{with_entry}
 use Rattle.rwaits.specs.Past.{is_issue}
 use Rattle.rstretch.specs.Last.{first_at}
 use Rattle.rcover.specs.Lists.{reads_against, with_option}

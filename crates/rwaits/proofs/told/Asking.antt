@@ -27,7 +27,8 @@ use Rattle.rmodel.proofs.settling.Keeping.{not_false}
 use Rattle.rmodel.proofs.settling.OneSettlement.{both_cases}
 use Rattle.rcover.specs.Moments.{Moment}
 use Rattle.rcover.specs.Told.{waits_for_ask}
-use Rattle.rwaits.specs.Waiting.{HoldAsking, asked_by}
+use Rattle.rkept.specs.Waiting.{HoldAsking}
+use Rattle.rwaits.specs.Waiting.{asked_by}
 use Rattle.rwaits.proofs.told.Rising.{inserted_other, inserted_own, removed_other}
 use Rattle.rwaits.proofs.told.Waiting.{asked_from}
 

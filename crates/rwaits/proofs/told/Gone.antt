@@ -38,7 +38,8 @@ use Rattle.rcover.proofs.runs.Moments.{is_itself}
 use Rattle.rcover.proofs.told.Few.{waits_told}
 use Rattle.rwaits.specs.Past.{is_issue}
 use Rattle.rstretch.specs.Tracked.{shown, told, told_if}
-use Rattle.rwaits.specs.Waiting.{some_wait, HoldWaiting, with_seat, has_end}
+use Rattle.rkept.specs.Waiting.{some_wait, HoldWaiting}
+use Rattle.rwaits.specs.Waiting.{with_seat, has_end}
 use Rattle.rwaits.proofs.told.Asking.{asks_nested, pending_from}
 use Rattle.rheads.proofs.told.Taken.{one_write}
 use Rattle.rwaits.proofs.told.Stood.{before, rise_was, rising_parts}

@@ -34,14 +34,16 @@ use Rattle.rwaits.specs.declared.following.Following.{Following}
 use Rattle.rstretch.specs.declared.run.Run.{Run}
 use Rattle.rstretch.specs.declared.section.Section.{Section}
 use Rattle.rstretch.specs.Kept.{claims_of, kept_in, length_by, HasRoom, AreLong, AreOf, may_wait, WaitApart, kept_of}
-use Rattle.rwaits.specs.Follow.{table_of, IsEmpty}
+use Rattle.rkept.specs.Follow.{table_of}
+use Rattle.rwaits.specs.Follows.{IsEmpty, HaveRoom, Follows}
 use Rattle.rheads.specs.declared.lines.Head.{Head}
-use Rattle.rheads.specs.Lines.{TellAt, TellHeads, GoesBy, IsLost, IsTouched, HoldBehind}
-use Rattle.rwaits.specs.Due.{HoldWritten, ReadStays}
-use Rattle.rwaits.specs.Follows.{HaveRoom, Follows}
-use Rattle.rwaits.specs.Past.{Past, begun, with_event, start_of, state_of, noted, is_issue, StoodBy}
+use Rattle.rheads.specs.Lines.{TellAt, TellHeads, GoesBy, IsLost, IsTouched, HoldBehind, tells_write_of}
+use Rattle.rwaits.proofs.ending.Lost.{HoldWritten, behind_before, goes_by, read_stays, shares_before, told_before}
+use Rattle.rkept.specs.Due.{ReadStays, StoodBy}
+use Rattle.rwaits.specs.Past.{Past, begun, with_event, start_of, state_of, noted, is_issue}
 use Rattle.rstretch.specs.Tracked.{shown, told}
-use Rattle.rwaits.specs.Waiting.{HoldAsking, HoldReading, TellWanted, HoldWaiting, TellRising, has_end, with_seat}
+use Rattle.rkept.specs.Waiting.{HoldAsking, HoldReading, TellWanted, HoldWaiting, TellRising}
+use Rattle.rwaits.specs.Waiting.{has_end, with_seat}
 use Rattle.rcover.specs.declared.wait_end.WaitEnd.{WaitEnd}
 use Rattle.rheads.specs.Heads.{IsMoment, TellsNow, TellsWrites}
 use Rattle.rheads.specs.declared.shares.Share.{Share}
@@ -50,12 +52,10 @@ use Rattle.rstretch.proofs.Kept.{length_claims}
 use Rattle.rwaits.proofs.told.Noted.{lengths_next, lengths_stay, asks_more}
 use Rattle.rstretch.proofs.over.Rooms.{waits_apart, kept_each, all_next_few}
 use Rattle.rmodel.specs.Changes.{changes_between}
-use Rattle.rwaits.specs.Quiet.{GoesOn}
-use Rattle.rheads.specs.Lines.{tells_write_of}
+use Rattle.rkept.specs.Quiet.{GoesOn}
 use Rattle.rclaim.specs.declared.changes.StatusChange.{StatusChange}
 use Rattle.rset.specs.Sets.{Set}
 use Rattle.std.specs.FinSet.{contains}
-use Rattle.rwaits.proofs.ending.Lost.{behind_before, goes_by, read_stays, shares_before, told_before}
 use Rattle.rwaits.proofs.ending.Writers.{writers_next}
 use Rattle.rwaits.proofs.told.Gone.{waiting_over}
 use Rattle.rwaits.proofs.ending.Grants.{goes_on}

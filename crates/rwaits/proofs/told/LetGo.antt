@@ -22,10 +22,10 @@ use Rattle.rcover.specs.Moments.{Moment}
 use Rattle.rcover.specs.Sections.{Sections}
 use Rattle.rcover.specs.Told.{waits_to_rise, waits_for_ask}
 use Rattle.rstretch.specs.Kept.{may_wait, kept_of}
-use Rattle.rwaits.specs.Follow.{with_entry}
+use Rattle.rkept.specs.Follow.{with_entry}
 use Rattle.rwaits.specs.Past.{noted}
 use Rattle.rstretch.specs.Tracked.{no_sections}
-use Rattle.rwaits.specs.Waiting.{some_wait, HoldWaiting, is_rising, TellRising, HoldAsking, HoldReading}
+use Rattle.rkept.specs.Waiting.{some_wait, HoldWaiting, is_rising, TellRising, HoldAsking, HoldReading}
 use Rattle.rheads.specs.Lines.{is_finish}
 use Rattle.rwaits.proofs.told.Asking.{asking_next}
 use Rattle.rwaits.proofs.told.Reading.{reading_next}

@@ -20,10 +20,10 @@ use Rattle.rmodel.proofs.reaching.Came.{among_map, came}
 use Rattle.rmodel.proofs.reaching.NewClaims.{IsNew, new_claims}
 use Rattle.rmodel.proofs.reaching.Soundness.{seat_is_idle}
 use Rattle.rmodel.proofs.settling.Keeping.{not_false}
-use Rattle.rheads.specs.Lines.{set_at}
+use Rattle.rheads.specs.Lines.{set_at, is_finish}
 use Rattle.rwaits.specs.Past.{is_issue}
-use Rattle.rwaits.specs.Waiting.{HoldReading, TellWanted, has_read, reading_by, wanted_by}
-use Rattle.rheads.specs.Lines.{is_finish}
+use Rattle.rkept.specs.Waiting.{HoldReading, TellWanted}
+use Rattle.rwaits.specs.Waiting.{has_read, reading_by, wanted_by}
 use Rattle.rwaits.proofs.told.Rising.{inserted_other, inserted_own, removed_other}
 
 -- a request that has a claim that reads is of such a kind

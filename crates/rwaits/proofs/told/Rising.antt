@@ -27,7 +27,8 @@ use Rattle.rcover.specs.Moments.{Moment}
 use Rattle.rcover.specs.Told.{is_rising_half, waits_first, has_read_claim, waits_to_rise}
 use Rattle.rwaits.specs.Past.{is_issue}
 use Rattle.rstretch.specs.Begun.{rises_at}
-use Rattle.rwaits.specs.Waiting.{some_wait, seat_waits, is_rising, TellRising, risen_by, waits_by}
+use Rattle.rkept.specs.Waiting.{some_wait, is_rising, TellRising}
+use Rattle.rwaits.specs.Waiting.{seat_waits, risen_by, waits_by}
 use Rattle.rwaits.proofs.ending.Quiet.{old_rises}
 use Rattle.rwaits.proofs.told.Stood.{before, left_half, left_is_write, rise_was, rising_parts}
 use Rattle.rwaits.proofs.told.Waiting.{none_left}

@@ -29,21 +29,22 @@ use Rattle.rmodel.proofs.settling.Keeping.{not_false}
 use Rattle.rmodel.proofs.settling.OneSettlement.{both_cases}
 use Rattle.rmodel.proofs.settling.Settlement.{settles_settled}
 use Rattle.rbound.specs.declared.which.Which.{Which}
-use Rattle.rbound.specs.declared.which.Which.TheVariants.{First, Rise, Ask}
-use Rattle.rcover.specs.Ended.{wait_of, waits_in}
+use Rattle.rcover.specs.Ended.{wait_of}
 use Rattle.rcover.specs.History.{length_in}
 use Rattle.rcover.specs.Moments.{Moment, is_claim}
 use Rattle.rcover.specs.Sections.{Sections}
 use Rattle.rcover.specs.Told.{waits_first, waits_to_rise, stands}
 use Rattle.rcover.proofs.told.Few.{waits_told}
 use Rattle.rstretch.specs.Kept.{may_wait, kept_of}
-use Rattle.rwaits.specs.Follow.{with_entry}
+use Rattle.rkept.specs.Follow.{with_entry}
 use Rattle.rwaits.specs.Past.{is_issue}
 use Rattle.rstretch.specs.Begun.{rises_at}
 use Rattle.rstretch.specs.Tracked.{gone_on, no_sections, told, told_if}
-use Rattle.rwaits.specs.Waiting.{some_wait, HoldWaiting, with_seat, first_of, ends_none}
+use Rattle.rkept.specs.Waiting.{some_wait, HoldWaiting}
+use Rattle.rwaits.specs.Waiting.{with_seat, first_of, ends_none}
 use Rattle.rwaits.proofs.ending.Quiet.{begun_kept, begun_told, old_waits, there_before}
 use Rattle.rwaits.proofs.told.Stood.{before, first_was, rise_was}
+use Rattle.rkept.proofs.Waits.{first_is, rise_is, waits_is}
 
 or_left : (a b : Bool) → a ≡ true → (a || b) ≡ true
 or_left true b h = refl
@@ -52,20 +53,6 @@ or_left false b h = contrary false h refl
 or_right : (a b : Bool) → b ≡ true → (a || b) ≡ true
 or_right true b h = refl
 or_right false b h = h
-
--- ---- which seats wait
-
-first_is : (m : Moment) (x : Claimed) → waits_first m x ≡ true → some_wait m x ≡ true
-first_is m x on = or_left (may_wait m x) (nat_lt 0 (len x.asked)) (or_left (waits_first m x) (waits_to_rise m x) on)
-
-rise_is : (m : Moment) (x : Claimed) → waits_to_rise m x ≡ true → some_wait m x ≡ true
-rise_is m x on = or_left (may_wait m x) (nat_lt 0 (len x.asked)) (or_right (waits_first m x) (waits_to_rise m x) on)
-
--- a claim in any wait waits
-pub waits_is : (m : Moment) (w : Which) (x : Claimed) → waits_in w m x ≡ true → some_wait m x ≡ true
-waits_is m First x on = first_is m x on
-waits_is m Rise x on = rise_is m x on
-waits_is m (Ask k) x on = or_right (may_wait m x) (nat_lt 0 (len x.asked)) (and_parts _ (nat_lt 0 (len x.asked)) on).1
 
 -- a claim whose seat is not held does not wait
 module _ (n : Moment) (x : Claimed) (seats : Set) where

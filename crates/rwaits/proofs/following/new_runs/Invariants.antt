@@ -1,7 +1,7 @@
 use Rattle.std.proofs.Common.{◌≡◌, length}
 use Rattle.std.specs.List.{AllByRecursion}
 use Rattle.rstretch.specs.Kept.{HasRoom}
-use Rattle.rwaits.specs.Follow.{IsEmpty}
+use Rattle.rwaits.specs.Follows.{IsEmpty}
 use Rattle.rwaits.proofs.following.new_runs.Given as goal
 
 abbrev pub invariant-loop : goal.invariant-loop

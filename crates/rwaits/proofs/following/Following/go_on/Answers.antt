@@ -9,11 +9,12 @@ use Rattle.rcover.specs.History.{length_in}
 use Rattle.rcover.specs.Moments.{Moment}
 use Rattle.rwaits.specs.declared.following.Following.{Following}
 use Rattle.rstretch.specs.declared.run.Run.{Run}
-use Rattle.rwaits.specs.Follow.{table_of, with_entry}
+use Rattle.rkept.specs.Follow.{table_of, with_entry}
 use Rattle.rstretch.specs.Kept.{HasRoom, AreLong}
 use Rattle.rwaits.specs.Past.{state_of}
 use Rattle.rheads.specs.Heads.{IsMoment, TellsNow, TellsWrites}
-use Rattle.rwaits.specs.Waiting.{HoldAsking, HoldWaiting, TellRising, with_seat, first_of, HoldReading}
+use Rattle.rkept.specs.Waiting.{HoldAsking, HoldWaiting, TellRising, HoldReading}
+use Rattle.rwaits.specs.Waiting.{with_seat, first_of}
 use Rattle.rwaits.proofs.ending.Quiet.{there_before}
 use Rattle.rset.specs.Sets.{Set}
 use Rattle.rstretch.specs.Tracked.{no_sections}

@@ -26,10 +26,11 @@ use Rattle.rheads.specs.Lines.{ArePlaced, GoesBy, HoldBehind, IsTouched, TellAt,
 use Rattle.rheads.specs.Shares.{AreLeft, TellWrites}
 use Rattle.rheads.proofs.told.Turns.{touched_all}
 use Rattle.rwaits.specs.declared.following.Following.{Following}
-use Rattle.rwaits.specs.Follow.{table_of}
-use Rattle.rwaits.specs.Past.{Past, state_of, StoodBy}
+use Rattle.rkept.specs.Follow.{table_of}
+use Rattle.rwaits.specs.Past.{Past, state_of}
+use Rattle.rkept.specs.Due.{StoodBy}
 use Rattle.rwaits.specs.Stages.{HasNoted}
-use Rattle.rwaits.specs.Waiting.{HoldReading, HoldWaiting, TellRising, TellWanted}
+use Rattle.rkept.specs.Waiting.{HoldReading, HoldWaiting, TellRising, TellWanted}
 use Rattle.rwaits.proofs.told.Knowing.{all_written, reached, event_seat, seats_next, apart_next, few_next, lengths_stay_on, lengths_come, refilled, is_moment_now, is_moment_next, known, rising_now, seats_next_at, rising_next, behind_turn, heads_turn, reads_next, stood_next, writes_turn}
 use Rattle.rwaits.proofs.told.Reading.{wanted_next, wanted_still}
 use Rattle.rwaits.proofs.told.Waiting.{plain_of}

@@ -1,7 +1,7 @@
 use Rattle.std.proofs.Common.{◌∷◌, refl, sym, ◌∙◌}
 use Rattle.rmodel.specs.Steps.{next}
 use Rattle.rwaits.specs.declared.following.Following.{Following}
-use Rattle.rwaits.specs.Follow.{table_of, with_entry}
+use Rattle.rkept.specs.Follow.{table_of, with_entry}
 use Rattle.rstretch.specs.Kept.{length_by}
 use Rattle.rwaits.specs.Past.{state_of}
 use Rattle.rstretch.specs.Tracked.{no_sections}

@@ -14,10 +14,11 @@ use Rattle.rstretch.specs.Kept.{length_by}
 use Rattle.rstretch.proofs.over.Tracking.{told_are_ended}
 use Rattle.rplain.specs.Machine.{Standing}
 use Rattle.rwaits.specs.declared.following.Following.{Following}
-use Rattle.rwaits.specs.Follow.{table_of}
+use Rattle.rkept.specs.Follow.{table_of}
 use Rattle.rwaits.specs.Past.{Past, state_of, noted}
 use Rattle.rwaits.specs.Stages.{HasTold}
-use Rattle.rwaits.specs.Waiting.{HoldAsking, HoldReading, TellRising, asked_by, first_of, has_end, reading_by, risen_by}
+use Rattle.rkept.specs.Waiting.{HoldAsking, HoldReading, TellRising}
+use Rattle.rwaits.specs.Waiting.{asked_by, first_of, has_end, reading_by, risen_by}
 use Rattle.rwaits.proofs.told.Knowing.{reached, event_seat, waits_next}
 use Rattle.rwaits.proofs.told.Asking.{asking_next}
 use Rattle.rwaits.proofs.told.Noted.{asks_at_most}

@@ -18,11 +18,11 @@ use Rattle.rheads.specs.declared.lines.Head.{Head}
 use Rattle.rheads.specs.Heads.{IsMoment, TellsNow, TellsWrites}
 use Rattle.rheads.specs.Lines.{IsTold, TellHeads}
 use Rattle.rheads.specs.Shares.{TellWrites}
-use Rattle.rwaits.specs.Follow.{table_of}
+use Rattle.rkept.specs.Follow.{table_of}
 use Rattle.rwaits.specs.Past.{state_of}
-use Rattle.rwaits.specs.Quiet.{GoesOn, OneWaits}
-use Rattle.rwaits.specs.Waiting.{HoldAsking, HoldWaiting, TellRising}
-use Rattle.rwaits.proofs.ending.Looked.{one_waits}
+use Rattle.rkept.specs.Quiet.{GoesOn, OneWaits}
+use Rattle.rkept.specs.Waiting.{HoldAsking, HoldWaiting, TellRising}
+use Rattle.rwaits.proofs.ending.Later.{one_waits}
 use Rattle.rwaits.proofs.told.Knowing.{reached, claims_few, seats_now, shown_few, is_moment_now, rising_next, quiet_now, ends_next}
 use Rattle.rwaits.proofs.told.Waiting.{plain_of}
 use Rattle.rwaits.proofs.following.Following.tell_ended.Goals as goal

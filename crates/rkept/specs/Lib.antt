@@ -1,0 +1,4 @@
+pub mod Due
+pub mod Follow
+pub mod Quiet
+pub mod Waiting
