@@ -1,3 +1,3 @@
-pub mod Ending
+pub mod Left
 pub mod Reported
 pub mod Telling

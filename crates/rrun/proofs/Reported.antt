@@ -5,7 +5,7 @@ use Rattle.std.proofs.lemmas.List.{length-replicate}
 use Rattle.std.proofs.lemmas.List.FromFn.{fill_by_all}
 use Rattle.std.proofs.lemmas.Option.{get_or_from_slice_get}
 use Rattle.std.specs.List.{range_with_len}
-use Rattle.std.specs.Prelude.{slice_get, slice_index_or, All, Any}
+use Rattle.std.specs.Prelude.{slice_get, All, Any}
 use Rattle.rclaim.specs.Events.{seat_of}
 use Rattle.rlock.specs.Known.{Site, newcomer, entries_by}
 use Rattle.rmodel.specs.State.{LockState, opening}
@@ -27,9 +27,9 @@ use Rattle.rguard.specs.Closing.{IsClosedBy, IsLeft}
 use Rattle.rguard.specs.Seats.{SeatOf, IsOf, IsIdle}
 use Rattle.rsection.specs.Runs.{IsRunOf}
 use Rattle.rsection.specs.Seats.{IsSeatFor}
-use Rattle.rrun.specs.Reporting.{beginning_of, HasOpened, TellsHeadOf, IsReportOf}
-use Rattle.rrun.specs.Tasks.{AreSeatsFor, HaveRun}
-use Rattle.rrun.proofs.Ending.{less_from_slice_get}
+use Rattle.rrun.specs.Reporting.{beginning_of, HasOpened, TellsHeadOf, IsReportOf, HaveRun}
+use Rattle.rtasks.specs.Tasks.{AreSeatsFor}
+use Rattle.rtasks.proofs.Ending.{less_from_slice_get}
 
 -- ---- the beginning
 

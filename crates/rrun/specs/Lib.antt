@@ -1,4 +1,1 @@
-pub mod Tasks
-pub mod Jobs
-pub mod Endings
 pub mod Reporting

@@ -12,8 +12,8 @@ use Rattle.rreport.specs.Report.{ReportFields, told_by, IsOverResources, HasItsL
 use Rattle.rscript.specs.Scripts.{ScriptFields}
 use Rattle.rscript.specs.declared.statement.Statement.{Statement}
 use Rattle.rguard.specs.Seats.{SeatOf}
-use Rattle.rsection.specs.Runs.{IsRunOf}
-use Rattle.rrun.specs.Tasks.{AreSeatsFor}
+use Rattle.rsection.specs.Runs.{HasRun, IsRunOf}
+use Rattle.rtasks.specs.Tasks.{AreSeatsFor}
 
 -- how the runtime of a script begins: with what the script declares, a seat for each task, each of which may have a request, and ledgers as they open
 abbrev pub beginning_of : ScriptFields → Beginning Ledger
@@ -30,6 +30,12 @@ pub record HasOpened (p : ScriptFields) (site : Site) (seats : List (SeatOf Ledg
   pub passes : site.passes ≡ length p.tasks
   pub begins : (k : ℕ) (seat : SeatOf Ledger Edit) → slice_get seats k ≡ Some seat → seat.opening ≡ Some (beginning_of p)
   pub nothing_made : (k : ℕ) (seat : SeatOf Ledger Edit) → slice_get seats k ≡ Some seat → seat.mine ≡ []
+
+-- each of the seats has run its task
+abbrev pub HaveRun : ScriptFields → List (SeatOf Ledger Edit) → List (SeatOf Ledger Edit) → Type 0
+HaveRun p seats later =
+    (k : ℕ) (statements : List Statement) (seat last : SeatOf Ledger Edit) → slice_get p.steps k ≡ Some statements → slice_get seats k ≡ Some seat → slice_get later k ≡ Some last
+    → HasRun statements seat last
 
 -- the report tells what the script declares, with a cap of one request for each task
 pub record TellsHeadOf (p : ScriptFields) (r : ReportFields) : Type 0 where

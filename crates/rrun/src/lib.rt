@@ -1,10 +1,9 @@
-//! The tasks of a script, carried out on threads at one runtime.
+//! The run of a script: the tasks at a runtime of its own, and the report of what happened.
 #![tactic(auto)]
 
-mod jobs;
 mod run;
-mod tasks;
 
-pub use rsection::{NoPace, Pace, run_section};
+pub use rkinds::{NoPace, Pace};
+pub use rsection::run_section;
+pub use rtasks::{Ended, run_tasks};
 pub use run::run_script;
-pub use tasks::{Ended, run_tasks};

@@ -14,13 +14,12 @@ use Rattle.rscript.specs.declared.section.Section.{Section}
 use Rattle.rscript.specs.declared.statement.Statement.{Statement}
 use Rattle.rguard.specs.Seats.{SeatOf, IsIdle, busy_after, is_busy}
 use Rattle.rguard.specs.declared.guard.Guard.{Guard}
-use Rattle.rguard.proofs.Going.{goes_on}
+use Rattle.rguard.proofs.Going.{goes_nowhere, goes_on}
 use Rattle.rsection.specs.declared.desk.Desk.{Desk}
 use Rattle.rsection.specs.declared.desk.Desk.TheVariants.{Idle, Busy}
 use Rattle.rsection.specs.Desks.{seat_in, section_in, IsAt, IsBehind, HasStepped, HasLeft}
 use Rattle.rsection.specs.Runs.{Told, told_by, deeds_next, entry_now, run_of, broken_off, HasBrokenOff}
 use Rattle.rsection.specs.Working.{section_told, section_made, FitsIn, AreWhole, AreWholeAt}
-use Rattle.rsection.proofs.Stepping.{goes_nowhere}
 
 -- ---- an idle seat is in no section
 

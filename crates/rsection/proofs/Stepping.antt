@@ -1,5 +1,5 @@
 -- Each statement makes of a desk what it is to make.
-use Rattle.std.proofs.Common.{◌≡◌, ℕ, Bool, true, false, not, ◌&&◌, List, [], ◌∷◌, ◌++◌, map, Option, Some, None, refl, sym, ap, subst, ◌∙◌, append-nil}
+use Rattle.std.proofs.Common.{◌≡◌, ℕ, Bool, true, false, not, ◌&&◌, List, [], ◌∷◌, ◌++◌, map, Option, Some, None, refl, sym, ap, subst, ◌∙◌}
 use Rattle.std.proofs.lemmas.List.{map-append}
 use Rattle.std.proofs.lemmas.List.Sums.{fold-append}
 use Rattle.std.proofs.lemmas.Bool.{true≢false}
@@ -31,16 +31,12 @@ use Rattle.rlent.specs.Sections.{may_edit}
 use Rattle.rguard.specs.declared.guard.Guard.{Guard}
 use Rattle.rguard.specs.declared.guard.Guard.TheVariants as guard
 use Rattle.rlent.specs.declared.kind.GuardKind.TheVariants as guards
-use Rattle.rguard.proofs.Going.{goes_on}
+use Rattle.rguard.proofs.Going.{goes_nowhere, goes_on}
 use Rattle.rsection.specs.declared.desk.Desk.TheVariants.{Idle, Busy}
 use Rattle.rsection.specs.Desks.{IsGuardOf, HasStepped}
 use Rattle.rsection.specs.Runs.{deed_of, deeds_next, entry_now}
 use Rattle.rsection.specs.Working.{section_told, section_made, guard_kind, IsIn, FitsAt}
 use Rattle.rsection.proofs.Doing.{may_do, upgrade_held}
-
--- a seat goes on to itself
-pub goes_nowhere : (seat : SeatOf Ledger Edit) → Goes seat [] seat
-goes_nowhere seat = record { same = (refl, refl, refl); seen = ([], append-nil seat.seen); mine = sym (append-nil seat.mine) }
 
 -- the section after one entry more
 made_push : (mine : List (EntryFields Edit)) (entry : EntryFields Edit) → section_made (mine ++ entry ∷ []) ≡ section_told (section_made mine) entry.event

@@ -7,10 +7,9 @@ ghost use Rattle.rsection.specs.Working.{section_made, FitsAt};
 ghost use Rattle.rsection.specs.Desks.{IsGuardOf, HasStepped, HasLeft};
 
 use crate::desk::{At, Desk};
-use crate::waiting::held;
-use crate::{Pace, guards};
 use rclaim::Request;
 use rguard::{Guard, Rnlp, Seat};
+use rkinds::{Pace, wait_for_guard};
 use rmodel::Machine;
 use rscript::Statement;
 use rset::ResourceSet;
@@ -41,7 +40,7 @@ pub(crate) fn begin<'a, R: Wait, M: Machine, G: Pace>(
 {
     match rnlp.begin(rt, alloc, seat, request) {
         Ok(pending) => {
-            let guard = held(rt, pending, pace);
+            let guard = wait_for_guard(rt, pending, pace);
             pace.section(at.task, at.section);
             Ok(Desk::Busy(guard))
         }
@@ -67,9 +66,9 @@ pub(crate) fn edit<'a, R: Wait, M: Machine>(
     ensures err { IfErr result (λ e. HasLeft (fields_of guard.entry).seat e.0) }
 {
     let mut guard = guard;
-    match guards::edit(alloc, &mut guard, place, edit) {
+    match rkinds::edit(alloc, &mut guard, place, edit) {
         Ok(_) => Ok(Desk::Busy(guard)),
-        Err(e) => Err((guards::discard(rt, guard), e)),
+        Err(e) => Err((rkinds::discard(rt, guard), e)),
     }
 }
 
@@ -90,9 +89,9 @@ pub(crate) fn show<'a, R: Wait, M: Machine>(
     ensures err { IfErr result (λ e. HasLeft (fields_of guard.entry).seat e.0) }
 {
     let mut guard = guard;
-    match guards::show(alloc, &mut guard, place) {
+    match rkinds::show(alloc, &mut guard, place) {
         Ok(_) => Ok(Desk::Busy(guard)),
-        Err(e) => Err((guards::discard(rt, guard), e)),
+        Err(e) => Err((rkinds::discard(rt, guard), e)),
     }
 }
 
@@ -115,7 +114,7 @@ pub(crate) fn ask<'a, R: Wait, M: Machine, G: Pace>(
 {
     match guard {
         Guard::Nest(guard) => match guard.begin_ask(rt, alloc, set) {
-            Ok(pending) => Ok(Desk::Busy(held(rt, pending, pace))),
+            Ok(pending) => Ok(Desk::Busy(wait_for_guard(rt, pending, pace))),
             Err((guard, e)) => Err((guard.discard(rt), e)),
         },
         _ => unreachable!(),
@@ -133,7 +132,7 @@ pub(crate) fn rise<'a, R: Wait, M: Machine, G: Pace>(
     ensures { HasStepped (Desk.Busy guard.entry) Statement.Rise result }
 {
     match guard {
-        Guard::Rise(guard) => Desk::Busy(held(rt, guard.begin_rise(rt), pace)),
+        Guard::Rise(guard) => Desk::Busy(wait_for_guard(rt, guard.begin_rise(rt), pace)),
         _ => unreachable!(),
     }
 }
@@ -152,7 +151,7 @@ pub(crate) fn finish<'a, R: Wait, M: Machine>(
     ensures ok { IfOk result (HasStepped (Desk.Busy guard.entry) Statement.Finish) }
     ensures err { IfErr result (λ e. HasLeft (fields_of guard.entry).seat e.0) }
 {
-    match guards::finish(rt, alloc, guard) {
+    match rkinds::finish(rt, alloc, guard) {
         Ok(seat) => Ok(Desk::Idle(seat)),
         Err(e) => Err(e),
     }

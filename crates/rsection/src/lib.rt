@@ -3,13 +3,9 @@
 
 mod acts;
 mod desk;
-mod guards;
-mod pace;
 mod section;
 mod steps;
 mod task;
-mod waiting;
 
-pub use pace::{NoPace, Pace};
 pub use section::run_section;
 pub use task::run_task;

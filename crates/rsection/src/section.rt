@@ -5,10 +5,10 @@ ghost use Rattle.rsection.specs.Runs.{HasRun, HasBrokenOff};
 ghost use Rattle.rsection.specs.Sections.{ends_section, behind_sections, first_section, section_at};
 ghost use Rattle.rsection.specs.Seats.{IsSeatFor};
 
-use crate::Pace;
 use crate::desk::At;
 use crate::steps::run_steps;
 use rguard::{Rnlp, Seat};
+use rkinds::Pace;
 use rmodel::Machine;
 use rscript::{Script, Statement};
 use rvalue::Ledger;

@@ -5,10 +5,10 @@ ghost use Rattle.rsection.specs.Working.{FitsAt, AreWholeAt};
 ghost use Rattle.rsection.specs.Desks.{IsAt, seat_in, section_in, HasStepped, HasLeft};
 ghost use Rattle.rsection.specs.Runs.{HasRun, HasBrokenOff};
 
-use crate::Pace;
 use crate::acts::{ask, begin, edit, finish, rise, show};
 use crate::desk::{At, Desk};
 use rguard::{Rnlp, Seat};
+use rkinds::Pace;
 use rmodel::Machine;
 use rscript::Statement;
 use rvalue::Ledger;

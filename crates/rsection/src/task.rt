@@ -4,10 +4,10 @@ ghost use Rattle.rscript.specs.declared.statement.Statement.{Statement};
 ghost use Rattle.rsection.specs.Runs.{HasRun, HasBrokenOff};
 ghost use Rattle.rsection.specs.Seats.{IsSeatFor};
 
-use crate::Pace;
 use crate::desk::At;
 use crate::steps::run_steps;
 use rguard::{Rnlp, Seat};
+use rkinds::Pace;
 use rmodel::Machine;
 use rscript::Script;
 use rvalue::Ledger;

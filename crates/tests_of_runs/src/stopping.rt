@@ -1,7 +1,7 @@
 //! Tasks of scripts that are stopped for want of memory, and tasks that are not.
 ghost use Rattle.std.specs.Prelude.{◌≡◌, IfOk};
 ghost use Rattle.rrun.specs.Reporting.{HasOpened};
-ghost use Rattle.rrun.specs.Tasks.{AreSeatsFor};
+ghost use Rattle.rtasks.specs.Tasks.{AreSeatsFor};
 
 use crate::runs::{has_added, report_of};
 use crate::tools::run_with;

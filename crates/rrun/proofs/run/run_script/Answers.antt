@@ -5,7 +5,7 @@ use Rattle.rvalue.specs.declared.ledger.Edit.{Edit}
 use Rattle.rvalue.specs.Entries.{EntryFields}
 use Rattle.rreport.specs.Report.{ReportFields}
 use Rattle.rrun.specs.Reporting.{TellsHeadOf}
-use Rattle.rrun.proofs.Ending.{both_ok}
+use Rattle.rrun.proofs.Left.{both_ok}
 use Rattle.rrun.proofs.Reported.{all_of, all_idle, all_there, is_report}
 use Rattle.rrun.proofs.Telling.{may_be_written}
 use Rattle.rrun.proofs.run.run_script.Goals as goal

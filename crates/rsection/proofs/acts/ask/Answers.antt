@@ -21,6 +21,6 @@ unreachable-requires g c =
 
 pub returns-in-Ok-clause-ok : goal.returns-in-Ok-clause-ok
 returns-in-Ok-clause-ok g c =
-    subst (λ (x : Guard Ledger g.row.M.Denot Edit). HasStepped {M = g.row.M.Denot} (Busy x) (statement.Ask c.args.set) (Busy c.held.result)) (sym c.in-Nest.is)
-    (has_asked c.held.result c.held.ensures.lawful c.held.ensures.own c.in-Nest.guard c.requires.at.0 c.args.set c.in-Ok.pending
-    (subst (λ (x : Guard Ledger g.row.M.Denot Edit). IsGuardOf c.requires.at.0 x) c.in-Nest.is c.requires.at.1) c.in-Ok.ensures.ok c.held.ensures.awaited)
+    subst (λ (x : Guard Ledger g.row.M.Denot Edit). HasStepped {M = g.row.M.Denot} (Busy x) (statement.Ask c.args.set) (Busy c.wait_for_guard.result)) (sym c.in-Nest.is)
+    (has_asked c.wait_for_guard.result c.wait_for_guard.ensures.lawful c.wait_for_guard.ensures.own c.in-Nest.guard c.requires.at.0 c.args.set c.in-Ok.pending
+    (subst (λ (x : Guard Ledger g.row.M.Denot Edit). IsGuardOf c.requires.at.0 x) c.in-Nest.is c.requires.at.1) c.in-Ok.ensures.ok c.wait_for_guard.ensures.awaited)

@@ -15,6 +15,6 @@ unreachable-requires g c =
 
 pub returns : goal.returns
 returns g c =
-    subst (λ (x : Guard Ledger g.row.M.Denot Edit). HasStepped {M = g.row.M.Denot} (Busy x) statement.Rise (Busy c.held.result)) (sym c.in-Rise.is)
-    (has_risen c.held.result c.held.ensures.lawful c.held.ensures.own c.in-Rise.guard c.requires.at.0 c.begin_rise.result
-    (subst (λ (x : Guard Ledger g.row.M.Denot Edit). IsGuardOf c.requires.at.0 x) c.in-Rise.is c.requires.at.1) c.begin_rise.ensures.kind c.begin_rise.ensures.acts c.begin_rise.ensures.goes c.held.ensures.awaited)
+    subst (λ (x : Guard Ledger g.row.M.Denot Edit). HasStepped {M = g.row.M.Denot} (Busy x) statement.Rise (Busy c.wait_for_guard.result)) (sym c.in-Rise.is)
+    (has_risen c.wait_for_guard.result c.wait_for_guard.ensures.lawful c.wait_for_guard.ensures.own c.in-Rise.guard c.requires.at.0 c.begin_rise.result
+    (subst (λ (x : Guard Ledger g.row.M.Denot Edit). IsGuardOf c.requires.at.0 x) c.in-Rise.is c.requires.at.1) c.begin_rise.ensures.kind c.begin_rise.ensures.acts c.begin_rise.ensures.goes c.wait_for_guard.ensures.awaited)

@@ -1,0 +1,48 @@
+-- The seats of tasks that have ended.
+use Rattle.std.proofs.Common.{◌≡◌, ◌<◌, ℕ, Bool, false, List, map, length, Some, Result, Ok, Err, IfOk, sym, ap, subst, ◌∙◌}
+use Rattle.std.proofs.lemmas.Bool.{true≢false}
+use Rattle.std.proofs.lemmas.List.{length-map}
+use Rattle.std.specs.List.{list_any}
+use Rattle.std.specs.Prelude.{slice_get}
+use Rattle.rlock.specs.Known.{Site}
+use Rattle.rmodel.proofs.ListFacts.{false_from}
+use Rattle.rvalue.specs.declared.ledger.Edit.{Edit}
+use Rattle.rvalue.specs.declared.ledger.Ledger.{Ledger}
+use Rattle.rstate.proofs.homes.Lists.{same_item, get_map, get_there, any_here}
+use Rattle.rscript.specs.Scripts.{ScriptFields}
+use Rattle.rguard.specs.Seats.{SeatOf}
+use Rattle.rsection.specs.Runs.{HasRun}
+use Rattle.rsection.specs.Seats.{IsSeatFor}
+use Rattle.rtasks.specs.declared.tasks.Ended.{Ended}
+use Rattle.rtasks.specs.Endings.{AreEnded}
+use Rattle.rtasks.specs.Tasks.{AreSeatsFor, HasEnded}
+use Rattle.rrun.specs.Reporting.{HaveRun}
+use Rattle.rtasks.proofs.Ending.{less_from_slice_get}
+
+-- what is so of an answer by two facts
+pub both_ok : {X Y : Type 0} (r : Result X Y) (P Q R : X → Type 0) → ((x : X) → P x → Q x → R x) → IfOk r P → IfOk r Q → IfOk r R
+both_ok (Ok x) P Q R so p q = so x p q
+both_ok (Err e) P Q R so p q = tt
+
+module _ {M : Type 0} (site : Site) (p : ScriptFields) (seats : List (SeatOf Ledger Edit)) (ended : List (Ended M)) (are : AreEnded {M = M} site p seats ended) (later : List (SeatOf Ledger Edit)) (left : later ≡ map (λ (e : Ended M). e.seat) ended) where
+  many_left : length later ≡ length ended
+  many_left = ap length left ∙ length-map ended (λ (e : Ended M). e.seat)
+
+  -- the task of which a seat is left
+  task_of : (k : ℕ) (last : SeatOf Ledger Edit) → slice_get later k ≡ Some last → (e : Ended M) × (slice_get ended k ≡ Some e) × (e.seat ≡ last)
+  task_of k last there =
+      let e = get_there ended k (subst (λ n. k < n) many_left (less_from_slice_get later k last there)) in
+      (e.0, e.1, same_item e.0.seat last (sym (ap (λ (ss : List (SeatOf Ledger Edit)). slice_get ss k) left ∙ get_map (λ (e : Ended M). e.seat) ended k e.0 e.1) ∙ there))
+
+  pub are_left : AreSeatsFor site p later
+  are_left = record {
+    count = many_left ∙ are.count;
+    each = λ k last there. let e = task_of k last there in subst (IsSeatFor site p k) e.2 (are.seats_are k e.0 e.1);
+  }
+
+  pub have_run : list_any (λ (e : Ended M). e.stopped) ended ≡ false → HaveRun p seats later
+  have_run whole k statements seat last steps_is seat_is there =
+      let e = task_of k last there in
+      let ran : HasRun statements seat e.0.seat = subst (λ (b : Bool). HasEnded statements seat b e.0.seat)
+      (false_from e.0.stopped (λ h. true≢false (sym (any_here (λ (e : Ended M). e.stopped) ended k e.0 e.1 h) ∙ whole))) (are.each k statements seat e.0 steps_is seat_is e.1) in
+      subst (λ (s : SeatOf Ledger Edit). HasRun statements seat s) e.2 ran
