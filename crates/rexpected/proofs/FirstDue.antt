@@ -17,10 +17,10 @@ use Rattle.rforms.specs.Waits.{events_of, ended_in}
 use Rattle.rforms.specs.declared.fault.Code.TheVariants.{WrongChange, WrongLedger}
 use Rattle.rforms.proofs.facts.Choices.{some_none}
 use Rattle.rdue.specs.Due.{due_list}
-use Rattle.rreading.specs.Knows.{Knows, StandBehind, changes_in, ended_at, last_ended, past_in}
-use Rattle.rreading.specs.Takes.{StillDue, ledgers_told}
-use Rattle.rreading.specs.declared.reading.Reading.{Reading}
-use Rattle.rreading.proofs.Steps.{events_push}
+use Rattle.rlines.specs.Knows.{Knows, StandBehind, changes_in, ended_at, last_ended, past_in}
+use Rattle.rlines.specs.Takes.{StillDue, ledgers_told}
+use Rattle.rlines.specs.declared.reading.Reading.{Reading}
+use Rattle.rlines.proofs.Steps.{events_push}
 use Rattle.rreplay.specs.Names.{names_read}
 use Rattle.ranswer.specs.Due.{as_text, due_text, due_behind, first_due_text}
 use Rattle.rexpected.specs.Due.{due_texts, ledger_text}

@@ -9,10 +9,10 @@ use Rattle.rforms.specs.declared.fault.Code.{Code}
 use Rattle.rforms.specs.declared.fault.Code.TheVariants.{BadField, UnknownName, BadOrder, Refused, WrongChange, WrongShow, WrongLedger, NoEnd, WrongBound}
 use Rattle.rforms.specs.declared.fault.Fault.{Fault}
 use Rattle.rstream.specs.Coming.{CameWhole}
-use Rattle.rreading.specs.Knows.{Knows}
-use Rattle.rreading.specs.Takes.{StillDue}
-use Rattle.rreading.specs.declared.reading.Reading.{Reading}
-use Rattle.rreading.proofs.Still.{same_still}
+use Rattle.rlines.specs.Knows.{Knows}
+use Rattle.rlines.specs.Takes.{StillDue}
+use Rattle.rlines.specs.declared.reading.Reading.{Reading}
+use Rattle.rlines.proofs.Still.{same_still}
 use Rattle.rreplay.specs.Names.{names_read}
 use Rattle.rtrace.specs.Collects.{KnowsCount, CountStays}
 use Rattle.rtrace.specs.declared.count.Counting.{Counting}

@@ -11,7 +11,7 @@ use Rattle.rforms.specs.WrongBounds.{bound_told, bound_said}
 use Rattle.rforms.specs.declared.word.Word.{Word}
 use Rattle.rforms.specs.declared.word.Word.TheVariants as word
 use Rattle.rrecords.specs.Told.{is_event, is_act, is_wait}
-use Rattle.rreading.specs.declared.reading.Reading.{Reading}
+use Rattle.rlines.specs.declared.reading.Reading.{Reading}
 use Rattle.rreading.specs.declared.taken.Taken.{Taken}
 use Rattle.rreading.specs.Takes.{TellsBound, bound_of}
 

@@ -1,4 +1,4 @@
--- Results of the reader.
+-- Results of taking a record.
 use Rattle.std.proofs.Common.{◌≡◌, ap}
 use Rattle.std.specs.Prelude.{Result, Err}
 use Rattle.rclaim.specs.declared.event.Event.{Event}
@@ -6,9 +6,6 @@ use Rattle.rforms.specs.declared.fault.Code.{Code}
 use Rattle.rforms.specs.declared.errors.RowErr.{RowErr}
 use Rattle.rforms.specs.declared.errors.RowErr.TheVariants.{Bad}
 use Rattle.rreading.specs.declared.taken.Taken.TheVariants as taken
-
-pub same_bad : {T : Type 0} {a b : Code} → ◌≡◌ {A = Result T (RowErr Code)} (Err (Bad a)) (Err (Bad b)) → a ≡ b
-same_bad {T} {a} {b} e = cc
 
 -- an error is the same, whatever is answered beside it
 pub same_err : {T U : Type 0} {e : RowErr Code} {code : Code} → ◌≡◌ {A = Result T (RowErr Code)} (Err e) (Err (Bad code)) → ◌≡◌ {A = Result U (RowErr Code)} (Err e) (Err (Bad code))

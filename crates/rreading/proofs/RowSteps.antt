@@ -43,12 +43,13 @@ use Rattle.rforms.proofs.lists.Histories.{lock-resources, lock-tasks, lock-issue
 use Rattle.rrecords.specs.Told.{names_by, IsOf, Says, IsWrong, is_event, is_act, is_status, IsTold}
 use Rattle.rrecords.specs.declared.event.EventTold.TheVariants as told
 use Rattle.rrecords.proofs.Places.{says_at, uncounted_at}
-use Rattle.rreading.specs.declared.reading.Reading.{Reading}
+use Rattle.rlines.specs.declared.reading.Reading.{Reading}
 use Rattle.rreading.specs.declared.taken.Taken.{Taken}
 use Rattle.rreading.specs.declared.taken.Taken.TheVariants as taken
-use Rattle.rreading.specs.Knows.{Knows}
-use Rattle.rreading.specs.Takes.{Adds, FitsTold}
-use Rattle.rreading.proofs.Codes.{with_change}
+use Rattle.rlines.specs.Knows.{Knows}
+use Rattle.rreading.specs.Takes.{Adds}
+use Rattle.rlines.specs.Takes.{FitsTold}
+use Rattle.rlines.proofs.Codes.{with_change}
 
 -- ---- words
 

@@ -1,53 +1,19 @@
--- What it is to take a line, or a record, and to tell what is wrong with it.
-use Rattle.std.specs.Prelude.{◌≡◌, ◌<◌, ◌^◌, ℕ, Bool, true, ◌&&◌, nat_le, ◌==◌, List, [], ◌∷◌, ◌++◌, length, Option, Some, None, IsSome, IfSome, IsTrue, option_map, if◌then◌else◌}
-use Rattle.std.specs.FinSet.{union, empty}
-use Rattle.rset.specs.Sets.{Set, all_below}
-use Rattle.rexpand.specs.Groups.{ReadGroups}
-use Rattle.rclaim.specs.Requests.{IsNormal}
+-- What it is to take a record, and to tell what is wrong with it.
+use Rattle.std.specs.Prelude.{◌≡◌, Bool, ◌∷◌, Option, Some, None, IsSome, option_map}
 use Rattle.rclaim.specs.declared.event.Event.{Event}
-use Rattle.rclaim.specs.declared.event.Event.TheVariants.{Issue, Finish, Rise, Ask}
 use Rattle.rclaim.specs.declared.request.RequestErr.{RequestErr}
-use Rattle.rmodel.specs.Changes.{changes_between}
-use Rattle.rmodel.specs.Claims.{is_admitted}
-use Rattle.rplain.specs.Machine.{Standing}
-use Rattle.rmodel.specs.State.{LockState}
-use Rattle.rmodel.specs.Steps.{next}
-use Rattle.rmodel.specs.declared.granted.Granted.{Granted}
-use Rattle.rcover.specs.declared.wait_end.WaitEnd.{WaitEnd}
-use Rattle.rwaits.specs.Follows.{Follows}
 use Rattle.rforms.specs.Records.{Row}
-use Rattle.rforms.specs.Lines.{Line}
 use Rattle.rbound.specs.Bounds.{Numbers, numbers_in}
 use Rattle.rforms.specs.WrongBounds.{bound_said}
-use Rattle.rforms.specs.SoFar.{SoFar, names_in, at_tasks, at_changes, at_ledgers, entries_in, event_place, bare, with_act, with_line, with_row}
-use Rattle.rforms.specs.Faults.{line_code, code_of, is_change_due}
+use Rattle.rforms.specs.SoFar.{SoFar, names_in, entries_in, bare, with_act, with_row}
+use Rattle.rforms.specs.Faults.{code_of}
 use Rattle.rforms.specs.declared.fault.Code.{Code}
-use Rattle.rforms.specs.declared.fault.Code.TheVariants.{BadOrder, WrongChange}
 use Rattle.rrecords.specs.Told.{IsTold}
 use Rattle.rrecords.specs.declared.event.EventTold.TheVariants as event_told
-use Rattle.rreading.specs.declared.reading.Reading.{Reading}
+use Rattle.rlines.specs.declared.reading.Reading.{Reading}
 use Rattle.rreading.specs.declared.taken.Taken.{Taken}
 use Rattle.rreading.specs.declared.taken.Taken.TheVariants as taken
-use Rattle.rreading.specs.Knows.{Knows, changes_in, past_in, waits_due}
-
--- what is wrong with the place of a line that tells no change and is no act, and that may come behind these places
-abbrev pub place_code : SoFar → ℕ → ℕ → Option Code
-place_code s least most =
-    if is_change_due s then Some WrongChange
-    else if nat_le least s.last && nat_le s.last most then None
-    else Some BadOrder
-
--- whatever was said, nothing is wrong with this line behind it, and the reader knows then what it adds
-abbrev pub Takes : Reading → Reading → Line → Type 0
-Takes old new line = (whole : Bool) (s : SoFar) → Knows whole old s → (line_code whole s line ≡ None) × Knows whole new (with_line whole s line)
-
--- whatever was said, this is wrong with the line behind it
-abbrev pub Refuses : Reading → Line → Code → Type 0
-Refuses old line code = (whole : Bool) (s : SoFar) → Knows whole old s → line_code whole s line ≡ Some code
-
--- whatever was said, this wait is the first of those that are due, and the line tells it
-abbrev pub IsFirstDue : Reading → Line → WaitEnd → Type 0
-IsFirstDue old line due = (whole : Bool) (s : SoFar) → Knows whole old s → waits_due s ≡ due ∷ waits_due (with_line whole s line)
+use Rattle.rlines.specs.Knows.{Knows, waits_due}
 
 -- what was taken adds this to the entries; a wait is the first of those that are due, and due no more
 abbrev pub Adds : Taken → SoFar → SoFar → Type 0
@@ -55,6 +21,15 @@ Adds (taken.Event e) s t = (t.earlier ≡ entries_in s) × (t.latest ≡ Some (b
 Adds (taken.Act act) s t = (t.earlier ≡ s.earlier) × (t.latest ≡ option_map (with_act act) s.latest) × IsSome s.latest
 Adds (taken.Wait told) s t = (t.earlier ≡ s.earlier) × (t.latest ≡ s.latest) × (waits_due s ≡ told.wait ∷ waits_due t)
 Adds taken.Other s t = (t.earlier ≡ s.earlier) × (t.latest ≡ s.latest)
+
+-- whatever was said, nothing is wrong with this record behind it, the reader knows then what it adds, and that is what was taken
+abbrev pub TakesRow : Reading → Reading → Row → Taken → Type 0
+TakesRow old new row what =
+    (whole : Bool) (s : SoFar) → Knows whole old s → (code_of whole s row ≡ None) × Knows whole new (with_row whole s row) × Adds what s (with_row whole s row)
+
+-- whatever was said, this is wrong with the record behind it
+abbrev pub RefusesRow : Reading → Row → Code → Type 0
+RefusesRow old row code = (whole : Bool) (s : SoFar) → Knows whole old s → code_of whole s row ≡ Some code
 
 -- the bound that what was taken tells, if it tells a wait
 abbrev pub bound_of : Taken → Option Numbers
@@ -65,87 +40,7 @@ bound_of _ = None
 abbrev pub TellsBound : Reading → Row → Taken → Type 0
 TellsBound old row what = (whole : Bool) (s : SoFar) → Knows whole old s → bound_said whole (names_in s) row ≡ bound_of what
 
--- the same of a record
-abbrev pub TakesRow : Reading → Reading → Row → Taken → Type 0
-TakesRow old new row what =
-    (whole : Bool) (s : SoFar) → Knows whole old s → (code_of whole s row ≡ None) × Knows whole new (with_row whole s row) × Adds what s (with_row whole s row)
-
-abbrev pub RefusesRow : Reading → Row → Code → Type 0
-RefusesRow old row code = (whole : Bool) (s : SoFar) → Knows whole old s → code_of whole s row ≡ Some code
-
--- these names are the first of all, and so keep their numbers
-abbrev pub AreFirstOf : List (List ℕ) → List (List ℕ) → Type 0
-AreFirstOf names all = (more : List (List ℕ)) × (all ≡ names ++ more)
-
--- what is due is due still: nothing more was told, the changes and the ledgers are as they were, the names keep their numbers, and whatever was said, its events are still followed
-pub record StillDue (old new : Reading) : Type 0 where
-  pub kind : new.whole ≡ old.whole
-  pub resources : AreFirstOf old.resources new.resources
-  pub tasks : AreFirstOf old.tasks new.tasks
-  pub last : new.last ≡ old.last
-  pub told : new.told ≡ old.told
-  pub changes : changes_in new.machine ≡ changes_in old.machine
-  pub ledgers : new.ledgers.items ≡ old.ledgers.items
-  pub there : IsSome old.following → IsSome new.following
-  pub followed : (whole : Bool) (s : SoFar) → Knows whole old s → IfSome new.following (λ f. Follows f (past_in s))
-
--- a reader knows what was said, and stamps are left
-abbrev pub IsReady : Reading → Type 0
-IsReady reading = (whole : Bool) × (s : SoFar) × Knows whole reading s × (length (entries_in s) < 2 ^ 62)
-
--- ---- events
-
 -- what was taken is this event, in normal form; or its request is refused by itself for this cause
 abbrev pub IsKept : Option RequestErr → Taken → Event → Type 0
 IsKept None what e = (what ≡ taken.Event e) × IsTold (event_told.Event e) e
 IsKept (Some cause) what e = IsTold (event_told.Refused cause) e
-
--- an event is one that a caller may ask for, if its request is admitted
-abbrev pub FitsTold : LockState → Event → Type 0
-FitsTold s (Issue seat r) =
-    (seat < s.seats) × IsTrue (all_below s.groups.q r.reads) × IsTrue (all_below s.groups.q r.writes) × IsNormal r × (s.issued < 2 ^ 63)
-FitsTold s (Finish seat) = seat < s.seats
-FitsTold s (Rise seat) = seat < s.seats
-FitsTold s (Ask seat part) = (seat < s.seats) × IsTrue (all_below s.groups.q part)
-
--- a machine behind an accepted event
-abbrev pub stepped : LockState → Event → Standing
-stepped s e = record { state = next s e; last = changes_between s (next s e) }
-
--- what may be shown, and what may be edited, behind an event whose seat held this before it
-abbrev pub shown_by : Granted → Set
-shown_by held = union held.reads held.writes
-
-abbrev pub edited_by : Granted → Event → Set
-edited_by held (Finish seat) = held.writes
-edited_by held _ = empty
-
--- the request of an event is admitted, if it has one
-abbrev pub event_admitted : List Set → Event → Bool
-event_admitted groups (Issue seat r) = is_admitted groups r
-event_admitted groups _ = true
-
--- an event may stand here, and no change is due
-abbrev pub IsPlaced : Reading → Type 0
-IsPlaced reading = (whole : Bool) (s : SoFar) → Knows whole reading s → place_code s at_tasks at_changes ≡ None
-
--- a reader lets acts be behind an event, whose seat held this before, just as they may be
-abbrev pub Allows : Reading → Event → Granted → Type 0
-Allows reading e held = (reading.shown ≡ shown_by held) × (reading.edited ≡ edited_by held e)
-
--- the reader behind an accepted event, of which nothing was told yet
-abbrev pub noted : Reading → Event → Reading
-noted reading e = record reading { last = event_place e; told = 0 }
-
--- ---- ledgers
-
--- how many ledgers were told
-abbrev pub ledgers_told : Reading → ℕ
-ledgers_told reading = if reading.last == at_ledgers then reading.told else 0
-
--- ---- groups
-
--- groups over q resources were made, where there are resources and none were there; those that were there are kept
-abbrev pub AreMade : ℕ → Option ReadGroups → Option ReadGroups → Type 0
-AreMade q (Some old) new = new ≡ Some old
-AreMade q None new = 0 < q → new ≡ Some (record { q = q; groups = [] })

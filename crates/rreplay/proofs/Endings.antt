@@ -27,8 +27,8 @@ use Rattle.rreport.specs.Report.{ReportFields}
 use Rattle.rpage.specs.Told.{told, leaves_from}
 use Rattle.rreport.proofs.Parts.{parts_are, ledgers_are as told_ledgers}
 use Rattle.rwaits.specs.Past.{begun}
-use Rattle.rreading.specs.Knows.{Knows}
-use Rattle.rreading.specs.declared.reading.Reading.{Reading}
+use Rattle.rlines.specs.Knows.{Knows}
+use Rattle.rlines.specs.declared.reading.Reading.{Reading}
 use Rattle.rreplay.specs.Names.{names_read}
 use Rattle.rreplay.specs.Parts.{ArePartsOf}
 use Rattle.rreplay.specs.Replaying.{KnowsTelling, IsToldToEnd}

@@ -26,8 +26,8 @@ use Rattle.rreport.specs.Behind.{past_in, ComesNext}
 use Rattle.rreport.specs.Gathered.{KnowsGathered}
 use Rattle.rreport.specs.Open.{open_told}
 use Rattle.rpage.specs.Told.{step_told}
-use Rattle.rreading.specs.Knows.{Knows, StandBehind, changes_in}
-use Rattle.rreading.specs.declared.reading.Reading.{Reading}
+use Rattle.rlines.specs.Knows.{Knows, StandBehind, changes_in}
+use Rattle.rlines.specs.declared.reading.Reading.{Reading}
 use Rattle.rreplay.specs.Names.{names_read}
 use Rattle.rreplay.specs.Followed.{AreFollowed, IsTold}
 use Rattle.rreplay.specs.Replaying.{history_text, KnowsTelling}

@@ -5,7 +5,7 @@ use Rattle.rwaits.specs.Follows.{Follows}
 use Rattle.rwaits.specs.Past.{Past, begun}
 use Rattle.rwaits.specs.declared.following.Following.{Following}
 use Rattle.rreport.specs.Gathered.{KnowsGathered}
-use Rattle.rreading.specs.declared.reading.Reading.{Reading}
+use Rattle.rlines.specs.declared.reading.Reading.{Reading}
 use Rattle.rreplay.specs.Names.{names_read}
 use Rattle.rreplay.specs.declared.replaying.Telling.{Telling}
 

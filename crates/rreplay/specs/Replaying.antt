@@ -7,8 +7,8 @@ use Rattle.rforms.specs.Waits.{all_ended, no_bounds}
 use Rattle.rreport.specs.Behind.{past_in}
 use Rattle.rreport.specs.Gathered.{KnowsGathered}
 use Rattle.rreport.specs.Open.{open_told}
-use Rattle.rreading.specs.Knows.{Knows}
-use Rattle.rreading.specs.declared.reading.Reading.{Reading}
+use Rattle.rlines.specs.Knows.{Knows}
+use Rattle.rlines.specs.declared.reading.Reading.{Reading}
 use Rattle.rreplay.specs.declared.replaying.Replaying.{Replaying}
 use Rattle.rreplay.specs.declared.replaying.Telling.{Telling}
 

@@ -20,7 +20,7 @@ ghost use Rattle.rpage.specs.Told.{told, step_told, leaves_from};
 ghost use Rattle.rcover.specs.Ended.{ended_by};
 ghost use Rattle.rcover.specs.declared.wait_end.WaitEnd.{WaitEnd};
 ghost use Rattle.rwaits.specs.Past.{Past, start_of, with_event, begun};
-ghost use Rattle.rreading.specs.Knows.{changes_in};
+ghost use Rattle.rlines.specs.Knows.{changes_in};
 ghost use Rattle.rreading.specs.Takes.{Adds};
 ghost use Rattle.rreplay.specs.Followed.{AreFollowed, IsTold};
 ghost use Rattle.rreplay.specs.Names.{names_read};
@@ -32,7 +32,7 @@ use rclaim::Event;
 use rforms::{Code, Records, RowErr, TextErr, take_text};
 use rmodel::Machine;
 use rpage::{NameRows, Page, ending_of, head_of};
-use rreading::{Reading, Taken};
+use rreading::{Reading, Taken, take};
 use rreport::{Gathered, OpenText, close_history, push_step};
 use std::alloc::{AllocError, Global};
 use std::mem;
@@ -97,7 +97,7 @@ impl Replaying {
         ensures told { OnOk result ((s : SoFar) → KnowsReplay self.old s → Adds self.new.taken s (with_row false s (fields_of fields.now))) }
         ensures bad { (code : Code) → result ≡ Err (RowErr.Bad code) → (s : SoFar) → KnowsReplay self.old s → code_of false s (fields_of fields.now) ≡ Some code }
     {
-        if let Err(e) = self.reading.take(self.alloc, fields, &mut self.taken) {
+        if let Err(e) = take(&mut self.reading, self.alloc, fields, &mut self.taken) {
             return Err(e);
         }
         match &self.taken {

@@ -16,10 +16,10 @@ use Rattle.rforms.proofs.forth.Rows.{HaveTold, have_told}
 use Rattle.rforms.proofs.lists.BlankLines.{blank, lines_blank}
 use Rattle.rforms.proofs.lists.Likes.{told_from, bounds_in, bounds_are_due}
 use Rattle.rforms.proofs.texts.Lists.{read_more, bounds_more, list_faults}
-use Rattle.rreading.specs.declared.reading.Reading.{Reading}
+use Rattle.rlines.specs.declared.reading.Reading.{Reading}
 use Rattle.rreading.specs.declared.taken.Taken.{Taken}
 use Rattle.rreading.specs.declared.taken.Taken.TheVariants as taken
-use Rattle.rreading.specs.Knows.{Knows}
+use Rattle.rlines.specs.Knows.{Knows}
 use Rattle.rreading.specs.Takes.{Adds, TakesRow, TellsBound, bound_of}
 use Rattle.rtrace.specs.declared.count.Counting.{Counting}
 use Rattle.rtrace.specs.ToldBounds.{KnowsBounds}

@@ -6,10 +6,10 @@ use Rattle.rforms.specs.Reports.{Entry}
 use Rattle.rforms.specs.SoFar.{SoFar, with_act, with_row}
 use Rattle.rforms.specs.Faults.{code_of}
 use Rattle.rtrace.specs.declared.collect.Collecting.{Collecting}
-use Rattle.rreading.specs.declared.reading.Reading.{Reading}
+use Rattle.rlines.specs.declared.reading.Reading.{Reading}
 use Rattle.rreading.specs.declared.taken.Taken.{Taken}
 use Rattle.rreading.specs.declared.taken.Taken.TheVariants as taken
-use Rattle.rreading.specs.Knows.{Knows}
+use Rattle.rlines.specs.Knows.{Knows}
 use Rattle.rreading.specs.Takes.{Adds, TakesRow}
 use Rattle.rtrace.specs.Collects.{KnowsAll, Keeps}
 

@@ -26,15 +26,15 @@ use Rattle.rforms.specs.WrongBounds.{bound_said, bounds_said, bounds_due, or_mor
 use Rattle.rforms.proofs.facts.Choices.{some_is, some_none}
 use Rattle.rforms.proofs.texts.Lists.{read_more, bounds_more}
 use Rattle.rtrace.specs.declared.bounds.BoundsKept.{BoundsKept}
-use Rattle.rreading.specs.declared.reading.Reading.{Reading}
+use Rattle.rlines.specs.declared.reading.Reading.{Reading}
 use Rattle.rreading.specs.declared.taken.BoundTold.{BoundTold}
 use Rattle.rreading.specs.declared.taken.Taken.{Taken}
 use Rattle.rreading.specs.declared.taken.Taken.TheVariants as taken
-use Rattle.rreading.specs.Knows.{Knows, StandBehind, past_in, ended_at, waits_due}
+use Rattle.rlines.specs.Knows.{Knows, StandBehind, past_in, ended_at, waits_due}
 use Rattle.rreading.specs.Takes.{Adds, bound_of}
 use Rattle.rtrace.specs.ToldBounds.{AreTold, IsMade, KnowsBounds, HasRead}
-use Rattle.rreading.proofs.Steps.{events_push}
-use Rattle.rreading.proofs.DueWaits.{among_drop}
+use Rattle.rlines.proofs.Steps.{events_push}
+use Rattle.rlines.proofs.DueWaits.{among_drop}
 use Rattle.rtrace.proofs.WaitSteps.{AreAll, row_on, row_wait, row_head, all_at_end, some_not}
 
 -- ---- the past

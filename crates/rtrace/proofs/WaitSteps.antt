@@ -31,11 +31,11 @@ use Rattle.rforms.proofs.facts.Said.{clean, IsClean}
 use Rattle.rforms.proofs.facts.Tests.{not_false}
 use Rattle.rforms.proofs.lists.Places.{no_change, none_due, placed}
 use Rattle.rforms.proofs.lists.ToldWaits.{all_ended_push}
-use Rattle.rreading.specs.declared.reading.Reading.{Reading}
-use Rattle.rreading.specs.Knows.{Knows, ended_at, last_ended, waits_due}
+use Rattle.rlines.specs.declared.reading.Reading.{Reading}
+use Rattle.rlines.specs.Knows.{Knows, ended_at, last_ended, waits_due}
 use Rattle.rtrace.specs.ToldBounds.{waits_left}
-use Rattle.rreading.proofs.DueWaits.{waits_in, all_due}
-use Rattle.rreading.proofs.EventSteps.{due_is, event_high}
+use Rattle.rlines.proofs.DueWaits.{waits_in, all_due}
+use Rattle.rlines.proofs.EventSteps.{due_is, event_high}
 
 -- ---- what was told, and what is left
 

@@ -14,7 +14,7 @@ use Rattle.rforms.specs.Faults.{code_of, is_ended, first_record_fault, read_all}
 use Rattle.rforms.specs.Reports.{Report, Spells, ledger_after}
 use Rattle.rforms.specs.SoFar.{SoFar, nothing_yet, at_groups, head_in, entries_in, told_in, with_row}
 use Rattle.rforms.proofs.facts.Choices.{some_is, some_none}
-use Rattle.rreading.specs.declared.reading.Reading.{Reading}
+use Rattle.rlines.specs.declared.reading.Reading.{Reading}
 use Rattle.rtrace.specs.declared.collect.Collecting.{Collecting}
 use Rattle.rreport.specs.Report.{ReportFields, told_by, IsOverResources, HasItsLedgers}
 use Rattle.rforms.specs.Takers.{HasTaken, IsFirstFault, list_code, is_list_done}

@@ -5,8 +5,8 @@ use Rattle.rforms.specs.Records.{Row}
 use Rattle.rforms.specs.SoFar.{SoFar, nothing_yet, entries_in, bare, with_act}
 use Rattle.rforms.specs.Faults.{read_all}
 use Rattle.rforms.specs.WrongBounds.{bounds_said}
-use Rattle.rreading.specs.Knows.{Knows}
-use Rattle.rreading.specs.Takes.{StillDue}
+use Rattle.rlines.specs.Knows.{Knows}
+use Rattle.rlines.specs.Takes.{StillDue}
 use Rattle.rtrace.specs.ToldBounds.{KnowsBounds}
 use Rattle.rreport.specs.Report.{ReportFields}
 use Rattle.rtrace.specs.declared.collect.Collecting.{Collecting}

@@ -12,10 +12,10 @@ use Rattle.rforms.specs.WrongBounds.{bounds_said}
 use Rattle.rbound_told.specs.Told.{Told, said, waits_of, AreBefore}
 use Rattle.rbound_told.specs.Knows.{KnowsTold}
 use Rattle.rbound_told.specs.declared.told.ToldBounds.{ToldBounds}
-use Rattle.rreading.specs.Knows.{Knows, past_in, waits_due}
+use Rattle.rlines.specs.Knows.{Knows, past_in, waits_due}
 use Rattle.rreading.specs.Takes.{TakesRow, TellsBound}
 use Rattle.rtrace.specs.declared.bounds.BoundsKept.{BoundsKept}
-use Rattle.rreading.specs.declared.reading.Reading.{Reading}
+use Rattle.rlines.specs.declared.reading.Reading.{Reading}
 use Rattle.rreading.specs.declared.taken.Taken.{Taken}
 
 -- what judges bounds was told these events, and these bounds of waits that they ended; before the first event there is nothing

@@ -1,7 +1,6 @@
 // What is kept of the bounds that a report tells, until its history was told whole.
 ghost use Rattle.std.specs.Prelude.{◌≡◌, ◌++◌, ◌∷◌, ◌<◌, ◌^◌, [], List, length, OnOk, IfOk, option_map, true};
 ghost use Rattle.rbound.specs.Bounds.{numbers_in};
-ghost use Rattle.rcover.specs.declared.wait_end.WaitEnd.{WaitEnd};
 ghost use Rattle.rmodel.specs.Steps.{AreAccepted};
 ghost use Rattle.rwaits.specs.Past.{Past, start_of, with_event};
 ghost use Rattle.rneeds.specs.Keys.{IsLastEnded};
@@ -9,9 +8,9 @@ ghost use Rattle.rbound_told.specs.Told.{Told, AreBefore};
 ghost use Rattle.rforms.specs.Records.{Row};
 ghost use Rattle.rforms.specs.Faults.{read_all};
 ghost use Rattle.rforms.specs.WrongBounds.{first_wrong_bound, wrong_bound};
-ghost use Rattle.rreading.specs.Knows.{Knows};
+ghost use Rattle.rlines.specs.Knows.{Knows};
 ghost use Rattle.rtrace.specs.ToldBounds.{AreTold, IsMade, KnowsBounds, HasRead};
-ghost use Rattle.rreading.specs.declared.reading.Reading.{Reading};
+ghost use Rattle.rlines.specs.declared.reading.Reading.{Reading};
 
 use rbound_told::ToldBounds;
 use rclaim::Event;

@@ -9,7 +9,7 @@ ghost use Rattle.rreport.specs.Report.{told_by, IsOverResources, HasItsLedgers};
 use csv::ByteRecord;
 use rclaim::Event;
 use rforms::{Code, Records, RowErr, TextErr};
-use rreading::{Reading, Taken};
+use rreading::{Reading, Taken, take};
 use rreport::Report;
 use rset::NameTable;
 use rvalue::{Act, Edit, Entry, History};
@@ -43,7 +43,7 @@ impl Records for Collecting {
 
     fn take(&mut self, fields: &ByteRecord) -> Result<(), RowErr> {
         let mut taken = Taken::Other;
-        if let Err(e) = self.reading.take(self.alloc, fields, &mut taken) {
+        if let Err(e) = take(&mut self.reading, self.alloc, fields, &mut taken) {
             return Err(e);
         }
         let Ok(()) = self.keep_taken(taken) else {

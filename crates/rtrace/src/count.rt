@@ -1,5 +1,5 @@
 // Checking a report, with no more kept than is needed to judge it.
-ghost use Rattle.std.specs.Prelude.{◌≡◌, ◌≤◌, ◌<◌, ◌+◌, ◌^◌, ◌≢◌, ℕ, length, IfOk, IfErr, OnOk, IsErrOf, true, [], List};
+ghost use Rattle.std.specs.Prelude.{◌≡◌, ◌≤◌, ◌<◌, ◌+◌, ◌≢◌, ℕ, IfOk, IfErr, OnOk, IsErrOf, true, [], List};
 ghost use Rattle.io_ends.specs.Faults.{Rose};
 ghost use Rattle.io_ends.specs.Ends.{Took, TookAtMost};
 ghost use Rattle.rforms.specs.Takers.{IsFirstFault, HasTaken, StandsAt, list_code, is_list_done};
@@ -16,7 +16,7 @@ use crate::bounds::BoundsKept;
 use csv::ByteRecord;
 use io_ends::Source;
 use rforms::{Code, Fault, Records, RowErr};
-use rreading::{Reading, Taken};
+use rreading::{Reading, Taken, take};
 use rstream::{StreamErr, take_source};
 use std::alloc::Global;
 
@@ -49,7 +49,7 @@ impl Records for Counting {
     ghost stays = { CountStays };
 
     fn take(&mut self, fields: &ByteRecord) -> Result<(), RowErr> {
-        if let Err(e) = self.reading.take(self.alloc, fields, &mut self.taken) {
+        if let Err(e) = take(&mut self.reading, self.alloc, fields, &mut self.taken) {
             return Err(e);
         }
         let Ok(()) = self.bounds.take(self.alloc, &self.reading, &self.taken) else {

@@ -5,7 +5,7 @@ ghost use Rattle.rforms.specs.Takers.{IsFirstFault, HasTaken, list_code, is_list
 ghost use Rattle.rforms.specs.SoFar.{nothing_yet};
 ghost use Rattle.rtrace.specs.Collects.{Keeps, KnowsList, KnowsReport};
 ghost use Rattle.rtrace.specs.ToldBounds.{KnowsBounds, HasRead};
-ghost use Rattle.rreading.specs.declared.reading.Reading.{Reading};
+ghost use Rattle.rlines.specs.declared.reading.Reading.{Reading};
 ghost use Rattle.rforms.specs.Texts.{IsTextOf};
 ghost use Rattle.rforms.specs.Written.{MayBeWritten};
 ghost use Rattle.rforms.specs.declared.fault.Code.{Code};
@@ -17,7 +17,7 @@ use crate::bounds::BoundsKept;
 use crate::collect::Collecting;
 use csv::ByteRecord;
 use rforms::{Code, Fault, Records, RowErr, TextErr, take_text};
-use rreading::Taken;
+use rreading::{Taken, take};
 use rreport::Report;
 use std::alloc::{AllocError, Global};
 
@@ -44,11 +44,12 @@ impl Records for ReportTaker {
 
     fn take(&mut self, fields: &ByteRecord) -> Result<(), RowErr> {
         let mut taken = Taken::Other;
-        if let Err(e) = self
-            .inner
-            .reading
-            .take(self.inner.alloc, fields, &mut taken)
-        {
+        if let Err(e) = take(
+            &mut self.inner.reading,
+            self.inner.alloc,
+            fields,
+            &mut taken,
+        ) {
             return Err(e);
         }
         let Ok(()) = self.keep(taken) else {

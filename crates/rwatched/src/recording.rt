@@ -9,7 +9,7 @@ ghost use Rattle.rforms.specs.Takers.{IsFirstFault};
 ghost use Rattle.rforms.specs.Texts.{IsTextOf, report_text};
 ghost use Rattle.rforms.specs.declared.fault.Code.{Code};
 ghost use Rattle.rforms.specs.declared.fault.Fault.{Fault};
-ghost use Rattle.rreading.specs.Knows.{Knows};
+ghost use Rattle.rlines.specs.Knows.{Knows};
 ghost use Rattle.rreplay.specs.Parts.{ArePartsOf};
 ghost use Rattle.rwatched.specs.Recording.{KnowsSteps};
 ghost use Rattle.rwatched.specs.Stepping.{AreStepsOf};

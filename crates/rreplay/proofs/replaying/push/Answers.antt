@@ -6,7 +6,7 @@ use Rattle.rwaits.specs.Past.{with_event}
 use Rattle.rreport.specs.Gathered.{KnowsGathered}
 use Rattle.rreport.specs.Open.{open_told}
 use Rattle.rpage.specs.Told.{step_told}
-use Rattle.rreading.specs.Knows.{changes_in}
+use Rattle.rlines.specs.Knows.{changes_in}
 use Rattle.rreplay.proofs.Replays.{coming_next, followed_by}
 use Rattle.rreplay.proofs.replaying.push.Goals as goal
 

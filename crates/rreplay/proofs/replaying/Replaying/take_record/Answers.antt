@@ -14,7 +14,7 @@ tell-told-requires-clause-there c =
     let row = fields_of c.args.fields.now in
     let event = c.in-Event.event in
     let taken = (rw c.in-Event.is at c.in_default.ensures.taken) false s k.reading in
-    let followed = followed_event s row taken.0 c.args.self.now.reading c.take.new.self k.reading taken.1 event taken.2.0 taken.2.1 in
+    let followed = followed_event s row taken.0 c.args.self.now.reading c.take.new.reading k.reading taken.1 event taken.2.0 taken.2.1 in
     (followed.0, followed.1)
 
 pub tell-told-requires-clause-told : goal.tell-told-requires-clause-told
@@ -25,7 +25,7 @@ tell-told-requires-clause-told c =
     let event = c.in-Event.event in
     let taken = (rw c.in-Event.is at c.in_default.ensures.taken) false s k.reading in
     let before = c.args.self.now.reading in
-    let reading = c.take.new.self in (
+    let reading = c.take.new.reading in (
       past_in (head_in s) (entries_in s),
       all_ended (head_in s) (entries_in s),
       (followed_event s row taken.0 before reading k.reading taken.1 event taken.2.0 taken.2.1).2,
@@ -38,7 +38,7 @@ returns-in-Ok-clause-taken c = λ s k.
     let event = c.in-Event.event in
     let taken = (rw c.in-Event.is at c.in_default.ensures.taken) false s k.reading in
     let before = c.args.self.now.reading in
-    let reading = c.take.new.self in
+    let reading = c.take.new.reading in
     let past = past_in (head_in s) (entries_in s) in
     let followed = (followed_event s row taken.0 before reading k.reading taken.1 event taken.2.0 taken.2.1).2 in
     let told = c.in-Ok.ensures.told past (all_ended (head_in s) (entries_in s)) followed
@@ -64,8 +64,8 @@ returns-in-Wait-clause-taken c = λ s k.
       taken.0,
       record {
         reading = taken.1;
-        history = other_history s row taken.0 c.args.self.now.reading c.take.new.self k.reading taken.1 c.args.self.now.history taken.2.0 taken.2.1 k.history;
-        telling = telling_kept s row taken.0 c.args.self.now.reading c.take.new.self k.reading taken.1 c.args.self.now.telling taken.2.0 taken.2.1 k.telling;
+        history = other_history s row taken.0 c.args.self.now.reading c.take.new.reading k.reading taken.1 c.args.self.now.history taken.2.0 taken.2.1 k.history;
+        telling = telling_kept s row taken.0 c.args.self.now.reading c.take.new.reading k.reading taken.1 c.args.self.now.telling taken.2.0 taken.2.1 k.telling;
         untold = λ none. other_untold s row taken.2.0 taken.2.1 (k.untold none);
       },
     )
@@ -77,8 +77,8 @@ returns-in-Other-clause-taken c = λ s k.
       taken.0,
       record {
         reading = taken.1;
-        history = other_history s row taken.0 c.args.self.now.reading c.take.new.self k.reading taken.1 c.args.self.now.history taken.2.0 taken.2.1 k.history;
-        telling = telling_kept s row taken.0 c.args.self.now.reading c.take.new.self k.reading taken.1 c.args.self.now.telling taken.2.0 taken.2.1 k.telling;
+        history = other_history s row taken.0 c.args.self.now.reading c.take.new.reading k.reading taken.1 c.args.self.now.history taken.2.0 taken.2.1 k.history;
+        telling = telling_kept s row taken.0 c.args.self.now.reading c.take.new.reading k.reading taken.1 c.args.self.now.telling taken.2.0 taken.2.1 k.telling;
         untold = λ none. other_untold s row taken.2.0 taken.2.1 (k.untold none);
       },
     )

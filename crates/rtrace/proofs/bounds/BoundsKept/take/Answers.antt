@@ -1,6 +1,6 @@
 use Rattle.std.proofs.Common.{◌+◌, true, refl, ap, ◌∙◌}
 use Rattle.rforms.specs.Faults.{read_all}
-use Rattle.rreading.specs.Knows.{past_in}
+use Rattle.rlines.specs.Knows.{past_in}
 use Rattle.rreading.specs.Takes.{bound_of}
 use Rattle.rtrace.proofs.Results.{on_ok}
 use Rattle.rtrace.proofs.ToldSteps.{bounds_same, event_accepted, event_tasks, bounds_event, wait_ended, wait_below, bounds_wait, tells_event, no_event}

@@ -20,5 +20,5 @@ returns-in-Err-clause-bad c = λ cause is rows h. c.in-Err.ensures.bad cause (sa
 pub returns-clause-taken : goal.returns-clause-taken
 returns-clause-taken c = λ rows h.
     let row = fields_of c.args.fields.now in
-    let kept = keeps_all false c.args.self.now c.keep_taken.new.self c.take.new.self (read_all false rows) row c.take.new.taken h c.in_default.ensures.taken c.in-Ok.ensures.ok in
+    let kept = keeps_all false c.args.self.now c.keep_taken.new.self c.take.new.reading (read_all false rows) row c.take.new.taken h c.in_default.ensures.taken c.in-Ok.ensures.ok in
     (kept.0, subst (λ (s : SoFar). KnowsList c.keep_taken.new.self s) (sym (read_more false rows row)) kept.1)

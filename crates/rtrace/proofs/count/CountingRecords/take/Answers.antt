@@ -47,7 +47,7 @@ returns-clause-taken c = λ rows h.
     let n = c.one_if_wait.ensures.value in
     let row = fields_of c.args.fields.now in
     let bounds = c.in-Ok.ensures c.args.self.now.reading rows row h.bounds (record { knows = h.knows; takes = c.in_default.ensures.taken; tells = c.in_default.ensures.bound }) in
-    count_on c.args.self.now (record c.args.self.now { reading = c.take.new.self; bounds = c.take-2.new.self; events = c.args.self.now.events + c.one_if_event.result; waits = c.args.self.now.waits + c.one_if_wait.result; taken = c.take.new.taken })
+    count_on c.args.self.now (record c.args.self.now { reading = c.take.new.reading; bounds = c.take-2.new.self; events = c.args.self.now.events + c.one_if_event.result; waits = c.args.self.now.waits + c.one_if_wait.result; taken = c.take.new.taken })
     rows row c.take.new.taken h c.in_default.ensures.taken c.in_default.ensures.bound bounds (omega (arith, e)) (omega (arith, n))
 
 pub returns-in-Err-clause-still : goal.returns-in-Err-clause-still

@@ -33,7 +33,7 @@ pub returns-clause-taken : goal.returns-clause-taken
 returns-clause-taken c = λ rows h.
     let row = fields_of c.args.fields.now in
     let old = c.args.self.now.inner in
-    let kept = keeps_all true old c.keep.new.self.inner c.take.new.self (read_all true rows) row c.take.new.taken h.knows c.in_default.ensures.taken c.in-Ok.ensures.kept in (
+    let kept = keeps_all true old c.keep.new.self.inner c.take.new.reading (read_all true rows) row c.take.new.taken h.knows c.in_default.ensures.taken c.in-Ok.ensures.kept in (
       kept.0,
       record {
         knows = by_rows rows row (λ (t : Collecting) (s : SoFar). KnowsAll true t s) c.keep.new.self.inner kept.1;

@@ -1,0 +1,32 @@
+use Rattle.std.proofs.Common.{Some, ap, ◌∙◌, refl}
+use Rattle.csv.specs.Records.{fields_of}
+use Rattle.rforms.specs.Reports.{status_line}
+use Rattle.rreading.specs.declared.taken.Taken.TheVariants as taken
+use Rattle.rlines.proofs.Codes.{status_changes}
+use Rattle.rlines.proofs.Results.{same_bad}
+use Rattle.rreading.proofs.RowSteps.{is_of, status_no_more, row_taken, row_code, row_wrong, change_adds}
+use Rattle.rlines.proofs.Still.{same_still}
+use Rattle.rreading.proofs.plain.take_status.Goals as goal
+
+pub change_of-requires-clause-form : goal.change_of-requires-clause-form
+change_of-requires-clause-form c = is_of c.args.reading.now.whole (fields_of c.args.fields.now) c.args.word c.requires.word
+
+pub returns-in-Ok-status-clause-taken : goal.returns-in-Ok-status-clause-taken
+returns-in-Ok-status-clause-taken c = λ whole s h.
+    row_taken whole c.args.reading.now s h (fields_of c.args.fields.now) c.args.word c.requires.word (status_no_more s c.args.word c.requires.change) (status_line c.in-Ok.change) c.in-Ok.ensures.told c.status.new.self taken.Other
+    (c.in-Ok-status.ensures.taken whole s h) (change_adds whole s (status_line c.in-Ok.change) (status_changes c.in-Ok.change))
+
+pub returns-in-Err-status-clause-bad : goal.returns-in-Err-status-clause-bad
+returns-in-Err-status-clause-bad c = λ code is whole s h.
+    row_code whole c.args.reading.now s h (fields_of c.args.fields.now) c.args.word c.requires.word (status_no_more s c.args.word c.requires.change) (status_line c.in-Ok.change) c.in-Ok.ensures.told
+    ∙ c.in-Err-status.ensures.bad whole s h ∙ ap Some (same_bad is)
+
+pub returns-in-Err-clause-bad : goal.returns-in-Err-clause-bad
+returns-in-Err-clause-bad c = λ code is whole s h.
+    row_wrong whole c.args.reading.now s h (fields_of c.args.fields.now) c.args.word c.requires.word (status_no_more s c.args.word c.requires.change) c.in-Err.code c.in-Err.ensures.wrong ∙ ap Some (same_bad is)
+
+pub returns-in-Err-status-clause-still : goal.returns-in-Err-status-clause-still
+returns-in-Err-status-clause-still c = λ code is. same_still c.args.reading.now _ c.in-Err-status.ensures.still
+
+pub returns-in-Err-clause-still : goal.returns-in-Err-clause-still
+returns-in-Err-clause-still c = λ code is. same_still c.args.reading.now _ refl
