@@ -67,8 +67,8 @@ fn may_wait(rising: ResourceSet, x: &Claimed) -> bool
     waits_first(x) || still_rises(rising.has(x.claim.seat), x)
 }
 
-/// Keeps of the wait of a claim what is due at the next moment.
 // Its values are many, and need not be handed over.
+/// Keeps of the wait of a claim what is due at the next moment.
 #[inline(always)]
 fn keep_wait(
     runs: &mut [Run],
@@ -116,8 +116,8 @@ fn keep_wait(
     );
 }
 
-/// Keeps of the wait of a claim at the next moment what is due there, if it waits.
 // Its values are many, and need not be handed over.
+/// Keeps of the wait of a claim at the next moment what is due there, if it waits.
 #[inline(always)]
 fn keep_due(
     runs: &mut [Run],

@@ -147,9 +147,9 @@ fn keep_section(writes: &mut Vec<Section>, section: &Section, next_least: &Claim
     push_section(writes, section);
 }
 
+// Its values are many, and need not be handed over.
 /// Keeps what is over of the wait of a write whose head was the one that is lost: that claim itself, if it was satisfied, and else
 /// the read that was taken for it. `section` is its own.
-// Its values are many, and need not be handed over.
 #[inline(always)]
 fn close_lost(
     run: &mut Run,
@@ -179,9 +179,9 @@ fn close_lost(
     keep_taken(&mut run.reads, taken, lengths, &lost.claim, last);
 }
 
+// Its values are many, and need not be handed over.
 /// Keeps what is over of the wait of a write at the next moment: where it had the head that is lost, what that leaves, and where its
 /// least claim came to be satisfied, the read that was taken for it.
-// Its values are many, and need not be handed over.
 #[inline(always)]
 fn go_on_write(
     run: &mut Run,
@@ -286,8 +286,8 @@ fn close_read_of(
     close_read(reads, lengths, keeper_at(c, last), last, next);
 }
 
-/// What a run keeps once the next moment comes: the wait of the claim goes on.
 // Its values are many, and need not be handed over.
+/// What a run keeps once the next moment comes: the wait of the claim goes on.
 #[inline(always)]
 fn go_on(
     run: &mut Run,
@@ -336,8 +336,8 @@ pub fn clear(run: &mut Run)
     run.writes.clear();
 }
 
-/// Keeps of the wait of a claim what is due at the next moment: it begins, if its upgrade rises, and else it goes on.
 // Its values are many, and need not be handed over.
+/// Keeps of the wait of a claim what is due at the next moment: it begins, if its upgrade rises, and else it goes on.
 #[inline(always)]
 pub fn keep_by(
     run: &mut Run,
