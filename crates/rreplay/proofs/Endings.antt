@@ -1,5 +1,5 @@
 -- The report of an event list that was read to its end.
-use Rattle.std.proofs.Common.{◌≡◌, ℕ, ◌<◌, true, false, List, [], ◌∷◌, ◌++◌, map, length, Some, None, refl, sym, ap, subst, ◌≤◌, ◌∙◌, arith, cond, nat_lt, eqb-true}
+use Rattle.std.proofs.Common.{◌≡◌, ℕ, ◌<◌, true, false, List, [], ◌∷◌, ◌++◌, map, length, Some, None, sym, ap, subst, ◌≤◌, ◌∙◌, arith, cond, nat_lt, eqb-true}
 use Rattle.std.specs.Prelude.{Bool, Option, Result, Ok, Err, IfOk, IfSome, IsSome, is_some, unwrap_or}
 use Rattle.std.specs.List.{range_with_len}
 use Rattle.std.proofs.lemmas.List.{same_lists}
@@ -21,11 +21,10 @@ use Rattle.rforms.proofs.facts.Walks.{no_fault}
 use Rattle.rforms.proofs.texts.Lists.{list_faults, list_told}
 use Rattle.rforms.proofs.forth.Rows.{right_bounds}
 use Rattle.rforms.proofs.lists.NoActs.{no_wrong_bound}
-use Rattle.rreport.specs.Behind.{past_in, IsToldWhole}
-use Rattle.rreport.specs.Gathered.{KnowsGathered}
-use Rattle.rreport.specs.Report.{ReportFields}
+use Rattle.rhistory.specs.Behind.{past_in, IsToldWhole}
+use Rattle.rhistory.specs.Gathered.{KnowsGathered}
 use Rattle.rpage.specs.Told.{told, leaves_from}
-use Rattle.rreport.proofs.Parts.{parts_are, ledgers_are as told_ledgers}
+use Rattle.rhistory.proofs.Parts.{parts_are, ledgers_are as told_ledgers}
 use Rattle.rwaits.specs.Past.{begun}
 use Rattle.rlines.specs.Knows.{Knows}
 use Rattle.rlines.specs.declared.reading.Reading.{Reading}
@@ -111,10 +110,9 @@ pub made_are : (reading : Reading) (s : SoFar) (names : Names) (head history end
     → history ≡ told (names_in s) (history_lines true (bound_in (head_in s) (entries_in s)) (head_in s) [] (entries_in s)) → ending ≡ told names (leaves_from 0 reading.ledgers.items ++ Ends ∷ [])
     → head ++ (history ++ ending) ≡ report_text (told_in s)
 made_are reading s names head history ending groups k ended own there e f g =
-    let r : ReportFields = record { resources = s.resources; groups = read_groups (head_in s); tasks = s.tasks; cap = cap_or s.tasks s.cap; entries = entries_in s; ledgers = reading.ledgers.items } in
-    parts_are r names groups.groups (cap_or reading.tasks reading.cap) reading.ledgers.items head history ending own
+    parts_are (told_in s) names groups.groups (cap_or reading.tasks reading.cap) reading.ledgers.items head history ending own
     (ap (λ (o : ReadGroups). o.groups) (one_some (sym there ∙ groups_are false reading s k ended)))
-    (λ i. cap_or (k.tasks i) (k.cap i)) refl (ledgers_are false reading s k) e
+    (λ i. cap_or (k.tasks i) (k.cap i)) (ledgers_are false reading s k) e
     (f ∙ ap (λ n. told n (history_lines true (bound_in (head_in s) (entries_in s)) (head_in s) [] (entries_in s))) (sym own)) g
 
 -- and each of them is its part of that text

@@ -20,9 +20,9 @@ use Rattle.rforms.proofs.lists.Histories.{history-push}
 use Rattle.rforms.proofs.lists.NoActs.{no_act}
 use Rattle.rforms.proofs.lists.Places.{placed, none_due, up_to_five}
 use Rattle.rforms.specs.Waits.{ended_in, no_bounds}
-use Rattle.rreport.specs.Open.{open_told}
+use Rattle.rhistory.specs.Open.{open_told}
 use Rattle.rpage.specs.Told.{step_told}
-use Rattle.rreport.proofs.Opening.{open-append}
+use Rattle.rhistory.proofs.Opening.{open-append}
 use Rattle.rreplay.specs.Replaying.{history_text}
 
 -- no list is longer by one item than itself

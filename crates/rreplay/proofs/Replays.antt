@@ -22,9 +22,9 @@ use Rattle.rforms.specs.Waits.{events_of, all_ended, ended_in, ended_from}
 use Rattle.rforms.proofs.lists.ToldWaits.{all_ended_push}
 use Rattle.rforms.specs.Faults.{code_of}
 use Rattle.rforms.proofs.lists.Places.{up_to_five}
-use Rattle.rreport.specs.Behind.{past_in, ComesNext}
-use Rattle.rreport.specs.Gathered.{KnowsGathered}
-use Rattle.rreport.specs.Open.{open_told}
+use Rattle.rhistory.specs.Behind.{past_in, ComesNext}
+use Rattle.rhistory.specs.Gathered.{KnowsGathered}
+use Rattle.rhistory.specs.Open.{open_told}
 use Rattle.rpage.specs.Told.{step_told}
 use Rattle.rlines.specs.Knows.{Knows, StandBehind, changes_in}
 use Rattle.rlines.specs.declared.reading.Reading.{Reading}

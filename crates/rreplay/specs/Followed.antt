@@ -4,7 +4,7 @@ use Rattle.rcover.specs.declared.wait_end.WaitEnd.{WaitEnd}
 use Rattle.rwaits.specs.Follows.{Follows}
 use Rattle.rwaits.specs.Past.{Past, begun}
 use Rattle.rwaits.specs.declared.following.Following.{Following}
-use Rattle.rreport.specs.Gathered.{KnowsGathered}
+use Rattle.rhistory.specs.Gathered.{KnowsGathered}
 use Rattle.rlines.specs.declared.reading.Reading.{Reading}
 use Rattle.rreplay.specs.Names.{names_read}
 use Rattle.rreplay.specs.declared.replaying.Telling.{Telling}

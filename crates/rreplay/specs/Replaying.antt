@@ -4,9 +4,9 @@ use Rattle.rforms.specs.Faults.{is_ended}
 use Rattle.rforms.specs.Reports.{history_lines}
 use Rattle.rforms.specs.SoFar.{SoFar, entries_in, head_in, names_in}
 use Rattle.rforms.specs.Waits.{all_ended, no_bounds}
-use Rattle.rreport.specs.Behind.{past_in}
-use Rattle.rreport.specs.Gathered.{KnowsGathered}
-use Rattle.rreport.specs.Open.{open_told}
+use Rattle.rhistory.specs.Behind.{past_in}
+use Rattle.rhistory.specs.Gathered.{KnowsGathered}
+use Rattle.rhistory.specs.Open.{open_told}
 use Rattle.rlines.specs.Knows.{Knows}
 use Rattle.rlines.specs.declared.reading.Reading.{Reading}
 use Rattle.rreplay.specs.declared.replaying.Replaying.{Replaying}

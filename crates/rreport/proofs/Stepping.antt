@@ -15,11 +15,11 @@ use Rattle.rforms.specs.Waits.{events_of, ended_in, ended_from, all_ended, no_bo
 use Rattle.rforms.proofs.lists.Histories.{history-push}
 use Rattle.rforms.proofs.lists.ToldWaits.{all_ended_push}
 use Rattle.rforms.proofs.written.Reaching.{after_is, accepted_from}
-use Rattle.rreport.specs.Behind.{past_in}
-use Rattle.rreport.specs.Open.{open_told}
+use Rattle.rhistory.specs.Behind.{past_in}
+use Rattle.rhistory.specs.Open.{open_told}
 use Rattle.rreport.specs.Report.{ReportFields, told_by, IsOverResources}
 use Rattle.rpage.specs.Told.{entry_told}
-use Rattle.rreport.proofs.Opening.{open_grown}
+use Rattle.rhistory.proofs.Opening.{open_grown}
 
 -- what holds of each item in turn holds of the item at a place
 in_turn_at : {A : Type 0} (Fits : List A → A → Type 0) (earlier xs : List A) (i : ℕ) (d : A) → AllInTurn Fits earlier xs → i < length xs → Fits (earlier ++ take i xs) (get_or xs i d)

@@ -1,31 +1,19 @@
 -- What was written of parts of a text.
-use Rattle.std.proofs.Common.{◌≡◌, ℕ, ◌+◌, List, ◌++◌, length, take, Option, None, Some, Result, Ok, Err, OnOk, OnErr, subst, sym, ap, ◌∙◌, arith, append_assoc}
-use Rattle.std.specs.Result.{IsOk, IfOk}
+use Rattle.std.proofs.Common.{ℕ, ◌+◌, List, ◌++◌, length, take, Option, None, Some, Result, Ok, Err, OnOk, sym, ap, ◌∙◌, arith, append_assoc}
+use Rattle.std.specs.Result.{IsOk}
 use Rattle.std.proofs.lemmas.List.{length-append, take-append-le}
 use Rattle.std.proofs.Math.Seq.{take-append-add}
 use Rattle.io_ends.specs.Ends.{Appends, AppendsPrefix}
 
--- a fact holds of an error too, and what is said of a success holds of one
-pub always_on_err : {T E P : Type 0} (r : Result T E) → P → OnErr r P
-always_on_err (Ok x) p = tt
-always_on_err (Err e) p = p
-
+-- what is said of a success holds of one
 pub always_on_ok : {T E P : Type 0} (r : Result T E) → P → OnOk r P
 always_on_ok (Ok x) p = p
 always_on_ok (Err e) p = tt
-
--- what follows from what is so of an answer is so of it too
-pub on_some_each : {T E : Type 0} {P Q : T → Type 0} (r : Result T E) → IfOk r P → ((x : T) → P x → Q x) → IfOk r Q
-on_some_each (Ok x) is so = so x is
-on_some_each (Err e) is so = tt
 
 -- what is so of a success is so where there is one
 pub given_ok : {T E P : Type 0} (r : Result T E) → IsOk r → OnOk r P → P
 given_ok (Ok v) is so = so
 given_ok (Err e) is so = cc
-
-pub when_ok : {T E P : Type 0} (r : Result T E) (v : T) → r ≡ Ok v → OnOk r P → P
-when_ok {T} {E} {P} r v is said = subst (λ (s : Result T E). OnOk s P) is said
 
 module _ (a b : List ℕ) where
   -- the first, and then the second, are both

@@ -1,6 +1,3 @@
-pub mod Gaps
-pub mod Open
-pub mod Gathered
-pub mod Behind
 pub mod Report
 pub mod Codes
+pub mod Stepped

@@ -26,7 +26,7 @@ use Rattle.rforms.specs.Reports.{IsRightEntry, lock_after}
 use Rattle.rforms.specs.Written.{IsTellable, MayBeWritten}
 use Rattle.rforms.proofs.lists.Histories.{lock-tasks}
 use Rattle.rreport.specs.Report.{ReportFields, told_by as report_told}
-use Rattle.rreport.proofs.Parts.{some_length}
+use Rattle.rreport.proofs.Counts.{some_length}
 use Rattle.rscript.specs.Scripts.{ScriptFields, IsScript}
 use Rattle.rscript.specs.Statements.{FitsBehind, IsWithin, amount_of}
 use Rattle.rscript.specs.declared.statement.Statement.{Statement}

@@ -1,6 +1,6 @@
 use Rattle.std.proofs.Common.{ℕ, [], subst}
 use Rattle.rwaits.specs.Past.{begun}
-use Rattle.rreport.specs.Gathered.{KnowsGathered}
+use Rattle.rhistory.specs.Gathered.{KnowsGathered}
 use Rattle.rreplay.proofs.replaying.telling_of.Goals as goal
 
 pub returns-clause-gathered : goal.returns-clause-gathered

@@ -1,7 +1,7 @@
 use Rattle.std.proofs.Common.{◌≡◌, [], ap, subst, length, ◌∙◌}
 use Rattle.rforms.specs.Heads.{read_groups}
 use Rattle.rwaits.specs.Past.{begun}
-use Rattle.rreport.specs.Gathered.{KnowsGathered}
+use Rattle.rhistory.specs.Gathered.{KnowsGathered}
 use Rattle.rreport.specs.Report.{ReportFields, told_by}
 use Rattle.rreport.proofs.history.history_of.Goals as goal
 

@@ -2,10 +2,10 @@ use Rattle.std.proofs.Common.{◌≡◌, ◌++◌, ℕ, List, [], true, Option, 
 use Rattle.rforms.specs.Heads.{Head}
 use Rattle.rforms.specs.Reports.{history_lines}
 use Rattle.rforms.specs.Waits.{no_bounds}
-use Rattle.rreport.specs.Open.{open_told}
+use Rattle.rhistory.specs.Open.{open_told}
 use Rattle.rreport.specs.Report.{ReportFields, told_by}
 use Rattle.rreport.proofs.Stepping.{groups_are}
-use Rattle.rreport.proofs.Writing.{on_some_each}
+use Rattle.rhistory.proofs.Results.{on_some_each}
 use Rattle.rreport.proofs.history.history_with.Goals as goal
 
 pub close_history-requires : goal.close_history-requires

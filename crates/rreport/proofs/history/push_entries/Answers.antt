@@ -4,8 +4,9 @@ use Rattle.rforms.specs.Heads.{Head}
 use Rattle.rforms.specs.Reports.{Entry, IsLawful}
 use Rattle.rforms.specs.Waits.{all_ended}
 use Rattle.rwaits.specs.Past.{Past, with_event}
-use Rattle.rreport.specs.Behind.{AreBehind, past_in}
-use Rattle.rreport.specs.Gathered.{KnowsGathered}
+use Rattle.rhistory.specs.Behind.{past_in}
+use Rattle.rhistory.specs.Gathered.{KnowsGathered}
+use Rattle.rreport.specs.Stepped.{AreBehind}
 use Rattle.rreport.specs.Report.{ReportFields, told_by}
 use Rattle.rreport.proofs.Stepping.{comes_here, few_events, past_more, ended_more, text_more, nothing_told, nothing_ended}
 use Rattle.rreport.proofs.history.push_entries.Goals as goal

@@ -1,9 +1,10 @@
 use Rattle.std.proofs.Common.{◌≡◌, ◌++◌, [], true, take}
 use Rattle.rforms.specs.Reports.{history_lines}
 use Rattle.rforms.specs.Waits.{no_bounds, all_ended}
-use Rattle.rreport.specs.Behind.{past_in, AreBehind}
-use Rattle.rreport.specs.Gathered.{KnowsGathered}
-use Rattle.rreport.specs.Open.{open_told}
+use Rattle.rhistory.specs.Behind.{past_in}
+use Rattle.rhistory.specs.Gathered.{KnowsGathered}
+use Rattle.rhistory.specs.Open.{open_told}
+use Rattle.rreport.specs.Stepped.{AreBehind}
 use Rattle.rreport.specs.Report.{told_by}
 use Rattle.rreport.proofs.history.push_entries.Given as goal
 

@@ -7,10 +7,10 @@ use Rattle.rmodel.specs.Changes.{changes_between}
 use Rattle.rmodel.specs.Steps.{Comes, next}
 use Rattle.rwaits.specs.Past.{Past, start_of, state_of, with_event}
 use Rattle.rforms.specs.Reports.{Entry}
-use Rattle.rreport.specs.Behind.{AreBehind}
-use Rattle.rreport.specs.Gathered.{KnowsGathered}
-use Rattle.rreport.specs.Open.{open_told}
 use Rattle.rpage.specs.Told.{entry_told}
+use Rattle.rhistory.specs.Gathered.{KnowsGathered}
+use Rattle.rhistory.specs.Open.{open_told}
+use Rattle.rreport.specs.Stepped.{AreBehind}
 use Rattle.rreport.proofs.Writing.{always_on_ok}
 use Rattle.rreport.proofs.history.push_next.Goals as goal
 

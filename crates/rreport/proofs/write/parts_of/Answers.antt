@@ -1,6 +1,7 @@
 use Rattle.std.proofs.Common.{ap, ◌∙◌}
-use Rattle.rreport.specs.Report.{ReportFields}
-use Rattle.rreport.proofs.Parts.{few_ledgers, parts_are}
+use Rattle.rhistory.proofs.Parts.{parts_are}
+use Rattle.rreport.specs.Report.{ReportFields, told_by}
+use Rattle.rreport.proofs.Counts.{few_ledgers}
 use Rattle.rreport.proofs.write.parts_of.Goals as goal
 
 pub ending_of-requires : goal.ending_of-requires
@@ -10,8 +11,8 @@ ending_of-requires c =
 pub returns : goal.returns
 returns c =
     let view = c.report.view_is in
-    parts_are c.args.report.now c.in_ok-names.names c.report.inside.groups.groups c.report.inside.cap c.deref.result.now c.in_ok-head.head c.in_ok-history.history c.in_ok-ending.ending
+    parts_are (told_by c.args.report.now) c.in_ok-names.names c.report.inside.groups.groups c.report.inside.cap c.deref.result.now c.in_ok-head.head c.in_ok-history.history c.in_ok-ending.ending
     (c.in_ok-names.ensures ∙ (λ i. record { resources = (view i).resources; tasks = (view i).tasks }))
     (ap (λ (r : ReportFields). r.groups.groups) view) (ap (λ (r : ReportFields). r.cap) view)
-    (c.deref.ensures.value ∙ ap (λ (r : ReportFields). r.ledgers) view) c.requires.ledgers
+    (c.deref.ensures.value ∙ ap (λ (r : ReportFields). r.ledgers) view ∙ c.requires.ledgers)
     c.in_ok-head.ensures c.in_ok-history.ensures c.in_ok-ending.ensures

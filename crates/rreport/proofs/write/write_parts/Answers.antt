@@ -1,6 +1,7 @@
 use Rattle.std.proofs.Common.{◌++◌}
 use Rattle.std.proofs.lemmas.Result.{on_ok_weaker, on_err_weaker}
-use Rattle.rreport.proofs.Writing.{always_on_err, appends_both, prefix_before, prefix_behind}
+use Rattle.rhistory.proofs.Results.{always_on_err}
+use Rattle.rreport.proofs.Writing.{appends_both, prefix_before, prefix_behind}
 use Rattle.rreport.proofs.write.write_parts.Goals as goal
 
 pub returns-in_err-write_all-2-clause-prefix : goal.returns-in_err-write_all-2-clause-prefix

@@ -2,7 +2,7 @@ use Rattle.std.proofs.Common.{false, Err, ap}
 use Rattle.csv.specs.Records.{fields_of}
 use Rattle.rforms.specs.SoFar.{entries_in, head_in}
 use Rattle.rforms.specs.Waits.{all_ended}
-use Rattle.rreport.specs.Behind.{past_in}
+use Rattle.rhistory.specs.Behind.{past_in}
 use Rattle.rreplay.proofs.Following.{never_act}
 use Rattle.rreplay.proofs.Replays.{one_err, followed_event, still_told, told_event, telling_kept, event_history, other_history, some_telling, other_untold}
 use Rattle.rreplay.proofs.replaying.Replaying.take_record.Goals as goal

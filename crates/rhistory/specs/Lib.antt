@@ -1,0 +1,4 @@
+pub mod Gaps
+pub mod Open
+pub mod Gathered
+pub mod Behind
