@@ -1,7 +1,7 @@
 -- The line of the fault of a script, as it is made.
 use Rattle.std.proofs.Common.{◌≡◌, ℕ, [], ◌∷◌, ◌++◌, codes, decimal, append_assoc}
-use Rattle.rscript.specs.Codes.{code_number}
-use Rattle.rscript.specs.declared.code.Code.{Code}
+use Rattle.rscript_records.specs.Codes.{code_number}
+use Rattle.rscript_records.specs.declared.code.Code.{Code}
 use Rattle.ranswer.specs.Outputs.{script_line}
 
 pub line_is : (line : ℕ) (code : Code) → script_line line code ≡ (((codes "error," ++ decimal line) ++ (44 ∷ [])) ++ decimal (code_number code)) ++ (10 ∷ [])

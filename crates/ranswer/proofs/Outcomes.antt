@@ -11,11 +11,11 @@ use Rattle.rforms.specs.declared.fault.Code.{Code}
 use Rattle.rforms.specs.declared.fault.Fault.{Fault}
 use Rattle.rforms.proofs.back.Rows.{spelled_clean}
 use Rattle.rforms.proofs.texts.Records.{rows_unique}
+use Rattle.rscript_records.specs.declared.code.Code as script_code
 use Rattle.rscript.specs.Scripts.{ScriptFields}
 use Rattle.rscript.specs.Scripts as scripts
 use Rattle.rscript.specs.Texts as scripts_read
 use Rattle.rscript.specs.Faults as script_faults
-use Rattle.rscript.specs.declared.code.Code as script_code
 use Rattle.rscript.proofs.back.Rows.{spelled_clean as script_clean}
 use Rattle.rwatch.specs.Seen.{Seen}
 use Rattle.ranswer.specs.Outputs.{IsInput, IsOutput, IsFaultLine, refusal_of}

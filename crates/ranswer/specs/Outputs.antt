@@ -10,11 +10,11 @@ use Rattle.rmodel.specs.Steps.{after}
 use Rattle.rbound_text.specs.BoundText.{bounds_text}
 use Rattle.rpage.specs.ErrorLine.{error_line}
 use Rattle.rreport.specs.Report.{ReportFields, told_by}
-use Rattle.rscript.specs.Codes.{code_number}
+use Rattle.rscript_records.specs.Codes.{code_number}
+use Rattle.rscript_records.specs.declared.code.Code as script_code
 use Rattle.rscript.specs.Scripts.{ScriptFields}
 use Rattle.rscript.specs.Scripts as scripts
 use Rattle.rscript.specs.Texts as scripts_read
-use Rattle.rscript.specs.declared.code.Code as script_code
 use Rattle.rrun.specs.Reporting.{IsReportOf}
 use Rattle.rwatch.specs.Seen.{Seen, told_all}
 use Rattle.rdrill.specs.Draws.{drill_opening}

@@ -3,8 +3,8 @@ use Rattle.std.specs.Prelude.{◌≡◌, ℕ, true, false, List, [], ◌∷◌, 
 use Rattle.rforms.specs.Takers.{IsFirstFault}
 use Rattle.rforms.specs.declared.fault.Code.{Code}
 use Rattle.rforms.specs.declared.fault.Fault.{Fault}
+use Rattle.rscript_records.specs.declared.code.Code as script_code
 use Rattle.rscript.specs.Texts as scripts_read
-use Rattle.rscript.specs.declared.code.Code as script_code
 use Rattle.rwatch.specs.Seen.{Seen}
 use Rattle.ranswer.specs.declared.command.Command.{Command}
 use Rattle.ranswer.specs.declared.command.Command.TheVariants.{Run, Replay, Audit, Bound, Drill}

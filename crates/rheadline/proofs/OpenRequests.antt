@@ -28,10 +28,10 @@ use Rattle.rmodel.proofs.reaching.Came.{among_map}
 use Rattle.rmodel.proofs.reaching.Reached.{reached_next}
 use Rattle.rmodel.proofs.reaching.Soundness.{seat_is_idle, same_claims, sound_changed}
 use Rattle.rlock.specs.Known.{entries_by}
-use Rattle.rscript.specs.Statements.{section_next, with_asked, with_risen}
-use Rattle.rscript.specs.declared.section.Section.{Section}
-use Rattle.rscript.specs.declared.statement.Statement.{Statement}
-use Rattle.rscript.specs.declared.statement.Statement.TheVariants as statement
+use Rattle.rscript_records.specs.Statements.{section_next, with_asked, with_risen}
+use Rattle.rscript_records.specs.declared.section.Section.{Section}
+use Rattle.rscript_records.specs.declared.statement.Statement.{Statement}
+use Rattle.rscript_records.specs.declared.statement.Statement.TheVariants as statement
 use Rattle.rsection.specs.Runs.{Told, told_by, run_of, IsRunOf, deeds_next}
 use Rattle.rforms.specs.Reports.{Entry}
 use Rattle.rforms.specs.Waits.{events_of}

@@ -16,8 +16,8 @@ use Rattle.rmodel.specs.State.{LockState}
 use Rattle.rmodel.specs.Steps.{Steps}
 use Rattle.rmodel.specs.WellFormed.{Among}
 use Rattle.rlock.specs.Known.{entries_by}
+use Rattle.rscript_records.specs.declared.statement.Statement.{Statement}
 use Rattle.rscript.specs.Scripts.{ScriptFields}
-use Rattle.rscript.specs.declared.statement.Statement.{Statement}
 use Rattle.rsection.specs.Runs.{IsRunOf}
 use Rattle.rforms.specs.Heads.{Head, read_groups, opening_of}
 use Rattle.rforms.specs.Lines.{Line, Leaves}

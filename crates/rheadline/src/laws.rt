@@ -5,8 +5,8 @@ ghost use Rattle.rclaim.specs.Events.{seat_of};
 ghost use Rattle.rlock.specs.Known.{entries_by};
 ghost use Rattle.rforms.specs.Reports.{Entry, Report};
 ghost use Rattle.rforms.specs.Written.{MayBeWritten};
+ghost use Rattle.rscript_records.specs.declared.statement.Statement.{Statement};
 ghost use Rattle.rscript.specs.Scripts.{ScriptFields, IsScript};
-ghost use Rattle.rscript.specs.declared.statement.Statement.{Statement};
 ghost use Rattle.rsection.specs.Runs.{IsRunOf};
 ghost use Rattle.rheadline.specs.Headline.{IsKept, IsHeadline};
 

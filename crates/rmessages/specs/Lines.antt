@@ -5,8 +5,8 @@ use Rattle.rforms.specs.declared.fault.Code.TheVariants as list
 use Rattle.ranswer.specs.declared.status.ToolStatus.{ToolStatus}
 use Rattle.ranswer.specs.declared.told.Told.{Told}
 use Rattle.ranswer.specs.declared.told.Told.TheVariants as what
-use Rattle.rscript.specs.Codes.{code_number}
-use Rattle.rscript.specs.declared.code.Code.{Code as ScriptCode}
+use Rattle.rscript_records.specs.Codes.{code_number}
+use Rattle.rscript_records.specs.declared.code.Code.{Code as ScriptCode}
 use Rattle.rwatch.specs.Seen.{Seen}
 use Rattle.rmessages.specs.Meanings.{status_meaning, kind_word, script_meaning, list_meaning, refusal_meaning}
 

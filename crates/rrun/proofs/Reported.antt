@@ -21,8 +21,8 @@ use Rattle.rstate.proofs.homes.Lists.{same_item, get_there, get_replicate}
 use Rattle.rforms.specs.Heads.{Head, is_nil}
 use Rattle.rforms.specs.Reports.{IsLawful, IsRightEntry, ledger_after}
 use Rattle.rreport.specs.Report.{ReportFields, told_by}
+use Rattle.rscript_records.specs.declared.statement.Statement.{Statement}
 use Rattle.rscript.specs.Scripts.{ScriptFields, IsScript}
-use Rattle.rscript.specs.declared.statement.Statement.{Statement}
 use Rattle.rguard.specs.Closing.{IsClosedBy, IsLeft}
 use Rattle.rguard.specs.Seats.{SeatOf, IsOf, IsIdle}
 use Rattle.rsection.specs.Runs.{IsRunOf}

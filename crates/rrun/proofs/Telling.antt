@@ -27,10 +27,10 @@ use Rattle.rforms.specs.Written.{IsTellable, MayBeWritten}
 use Rattle.rforms.proofs.lists.Histories.{lock-tasks}
 use Rattle.rreport.specs.Report.{ReportFields, told_by as report_told}
 use Rattle.rreport.proofs.Counts.{some_length}
+use Rattle.rscript_records.specs.Statements.{FitsBehind, IsWithin, amount_of}
+use Rattle.rscript_records.specs.declared.statement.Statement.{Statement}
+use Rattle.rscript_records.specs.declared.statement.Statement.TheVariants as statement
 use Rattle.rscript.specs.Scripts.{ScriptFields, IsScript}
-use Rattle.rscript.specs.Statements.{FitsBehind, IsWithin, amount_of}
-use Rattle.rscript.specs.declared.statement.Statement.{Statement}
-use Rattle.rscript.specs.declared.statement.Statement.TheVariants as statement
 use Rattle.rscript.proofs.Tasks.{task_at}
 use Rattle.rrun.specs.Reporting.{IsReportOf}
 use Rattle.rsection.specs.Runs.{Told, told_by, deed_of, deeds_next, entry_now, run_of}

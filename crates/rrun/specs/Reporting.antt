@@ -9,8 +9,8 @@ use Rattle.rvalue.specs.Ledgers.{opening_ledger}
 use Rattle.rstate.specs.Histories.{Beginning}
 use Rattle.rforms.specs.Reports.{IsLawful}
 use Rattle.rreport.specs.Report.{ReportFields, told_by, IsOverResources, HasItsLedgers}
+use Rattle.rscript_records.specs.declared.statement.Statement.{Statement}
 use Rattle.rscript.specs.Scripts.{ScriptFields}
-use Rattle.rscript.specs.declared.statement.Statement.{Statement}
 use Rattle.rguard.specs.Seats.{SeatOf}
 use Rattle.rsection.specs.Runs.{HasRun, IsRunOf}
 use Rattle.rtasks.specs.Tasks.{AreSeatsFor}

@@ -1,7 +1,6 @@
 pub mod facts
 pub mod forth
 pub mod back
-pub mod lines
 pub mod texts
 pub mod Takes
 pub mod Tasks

@@ -20,23 +20,24 @@ use Rattle.rforms.specs.Fields.{paired, read, all_known, all_counted, Said, Fres
 use Rattle.rforms.specs.Heads.{is_nil}
 use Rattle.rforms.specs.SetFields.{set_told}
 use Rattle.rforms.specs.Walks.{when, or_else, first_of}
-use Rattle.rscript.specs.Statements.{section_next}
-use Rattle.rscript.specs.Words.{fields_of, word_in}
-use Rattle.rscript.specs.Lines.{Line, Opens, HasResource, HasGroup, HasTask, Does, Ends, names_of, line_by, meant_as, meaning}
+use Rattle.rscript_records.specs.Statements.{section_next}
+use Rattle.rscript_records.specs.Words.{fields_of, word_in}
+use Rattle.rscript_records.specs.Lines.{Line, Opens, HasResource, HasGroup, HasTask, Does, Ends, names_of, line_by, meant_as, meaning}
+use Rattle.rscript_records.specs.Causes.{name_causes, line_causes, meant_causes, said_causes, statement_causes, groups_in}
+use Rattle.rscript_records.specs.Told.{is_statement, Tells, IsWrong}
+use Rattle.rscript_records.specs.declared.code.Code.{Code}
+use Rattle.rscript_records.specs.declared.code.Code.TheVariants.{UnknownName, EmptyGroup}
+use Rattle.rscript_records.specs.declared.section.Section.{Section}
+use Rattle.rscript_records.specs.declared.statement.Statement.{Statement}
+use Rattle.rscript_records.specs.declared.word.Word.{Word}
+use Rattle.rscript_records.specs.declared.word.Word.TheVariants as word
+use Rattle.rscript_records.proofs.facts.Causes.{first_of-append}
+use Rattle.rscript_records.proofs.facts.Shapes.{long_of, one_row, two_row}
+use Rattle.rscript_records.proofs.facts.Tells.{line_first, unknown_wrong, told_causes}
 use Rattle.rscript.specs.SoFar.{SoFar, steps_in, section_of, followed_by, with_line, with_meaning, with_row}
-use Rattle.rscript.specs.Faults.{name_causes, line_causes, meant_causes, said_causes, placed_causes, statement_causes}
-use Rattle.rscript.specs.Told.{is_statement, Tells, IsWrong}
-use Rattle.rscript.specs.Reading.{groups_in, statements_in, latest_in, Knows, Adds, Closes, Takes, Refuses}
-use Rattle.rscript.specs.declared.code.Code.{Code}
-use Rattle.rscript.specs.declared.code.Code.TheVariants.{UnknownName, BadNumber, EmptyGroup}
+use Rattle.rscript.specs.Faults.{placed_causes}
+use Rattle.rscript.specs.Reading.{statements_in, latest_in, Knows, Adds, Closes, Takes, Refuses}
 use Rattle.rscript.specs.declared.reading.Reading.{Reading}
-use Rattle.rscript.specs.declared.section.Section.{Section}
-use Rattle.rscript.specs.declared.statement.Statement.{Statement}
-use Rattle.rscript.specs.declared.word.Word.{Word}
-use Rattle.rscript.specs.declared.word.Word.TheVariants as word
-use Rattle.rscript.proofs.facts.Causes.{first_of-append}
-use Rattle.rscript.proofs.facts.Shapes.{long_of, one_row, two_row}
-use Rattle.rscript.proofs.facts.Tells.{unknown_wrong, told_causes}
 
 -- ---- what a record says
 
@@ -46,14 +47,11 @@ record Says (resources : List (List ℕ)) (w : Word) (row : Row) (line : Line) :
   pub counted : all_counted (fields_of w) row ≡ true
   pub means : meant_as (names_of resources) row (Some w) ≡ Some line
 
-line_first : (a b : Bool) (line : List (Option Code)) → a ≡ true → b ≡ true → first_of (when (not a) UnknownName ∷ when (not b) BadNumber ∷ line) ≡ first_of line
-line_first a b line p q = rw (p, q) refl
-
 module _ (s : SoFar) (w : Word) (row : Row) where
-  said_line : (line : Line) → Says s.resources w row line → first_of (said_causes s row w) ≡ first_of (line_causes s line)
+  said_line : (line : Line) → Says s.resources w row line → first_of (said_causes s.resources s.groups (section_of s.latest) row w) ≡ first_of (line_causes s.groups (section_of s.latest) line)
   said_line line h =
-      line_first _ _ (meant_causes s (meant_as (names_of s.resources) row (Some w))) h.known h.counted
-      ∙ ap (λ (o : Option Line). first_of (meant_causes s o)) h.means
+      line_first _ _ (meant_causes s.groups (section_of s.latest) (meant_as (names_of s.resources) row (Some w))) h.known h.counted
+      ∙ ap (λ (o : Option Line). first_of (meant_causes s.groups (section_of s.latest) o)) h.means
 
   adds_line : (line : Line) → word_in row ≡ Some w → meant_as (names_of s.resources) row (Some w) ≡ Some line → with_row s row ≡ with_line s line
   unfolding with_row meaning
@@ -137,6 +135,11 @@ on_ok (Err e) f h = tt
 pub same_bad : {T : Type 0} {a b : Code} → ◌≡◌ {A = Result T (RowErr Code)} (Err (why.Bad a)) (Err (why.Bad b)) → a ≡ b
 same_bad {T} {a} {b} e = cc
 
+-- what is wrong with the fields of a record is the same by the resources that the reader knows
+by_known : (resources : List (List ℕ)) (s : SoFar) (row : Row) (w : Word) → s.resources ≡ resources
+    → first_of (said_causes s.resources s.groups (section_of s.latest) row w) ≡ first_of (said_causes resources s.groups (section_of s.latest) row w)
+by_known resources s row w same = ap (λ (rs : List (List ℕ)). first_of (said_causes rs s.groups (section_of s.latest) row w)) same
+
 -- ---- records
 
 module _ (r : Reading) (row : Row) where
@@ -168,7 +171,7 @@ module _ (r : Reading) (row : Row) where
       let last = k.last in
       let low : s.last ≤ 2 = omega (arith, last, early) in
       let named : first_of (name_causes RESOURCES s.resources (field_of row 1)) ≡ None = ap (λ (names : List (List ℕ)). first_of (name_causes RESOURCES names (field_of row 1))) (sym k.resources) ∙ free in (
-        both_none (name_causes RESOURCES s.resources (field_of row 1)) (said_causes s row word.Resource) named (said_line s word.Resource row (HasResource (field_of row 1)) says),
+        both_none (name_causes RESOURCES s.resources (field_of row 1)) (said_causes s.resources s.groups (section_of s.latest) row word.Resource) named (said_line s word.Resource row (HasResource (field_of row 1)) says),
         subst (λ (t : SoFar). Knows (record r { last = 2; resources = table }) t) (sym (adds_line s word.Resource row (HasResource (field_of row 1)) is says.means)) (record {
           last = refl;
           resources = grown ∙ ap (λ (names : List (List ℕ)). names ++ field_of row 1 ∷ []) k.resources;
@@ -187,7 +190,7 @@ module _ (r : Reading) (row : Row) where
   room_left : (s : SoFar) → Knows r s → (length (groups_in r.groups) == GROUPS) ≡ false → (length s.groups == GROUPS) ≡ false
   room_left s k room = ap (λ (gs : List Set). length gs == GROUPS) (sym k.groups) ∙ room
 
-  with_room : (s : SoFar) → (length s.groups == GROUPS) ≡ false → first_of (placed_causes s row word.Group) ≡ first_of (said_causes s row word.Group)
+  with_room : (s : SoFar) → (length s.groups == GROUPS) ≡ false → first_of (placed_causes s row word.Group) ≡ first_of (said_causes s.resources s.groups (section_of s.latest) row word.Group)
   with_room s room = rw room refl
 
   pub takes_group : (set : Set) (groups : Option ReadGroups) → word_in row ≡ Some word.Group → set_told r.resources (field_of row 1) ≡ Some set → (length (groups_in r.groups) == GROUPS) ≡ false → (len set == 0) ≡ false
@@ -211,7 +214,7 @@ module _ (r : Reading) (row : Row) where
       )
 
   pub refuses_unknown : word_in row ≡ Some word.Group → set_told r.resources (field_of row 1) ≡ None → (length (groups_in r.groups) == GROUPS) ≡ false → Refuses r row word.Group UnknownName
-  refuses_unknown is none room s k = with_room s (room_left s k room) ∙ group_unknown r.resources row is none s (sym k.resources)
+  refuses_unknown is none room s k = with_room s (room_left s k room) ∙ by_known r.resources s row word.Group (sym k.resources) ∙ group_unknown r.resources row is none s.groups (section_of s.latest)
 
   pub refuses_empty : (set : Set) → word_in row ≡ Some word.Group → set_told r.resources (field_of row 1) ≡ Some set → (length (groups_in r.groups) == GROUPS) ≡ false → (len set == 0) ≡ true
       → Refuses r row word.Group EmptyGroup
@@ -223,7 +226,7 @@ module _ (r : Reading) (row : Row) where
 
   task_free : (s : SoFar) → is_nil s.resources ≡ false → first_of (name_causes RESOURCES s.tasks (field_of row 1)) ≡ None → Says s.resources word.Task row (HasTask (field_of row 1))
       → first_of (placed_causes s row word.Task) ≡ None
-  task_free s some named says = rw some (both_none (name_causes RESOURCES s.tasks (field_of row 1)) (said_causes s row word.Task) named (said_line s word.Task row (HasTask (field_of row 1)) says))
+  task_free s some named says = rw some (both_none (name_causes RESOURCES s.tasks (field_of row 1)) (said_causes s.resources s.groups (section_of s.latest) row word.Task) named (said_line s word.Task row (HasTask (field_of row 1)) says))
 
   steps_after : (none : Bool) (s : SoFar) (closed : Reading) (table : List (List ℕ)) (groups : Option ReadGroups) → Knows r s → none ≡ is_nil s.tasks → Closes none (record r { tasks = table; groups = groups }) closed
       → (statements_in closed.steps.items ≡ steps_in s) × (closed.latest.items ≡ []) × (closed ≡ record r { tasks = table; groups = groups; steps = closed.steps; latest = closed.latest })
@@ -301,7 +304,7 @@ module _ (r : Reading) (row : Row) where
 
   -- ---- statements
 
-  placed_said : (s : SoFar) (w : Word) → is_statement w ≡ true → first_of (placed_causes s row w) ≡ first_of (said_causes s row w)
+  placed_said : (s : SoFar) (w : Word) → is_statement w ≡ true → first_of (placed_causes s row w) ≡ first_of (said_causes s.resources s.groups (section_of s.latest) row w)
   placed_said s (word.Begin kind) h = refl
   placed_said s word.Show h = refl
   placed_said s word.Add h = refl
@@ -313,12 +316,12 @@ module _ (r : Reading) (row : Row) where
   placed_said s _ h = absurd (true≢false (sym h))
 
   pub refuses_wrong : (w : Word) (code : Code) → is_statement w ≡ true → IsWrong r.resources w row code → Refuses r row w code
-  refuses_wrong w code kind wrong s k = placed_said s w kind ∙ wrong s (sym k.resources)
+  refuses_wrong w code kind wrong s k = placed_said s w kind ∙ by_known r.resources s row w (sym k.resources) ∙ wrong s.groups (section_of s.latest)
 
   statement_code : (w : Word) (st : Statement) → is_statement w ≡ true → Tells r.resources w row st → (s : SoFar) → Knows r s
       → first_of (placed_causes s row w) ≡ first_of (statement_causes (groups_in r.groups) r.section st)
   statement_code w st kind tells s k =
-      placed_said s w kind ∙ told_causes r.resources w row st tells s (sym k.resources) ∙ (λ i. first_of (statement_causes (sym k.groups i) (sym k.section i) st))
+      placed_said s w kind ∙ by_known r.resources s row w (sym k.resources) ∙ told_causes r.resources w row st tells s.groups (section_of s.latest) ∙ (λ i. first_of (statement_causes (sym k.groups i) (sym k.section i) st))
 
   pub refuses_statement : (w : Word) (st : Statement) (code : Code) → is_statement w ≡ true → Tells r.resources w row st → first_of (statement_causes (groups_in r.groups) r.section st) ≡ Some code
       → Refuses r row w code

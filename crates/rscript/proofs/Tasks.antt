@@ -8,11 +8,11 @@ use Rattle.rclaim.specs.Requests.{RequestFields}
 use Rattle.rmodel.specs.Claims.{is_admitted}
 use Rattle.rvalue.specs.InTurn.{AllInTurn}
 use Rattle.rforms.proofs.facts.Choices.{some_is, some_none}
-use Rattle.rscript.specs.Statements.{FitsBehind, IsTask}
+use Rattle.rscript_records.specs.Statements.{FitsBehind, IsTask}
+use Rattle.rscript_records.specs.declared.statement.Statement.{Statement}
+use Rattle.rscript_records.specs.declared.statement.Statement.TheVariants as statement
+use Rattle.rscript_records.proofs.facts.Causes.{undeclared}
 use Rattle.rscript.specs.Scripts.{ScriptFields, IsScript}
-use Rattle.rscript.specs.declared.statement.Statement.{Statement}
-use Rattle.rscript.specs.declared.statement.Statement.TheVariants as statement
-use Rattle.rscript.proofs.facts.Causes.{undeclared}
 
 at_place : {X : Type 0} (P : X → Type 0) (xs : List X) (k : ℕ) (x : X) → AllByRecursion P xs → slice_get xs k ≡ Some x → P x
 at_place P [] k x all is = absurd (some_none is)

@@ -1,2 +1,3 @@
 pub mod OneScript
 pub mod Taken
+pub mod Written

@@ -1,29 +1,21 @@
 -- What is wrong with a record, told from it and from what the records before it have said.
-use Rattle.std.specs.Prelude.{ℕ, Bool, true, false, not, ◌&&◌, ◌==◌, nat_le, List, [], ◌∷◌, ◌++◌, length, fold, Option, Some, None, option_map}
-use Rattle.std.specs.FinSet.{len}
-use Rattle.rset.specs.Sets.{Set}
-use Rattle.rset.specs.Names.{is_name, knows}
+use Rattle.std.specs.Prelude.{ℕ, Bool, true, false, not, ◌&&◌, ◌==◌, nat_le, List, [], ◌∷◌, ◌++◌, length, fold, Option, Some, None}
 use Rattle.rset.specs.declared.TheConstants.{RESOURCES, SEATS}
 use Rattle.rexpand.specs.declared.TheConstants.{GROUPS}
-use Rattle.rclaim.specs.declared.request.RequestErr.{RequestErr}
-use Rattle.rclaim.specs.declared.request.RequestErr.TheVariants as refused
 use Rattle.rforms.specs.Records.{Row}
 use Rattle.rforms.specs.Decided.{field_of}
-use Rattle.rforms.specs.Events.{request_refusal}
-use Rattle.rforms.specs.Fields.{all_counted, all_known}
 use Rattle.rforms.specs.Heads.{is_nil}
 use Rattle.rforms.specs.Walks.{when, first_of, fault_from}
-use Rattle.rscript.specs.Statements.{is_there, is_held, is_writable, may_ask_for}
-use Rattle.rscript.specs.Words.{fields_of, word_in}
-use Rattle.rscript.specs.Lines.{Line, HasGroup, Does, names_of, meant_as}
-use Rattle.rscript.specs.SoFar.{SoFar, stands, at_end, section_of, nothing_yet, with_row}
-use Rattle.rscript.specs.declared.section.Section.{Section}
-use Rattle.rscript.specs.declared.statement.Statement.{Statement}
-use Rattle.rscript.specs.declared.statement.Statement.TheVariants as statement
-use Rattle.rscript.specs.declared.word.Word.{Word}
-use Rattle.rscript.specs.declared.word.Word.TheVariants as word
-use Rattle.rscript.specs.declared.code.Code.{Code}
-use Rattle.rscript.specs.declared.code.Code.TheVariants.{BadField, BadOrder, NoResources, NoTask, BadName, Repeated, TooMany, UnknownName, BadNumber, EmptyGroup, EmptyRequest, Undeclared, FirstOutside, NotHeld, NotWritable, NoEnd}
+use Rattle.rscript_records.specs.Statements.{is_there}
+use Rattle.rscript_records.specs.Words.{word_in}
+use Rattle.rscript_records.specs.Causes.{name_causes, said_causes}
+use Rattle.rscript_records.specs.Places.{stands, at_end}
+use Rattle.rscript_records.specs.declared.section.Section.{Section}
+use Rattle.rscript_records.specs.declared.word.Word.{Word}
+use Rattle.rscript_records.specs.declared.word.Word.TheVariants as word
+use Rattle.rscript_records.specs.declared.code.Code.{Code}
+use Rattle.rscript_records.specs.declared.code.Code.TheVariants.{BadField, BadOrder, NoResources, NoTask, TooMany, NoEnd}
+use Rattle.rscript.specs.SoFar.{SoFar, section_of, nothing_yet, with_row}
 
 -- ---- places
 
@@ -47,51 +39,12 @@ is_end _ = false
 
 -- ---- what is declared
 
--- what is wrong with a name that is declared behind these, of which there may be so many
-abbrev pub name_causes : ℕ → List (List ℕ) → List ℕ → List (Option Code)
-name_causes limit names name = when (not (is_name name)) BadName ∷ when (knows names name) Repeated ∷ when (length names == limit) TooMany ∷ []
-
 -- what is wrong with what a record of this word declares: the name in its second field, or a group more than there may be
 abbrev pub declared_causes : SoFar → Word → Row → List (Option Code)
 declared_causes s word.Resource row = name_causes RESOURCES s.resources (field_of row 1)
 declared_causes s word.Task row = name_causes SEATS s.tasks (field_of row 1)
 declared_causes s word.Group row = when (length s.groups == GROUPS) TooMany ∷ []
 declared_causes s _ row = []
-
--- ---- statements
-
--- the code of a request that is refused
-abbrev pub request_code : RequestErr → Code
-request_code refused.EmptyRequest = EmptyRequest
-request_code refused.Undeclared = Undeclared
-request_code refused.FirstOutside = FirstOutside
-
--- what is wrong with a statement where this section is open
-abbrev pub statement_causes : List Set → Option Section → Statement → List (Option Code)
-statement_causes groups section (statement.Begin r) = option_map request_code (request_refusal groups r) ∷ []
-statement_causes groups section (statement.Edit place edit) = when (not (is_held section place)) NotHeld ∷ when (not (is_writable section place)) NotWritable ∷ []
-statement_causes groups section (statement.Show place) = when (not (is_held section place)) NotHeld ∷ []
-statement_causes groups section (statement.Ask part) = when (not (may_ask_for section part)) NotHeld ∷ []
-statement_causes groups section statement.Rise = []
-statement_causes groups section statement.Finish = []
-
--- what is wrong with what a record says
-abbrev pub line_causes : SoFar → Line → List (Option Code)
-line_causes s (HasGroup group) = when (len group == 0) EmptyGroup ∷ []
-line_causes s (Does done) = statement_causes s.groups (section_of s.latest) done
-line_causes s _ = []
-
--- the same, of a record whose fields say this, if they say something
-abbrev pub meant_causes : SoFar → Option Line → List (Option Code)
-meant_causes s None = Some BadNumber ∷ []
-meant_causes s (Some line) = line_causes s line
-
--- what is wrong with the fields of a record of this word, and with what they say
-abbrev pub said_causes : SoFar → Row → Word → List (Option Code)
-said_causes s row w =
-    when (not (all_known (names_of s.resources) (fields_of w) row)) UnknownName
-    ∷ when (not (all_counted (fields_of w) row)) BadNumber
-    ∷ meant_causes s (meant_as (names_of s.resources) row (Some w))
 
 -- ---- codes
 
@@ -100,7 +53,7 @@ abbrev pub placed_causes : SoFar → Row → Word → List (Option Code)
 placed_causes s row w =
     when (needs_resources w && is_nil s.resources) NoResources
     ∷ when (is_end w && is_nil s.tasks) NoTask
-    ∷ (declared_causes s w row ++ said_causes s row w)
+    ∷ (declared_causes s w row ++ said_causes s.resources s.groups (section_of s.latest) row w)
 
 -- what is wrong with a record of this word
 abbrev pub word_causes : SoFar → Row → Word → List (Option Code)

@@ -1,13 +1,7 @@
-pub mod Codes
-pub mod Statements
-pub mod Words
-pub mod Lines
 pub mod Scripts
 pub mod ScriptCodes
 pub mod SoFar
 pub mod Faults
-pub mod Decided
-pub mod Told
 pub mod Reading
 pub mod Texts
 pub mod Needs

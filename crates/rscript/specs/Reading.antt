@@ -2,23 +2,17 @@
 use Rattle.std.specs.Prelude.{◌≡◌, ◌≤◌, Bool, true, false, List, [], ◌∷◌, ◌++◌, length, map, Option, Some, None, IfSome}
 use Rattle.std.specs.declared.vec.Vec.{Vec}
 use Rattle.std.specs.declared.alloc.Global.{Global}
-use Rattle.rset.specs.Sets.{Set}
-use Rattle.rexpand.specs.Groups.{ReadGroups}
 use Rattle.rforms.specs.Records.{Row}
 use Rattle.rforms.specs.Heads.{is_nil}
 use Rattle.rforms.specs.Walks.{first_of}
-use Rattle.rscript.specs.Statements.{section_next}
+use Rattle.rscript_records.specs.Statements.{section_next}
+use Rattle.rscript_records.specs.Causes.{groups_in}
+use Rattle.rscript_records.specs.declared.code.Code.{Code}
+use Rattle.rscript_records.specs.declared.statement.Statement.{Statement}
+use Rattle.rscript_records.specs.declared.word.Word.{Word}
 use Rattle.rscript.specs.SoFar.{SoFar, section_of, with_row}
 use Rattle.rscript.specs.Faults.{placed_causes}
-use Rattle.rscript.specs.declared.code.Code.{Code}
 use Rattle.rscript.specs.declared.reading.Reading.{Reading}
-use Rattle.rscript.specs.declared.statement.Statement.{Statement}
-use Rattle.rscript.specs.declared.word.Word.{Word}
-
--- the read groups so far: none, before they are made
-abbrev pub groups_in : Option ReadGroups → List Set
-groups_in None = []
-groups_in (Some groups) = groups.groups
 
 -- the statements of each task
 abbrev pub statements_in : List (Vec Statement Global) → List (List Statement)

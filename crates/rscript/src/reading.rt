@@ -1,28 +1,21 @@
 // The reader of a script, record by record.
-ghost use Rattle.std.specs.Prelude.{◌≡◌, ◌≢◌, ◌<◌, ◌≤◌, ◌++◌, ◌∷◌, [], ◌==◌, length, None, Some, true, false, IsTrue, OnOk, OnErr, IfErr, IfSome};
-ghost use Rattle.std.specs.FinSet.{empty};
+ghost use Rattle.std.specs.Prelude.{◌≡◌, ◌≤◌, ◌==◌, None, Some, true, OnOk, IfErr};
 ghost use Rattle.csv.specs.Records.{fields_of};
-ghost use Rattle.rset.specs.Sets.{all_below};
-ghost use Rattle.rset.specs.declared.TheConstants.{RESOURCES};
-ghost use Rattle.rexpand.specs.declared.TheConstants.{GROUPS};
-ghost use Rattle.rforms.specs.Walks.{first_of};
-ghost use Rattle.rscript.specs.Words.{word_in};
+ghost use Rattle.rscript_records.specs.Words.{word_in};
+ghost use Rattle.rscript_records.specs.Told.{is_statement};
 ghost use Rattle.rscript.specs.SoFar.{SoFar, nothing_yet};
-ghost use Rattle.rscript.specs.Faults.{stands_at, name_causes};
-ghost use Rattle.rscript.specs.Told.{is_statement};
-ghost use Rattle.rscript.specs.Reading.{groups_in, Knows, Adds, Closes, Takes, Refuses};
+ghost use Rattle.rscript.specs.Faults.{stands_at};
+ghost use Rattle.rscript.specs.Reading.{Knows, Adds, Closes, Takes, Refuses};
 
-use crate::faults::fault_of;
-use crate::place::{is_there, stand_of};
-use crate::section::{Section, section_after};
-use crate::told::statement_of;
-use crate::word::Word;
-use crate::{Code, Statement};
 use csv::ByteRecord;
-use rexpand::{GROUPS, GroupErr, Groups};
+use rexpand::Groups;
 use rforms::{RowErr, field_of};
 use rrecords::set_of;
-use rset::{NameErr, NameTable, ResourceSet};
+use rscript_records::{
+    Code, Section, Statement, Word, add_group, declare, fault_of, has_all_groups, is_there,
+    make_groups, section_after, stand_of, statement_of,
+};
+use rset::NameTable;
 use std::alloc::Global;
 use std::mem;
 
@@ -227,74 +220,5 @@ impl Reading {
             Ok(()) => Ok(()),
             Err(_) => Err(RowErr::Memory),
         }
-    }
-}
-
-// Adds a declared name to its table.
-fn declare(table: &mut NameTable, name: &[u8]) -> Result<(), RowErr<Code>>
-    ensures ok { OnOk result ((first_of (name_causes RESOURCES table.old name.now) ≡ None) × (table.new ≡ table.old ++ name.now ∷ [])) }
-    ensures bad { (cause : Code) → result ≡ Err (RowErr.Bad cause) → first_of (name_causes RESOURCES table.old name.now) ≡ Some cause }
-    ensures still { OnErr result (table.new ≡ table.old) }
-{
-    match table.add(name) {
-        Ok(_) => Ok(()),
-        Err(NameErr::BadName) => Err(RowErr::Bad(Code::BadName)),
-        Err(NameErr::Repeated) => Err(RowErr::Bad(Code::Repeated)),
-        Err(NameErr::TooMany) => Err(RowErr::Bad(Code::TooMany)),
-        Err(NameErr::Memory) => Err(RowErr::Memory),
-    }
-}
-
-// Whether there are as many groups as there may be.
-fn has_all_groups(groups: &Option<Groups>) -> bool
-    ensures { result ≡ (length (groups_in groups.now) == GROUPS) }
-{
-    match groups {
-        Some(groups) => groups.len() == GROUPS,
-        None => false,
-    }
-}
-
-// Makes the groups, if they are not there: all resources are declared by now.
-fn make_groups(alloc: Global, groups: &mut Option<Groups>, q: u8) -> Result<(), RowErr<Code>>
-    requires some { 1 ≤ q }
-    requires few { q ≤ RESOURCES }
-    requires over { IfSome groups.old (λ g. g.q ≡ q) }
-    ensures made { OnOk result (groups.new ≡ Some (record { q = q; groups = groups_in groups.old })) }
-    ensures memory { IfErr result (λ e. e ≡ RowErr.Memory) }
-{
-    if groups.is_none() {
-        let Ok(made) = Groups::new(alloc, q) else {
-            return Err(RowErr::Memory);
-        };
-        *groups = Some(made);
-    }
-    Ok(())
-}
-
-// Adds a group behind the others.
-fn add_group(
-    alloc: Global,
-    groups: &mut Option<Groups>,
-    q: u8,
-    set: ResourceSet,
-) -> Result<(), RowErr<Code>>
-    requires some { 1 ≤ q }
-    requires few { q ≤ RESOURCES }
-    requires over { IfSome groups.old (λ g. g.q ≡ q) }
-    requires below { IsTrue (all_below q set) }
-    requires member { set ≢ empty }
-    requires room { length (groups_in groups.old) ≢ GROUPS }
-    ensures added { OnOk result (groups.new ≡ Some (record { q = q; groups = groups_in groups.old ++ set ∷ [] })) }
-    ensures memory { IfErr result (λ e. e ≡ RowErr.Memory) }
-{
-    make_groups(alloc, groups, q)?;
-    let Some(groups) = groups else {
-        return Err(RowErr::Memory);
-    };
-    match groups.declare(set) {
-        Ok(()) => Ok(()),
-        // The set has a member, and there is room.
-        Err(GroupErr::Memory | GroupErr::EmptyGroup | GroupErr::TooMany) => Err(RowErr::Memory),
     }
 }

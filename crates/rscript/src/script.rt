@@ -6,9 +6,9 @@ ghost use Rattle.rscript.specs.Texts.{error_of, IsFirstFault};
 ghost use Rattle.rscript.specs.Reading.{Knows};
 
 use crate::reading::Reading;
-use crate::{Code, Statement};
 use rexpand::Groups;
 use rforms::{TextErr, take_text};
+use rscript_records::{Code, Statement};
 use rset::NameTable;
 use std::alloc::Global;
 use std::marker::Model;

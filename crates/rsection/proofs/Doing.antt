@@ -22,8 +22,8 @@ use Rattle.rmodel.proofs.reaching.OneOfSeat.{each_alone}
 use Rattle.rstate.specs.Contents.{is_ready}
 use Rattle.rstate.specs.Histories.{Beginning, lock_after}
 use Rattle.rstate.proofs.histories.Following.{reached_lawful}
-use Rattle.rscript.specs.Statements.{held_as}
-use Rattle.rscript.specs.declared.section.Section.{Section}
+use Rattle.rscript_records.specs.Statements.{held_as}
+use Rattle.rscript_records.specs.declared.section.Section.{Section}
 use Rattle.rguard.specs.Guards.{HasSeenLawful, HasSeenOwn, IsReady}
 use Rattle.rguard.specs.Seats.{SeatOf}
 use Rattle.rsection.specs.Working.{section_made, MayDo}

@@ -4,10 +4,10 @@ use Rattle.std.proofs.lemmas.Bool.{true≢false, eqb-true, eq-eqb}
 use Rattle.rset.specs.Sets.{Set}
 use Rattle.rvalue.specs.declared.ledger.Edit.{Edit}
 use Rattle.rvalue.specs.declared.ledger.Ledger.{Ledger}
-use Rattle.rscript.specs.Statements.{section_next}
-use Rattle.rscript.specs.declared.section.Section.{Section}
-use Rattle.rscript.specs.declared.statement.Statement.{Statement}
-use Rattle.rscript.specs.declared.statement.Statement.TheVariants as statement
+use Rattle.rscript_records.specs.Statements.{section_next}
+use Rattle.rscript_records.specs.declared.section.Section.{Section}
+use Rattle.rscript_records.specs.declared.statement.Statement.{Statement}
+use Rattle.rscript_records.specs.declared.statement.Statement.TheVariants as statement
 use Rattle.rguard.specs.Seats.{SeatOf}
 use Rattle.rsection.specs.Sections.{ends_section, behind_sections, first_section, section_at}
 use Rattle.rsection.specs.Working.{AreWhole, AreWholeAt}

@@ -9,9 +9,9 @@ use Rattle.rvalue.specs.declared.ledger.Edit.{Edit}
 use Rattle.rvalue.specs.declared.ledger.Ledger.{Ledger}
 use Rattle.rvalue.specs.Entries.{EntryFields}
 use Rattle.rstate.specs.Histories.{Beginning}
-use Rattle.rscript.specs.Statements.{section_next}
-use Rattle.rscript.specs.declared.section.Section.{Section}
-use Rattle.rscript.specs.declared.statement.Statement.{Statement}
+use Rattle.rscript_records.specs.Statements.{section_next}
+use Rattle.rscript_records.specs.declared.section.Section.{Section}
+use Rattle.rscript_records.specs.declared.statement.Statement.{Statement}
 use Rattle.rguard.specs.Seats.{SeatOf, IsIdle, busy_after, is_busy}
 use Rattle.rguard.specs.declared.guard.Guard.{Guard}
 use Rattle.rguard.proofs.Going.{goes_nowhere, goes_on}

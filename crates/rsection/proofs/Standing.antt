@@ -37,9 +37,9 @@ use Rattle.rvalue.proofs.InTurnLemmas.{AllInTurn-longer}
 use Rattle.rstate.specs.Histories.{Beginning, lock_after, MayFollow, IsLawfulFrom}
 use Rattle.rstate.proofs.histories.Following.{lock_push, reached_lawful}
 use Rattle.rstate.proofs.homes.Lists.{same_item}
-use Rattle.rscript.specs.Statements.{begun}
-use Rattle.rscript.specs.Statements as section
-use Rattle.rscript.specs.declared.section.Section.{Section}
+use Rattle.rscript_records.specs.Statements.{begun}
+use Rattle.rscript_records.specs.Statements as section
+use Rattle.rscript_records.specs.declared.section.Section.{Section}
 use Rattle.rlent.proofs.seats.Along.{maker, differs}
 use Rattle.rlent.proofs.seats.Claims.{is_of, of_seat, claim_next, claim_asked, issued_next}
 use Rattle.rlent.proofs.seats.Halves.{has_half, risen_next}

@@ -19,11 +19,11 @@ use Rattle.rvalue.specs.declared.ledger.Ledger.{Ledger}
 use Rattle.rvalue.specs.Entries.{EntryFields}
 use Rattle.rvalue.specs.Ledgers.{value_after, is_taken}
 use Rattle.rstate.specs.Histories.{Beginning}
-use Rattle.rscript.specs.Statements.{begun, with_asked, with_risen, section_next, held_as, is_writable, may_ask_for, is_there, is_upgrade}
-use Rattle.rscript.specs.declared.place.Where.TheVariants.{InNested, BeforeRise}
-use Rattle.rscript.specs.declared.section.Section.{Section}
-use Rattle.rscript.specs.declared.statement.Statement.{Statement}
-use Rattle.rscript.specs.declared.statement.Statement.TheVariants as statement
+use Rattle.rscript_records.specs.Statements.{begun, with_asked, with_risen, section_next, held_as, is_writable, may_ask_for, is_there, is_upgrade}
+use Rattle.rscript_records.specs.declared.place.Where.TheVariants.{InNested, BeforeRise}
+use Rattle.rscript_records.specs.declared.section.Section.{Section}
+use Rattle.rscript_records.specs.declared.statement.Statement.{Statement}
+use Rattle.rscript_records.specs.declared.statement.Statement.TheVariants as statement
 use Rattle.rguard.specs.Guards.{GuardFields, WaitFields, HasBegun, HasAsked, HasSeenLawful, HasSeenOwn, IsPartOf, kind_for}
 use Rattle.rguard.specs.Looks.{fields_of, kind_of, HasAwaited}
 use Rattle.rguard.specs.Seats.{SeatOf, IsIdle, Goes, bare}

@@ -7,10 +7,10 @@ use Rattle.rexpand.specs.Groups.{ReadGroups}
 use Rattle.rvalue.specs.declared.ledger.Edit.{Edit}
 use Rattle.rvalue.specs.declared.ledger.Ledger.{Ledger}
 use Rattle.rvalue.specs.InTurn.{AllInTurn}
+use Rattle.rscript_records.specs.Statements.{FitsBehind, IsTask, section_next, section_after}
+use Rattle.rscript_records.specs.declared.section.Section.{Section}
+use Rattle.rscript_records.specs.declared.statement.Statement.{Statement}
 use Rattle.rscript.specs.Scripts.{ScriptFields, IsScript}
-use Rattle.rscript.specs.Statements.{FitsBehind, IsTask, section_next, section_after}
-use Rattle.rscript.specs.declared.section.Section.{Section}
-use Rattle.rscript.specs.declared.statement.Statement.{Statement}
 use Rattle.rscript.proofs.Tasks.{task_at}
 use Rattle.rguard.specs.Seats.{SeatOf}
 use Rattle.rsection.specs.Working.{AreWhole, AreWholeAt}

@@ -3,9 +3,9 @@ use Rattle.std.specs.Prelude.{◌≡◌, List, [], map, fold, Option, None}
 use Rattle.rvalue.specs.Entries.{EntryFields}
 use Rattle.rvalue.specs.declared.ledger.Edit.{Edit}
 use Rattle.rvalue.specs.declared.ledger.Ledger.{Ledger}
-use Rattle.rscript.specs.Statements.{section_next, section_after}
-use Rattle.rscript.specs.declared.section.Section.{Section}
-use Rattle.rscript.specs.declared.statement.Statement.{Statement}
+use Rattle.rscript_records.specs.Statements.{section_next, section_after}
+use Rattle.rscript_records.specs.declared.section.Section.{Section}
+use Rattle.rscript_records.specs.declared.statement.Statement.{Statement}
 use Rattle.rguard.specs.Guards.{AsSeen}
 use Rattle.rguard.specs.Looks.{fields_of, kind_of}
 use Rattle.rguard.specs.Seats.{SeatOf, IsIdle, Goes}

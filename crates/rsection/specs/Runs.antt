@@ -7,10 +7,10 @@ use Rattle.rvalue.specs.declared.act.Act.TheVariants.{Edited, Shown}
 use Rattle.rvalue.specs.declared.ledger.Edit.{Edit}
 use Rattle.rvalue.specs.declared.ledger.Ledger.{Ledger}
 use Rattle.rvalue.specs.Entries.{EntryFields}
-use Rattle.rscript.specs.Statements.{section_after}
-use Rattle.rscript.specs.declared.section.Section.{Section}
-use Rattle.rscript.specs.declared.statement.Statement.{Statement}
-use Rattle.rscript.specs.declared.statement.Statement.TheVariants as statement
+use Rattle.rscript_records.specs.Statements.{section_after}
+use Rattle.rscript_records.specs.declared.section.Section.{Section}
+use Rattle.rscript_records.specs.declared.statement.Statement.{Statement}
+use Rattle.rscript_records.specs.declared.statement.Statement.TheVariants as statement
 use Rattle.rguard.specs.Seats.{SeatOf, Goes}
 
 -- the statement that an act carries out, whatever the answer that it got

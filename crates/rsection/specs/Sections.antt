@@ -1,7 +1,7 @@
 -- The sections of a task, one behind another.
 use Rattle.std.specs.Prelude.{ℕ, ◌-◌, ◌==◌, Bool, true, false, List, [], ◌∷◌, if◌then◌else◌}
-use Rattle.rscript.specs.declared.statement.Statement.{Statement}
-use Rattle.rscript.specs.declared.statement.Statement.TheVariants.{Begin, Edit, Show, Ask, Rise, Finish}
+use Rattle.rscript_records.specs.declared.statement.Statement.{Statement}
+use Rattle.rscript_records.specs.declared.statement.Statement.TheVariants.{Begin, Edit, Show, Ask, Rise, Finish}
 
 -- whether a section ends with the statement
 abbrev pub ends_section : Statement → Bool

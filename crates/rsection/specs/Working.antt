@@ -9,9 +9,9 @@ use Rattle.rclaim.specs.declared.request.Kind.TheVariants as kinds
 use Rattle.rmodel.specs.Claims.{is_nested}
 use Rattle.rstate.specs.Histories.{Beginning}
 use Rattle.rvalue.specs.Entries.{EntryFields}
-use Rattle.rscript.specs.Statements.{begun, with_asked, with_risen, is_writable, is_held, may_ask_for, is_there, where_of, section_next, IsWithin, IsRight}
-use Rattle.rscript.specs.declared.section.Section.{Section}
-use Rattle.rscript.specs.declared.statement.Statement.{Statement}
+use Rattle.rscript_records.specs.Statements.{begun, with_asked, with_risen, is_writable, is_held, may_ask_for, is_there, where_of, section_next, IsWithin, IsRight}
+use Rattle.rscript_records.specs.declared.section.Section.{Section}
+use Rattle.rscript_records.specs.declared.statement.Statement.{Statement}
 use Rattle.rguard.specs.Guards.{Holding, HoldingToWrite, IsPartOf, AsSeen}
 use Rattle.rguard.specs.Seats.{SeatOf}
 use Rattle.rlent.specs.declared.kind.GuardKind.{GuardKind}

@@ -2,7 +2,7 @@
 ghost use Rattle.std.specs.Prelude.{◌≡◌, None, IfOk, IfErr};
 ghost use Rattle.rguard.specs.Seats.{IsOf, IsIdle};
 ghost use Rattle.rguard.specs.Looks.{fields_of};
-ghost use Rattle.rscript.specs.declared.section.Section.{Section};
+ghost use Rattle.rscript_records.specs.declared.section.Section.{Section};
 ghost use Rattle.rsection.specs.Working.{section_made, FitsAt};
 ghost use Rattle.rsection.specs.Desks.{IsGuardOf, HasStepped, HasLeft};
 

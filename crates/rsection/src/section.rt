@@ -1,6 +1,6 @@
 //! One section of a task.
 ghost use Rattle.std.specs.Prelude.{◌≡◌, ◌<◌, Some, IfOk, IfErr, List, length, slice_get};
-ghost use Rattle.rscript.specs.declared.statement.Statement.{Statement};
+ghost use Rattle.rscript_records.specs.declared.statement.Statement.{Statement};
 ghost use Rattle.rsection.specs.Runs.{HasRun, HasBrokenOff};
 ghost use Rattle.rsection.specs.Sections.{ends_section, behind_sections, first_section, section_at};
 ghost use Rattle.rsection.specs.Seats.{IsSeatFor};

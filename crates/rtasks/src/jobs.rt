@@ -1,6 +1,6 @@
 //! A task with its seat, and how all of them are done.
 ghost use Rattle.std.specs.Prelude.{◌≡◌, ◌<◌, Some, List, length, slice_get};
-ghost use Rattle.rscript.specs.declared.statement.Statement.{Statement};
+ghost use Rattle.rscript_records.specs.declared.statement.Statement.{Statement};
 ghost use Rattle.rtasks.specs.Jobs.{IsReady, IsDone, AreReady, AreDone};
 
 use rguard::{Rnlp, Seat};

@@ -15,8 +15,8 @@ use Rattle.rlock.specs.Known.{Site}
 use Rattle.rvalue.specs.Entries.{EntryFields}
 use Rattle.rvalue.specs.declared.act.Act.{Act}
 use Rattle.rstate.specs.Histories.{lock_after}
-use Rattle.rscript.specs.Statements.{begun, with_asked, with_risen}
-use Rattle.rscript.specs.declared.section.Section.{Section}
+use Rattle.rscript_records.specs.Statements.{begun, with_asked, with_risen}
+use Rattle.rscript_records.specs.declared.section.Section.{Section}
 use Rattle.rguard.specs.declared.guard.Guard.{Guard}
 use Rattle.rguard.specs.declared.guard.Guard.TheVariants.{Nest}
 use Rattle.rguard.specs.declared.guard.Guard.TheVariants as guards

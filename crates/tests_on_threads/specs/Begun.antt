@@ -6,7 +6,7 @@ use Rattle.rclaim.specs.Requests.{RequestFields, normalised}
 use Rattle.rclaim.specs.declared.request.Kind.TheVariants as kinds
 use Rattle.rguard.specs.Seats.{SeatOf}
 use Rattle.rsection.specs.Working.{section_made}
-use Rattle.rscript.specs.Statements.{begun}
+use Rattle.rscript_records.specs.Statements.{begun}
 
 -- the set of this resource alone
 abbrev pub single : ℕ → Set

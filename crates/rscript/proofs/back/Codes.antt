@@ -16,15 +16,16 @@ use Rattle.rforms.specs.Walks.{when, or_else, first_of}
 use Rattle.rforms.proofs.facts.Choices.{map_some}
 use Rattle.rforms.proofs.facts.ReadGood.{pair_some}
 use Rattle.rforms.proofs.back.Rows.{read_counted}
-use Rattle.rscript.specs.Words.{fields_of}
-use Rattle.rscript.specs.Lines.{Line, Opens, HasResource, HasGroup, HasTask, Does, Ends, line_by, word_of, meaning, meant_as, names_of}
+use Rattle.rscript_records.specs.Words.{fields_of}
+use Rattle.rscript_records.specs.Lines.{Line, Opens, HasResource, HasGroup, HasTask, Does, Ends, line_by, word_of, meaning, meant_as, names_of}
+use Rattle.rscript_records.specs.Causes.{line_causes, meant_causes}
+use Rattle.rscript_records.specs.declared.word.Word.{Word}
+use Rattle.rscript_records.specs.declared.word.Word.TheVariants as word
+use Rattle.rscript_records.specs.declared.code.Code.{Code}
+use Rattle.rscript_records.specs.declared.code.Code.TheVariants.{BadOrder, NoResources, NoTask, TooMany, UnknownName, BadNumber, EmptyGroup}
+use Rattle.rscript_records.proofs.facts.Causes.{first_of-append, name_none, statement_none}
 use Rattle.rscript.specs.SoFar.{SoFar, section_of}
-use Rattle.rscript.specs.Faults.{may_stand, needs_resources, is_end, declared_causes, line_causes, meant_causes, code_of, code_by}
-use Rattle.rscript.specs.declared.word.Word.{Word}
-use Rattle.rscript.specs.declared.word.Word.TheVariants as word
-use Rattle.rscript.specs.declared.code.Code.{Code}
-use Rattle.rscript.specs.declared.code.Code.TheVariants.{BadOrder, NoResources, NoTask, TooMany, UnknownName, BadNumber, EmptyGroup}
-use Rattle.rscript.proofs.facts.Causes.{first_of-append, name_none, statement_none}
+use Rattle.rscript.specs.Faults.{may_stand, needs_resources, is_end, declared_causes, code_of, code_by}
 use Rattle.rscript.proofs.facts.Fine.{IsFine, IsNext, fresh_is}
 use Rattle.rscript.proofs.facts.Said.{says, word_by}
 
@@ -70,7 +71,7 @@ module _ (s : SoFar) where
   declared_none row word.Finish v reads fine = refl
   declared_none row word.End v reads fine = refl
 
-  line_none : (line : Line) → IsFine s line → first_of (line_causes s line) ≡ None
+  line_none : (line : Line) → IsFine s line → first_of (line_causes s.groups (section_of s.latest) line) ≡ None
   line_none Opens fine = refl
   line_none (HasResource name) fine = refl
   line_none (HasGroup group) fine = when_none (len group == 0) EmptyGroup fine.1
@@ -93,11 +94,11 @@ no_code s row line means next =
     ap (code_by s row) told.is
     ∙ none_of (may_stand s told.of) (needs_resources told.of && is_nil s.resources) (is_end told.of && is_nil s.tasks)
     (all_known (names_of s.resources) (fields_of told.of) row) (all_counted (fields_of told.of) row)
-    (declared_causes s told.of row) (meant_causes s (meant_as (names_of s.resources) row (Some told.of)))
+    (declared_causes s told.of row) (meant_causes s.groups (section_of s.latest) (meant_as (names_of s.resources) row (Some told.of)))
     (subst (λ (w : Word). may_stand s w ≡ true) of next.placed)
     (subst (λ (w : Word). (needs_resources w && is_nil s.resources) ≡ false) of next.resources)
     (subst (λ (w : Word). (is_end w && is_nil s.tasks) ≡ false) of next.task)
     (declared_none s row told.of told.values told.reads fine)
     (read_known (names_of s.resources) (fields_of told.of) row told.values told.reads)
     (read_counted (names_of s.resources) (fields_of told.of) row told.values told.reads)
-    (ap (λ (o : Option Line). first_of (meant_causes s o)) meant ∙ line_none s line next.fine)
+    (ap (λ (o : Option Line). first_of (meant_causes s.groups (section_of s.latest) o)) meant ∙ line_none s line next.fine)

@@ -4,11 +4,11 @@ use Rattle.std.specs.List.{AllZip}
 use Rattle.rforms.specs.Records.{Row}
 use Rattle.rforms.specs.Walks.{AllClean}
 use Rattle.rforms.proofs.facts.Walks.{clean_none}
-use Rattle.rscript.specs.Lines.{Line, meaning, names_of}
+use Rattle.rscript_records.specs.Lines.{Line, meaning, names_of}
+use Rattle.rscript_records.specs.declared.code.Code.TheVariants.{NoEnd}
 use Rattle.rscript.specs.Scripts.{ScriptFields, Spells, lines_of}
 use Rattle.rscript.specs.SoFar.{SoFar, nothing_yet, told_in, with_line, with_row}
 use Rattle.rscript.specs.Faults.{code_of, is_ended, first_fault, read_all}
-use Rattle.rscript.specs.declared.code.Code.TheVariants.{NoEnd}
 use Rattle.rscript.proofs.facts.Fine.{AllNext}
 use Rattle.rscript.proofs.forth.Names.{means_same, final_resources}
 use Rattle.rscript.proofs.forth.Rows.{row_leads}

@@ -22,16 +22,18 @@ use Rattle.rforms.proofs.facts.Choices.{some_is, some_none}
 use Rattle.rforms.proofs.facts.Coming.{request_right, kind_below}
 use Rattle.rforms.proofs.facts.Said.{last_none}
 use Rattle.rforms.proofs.facts.Walks.{when_not}
-use Rattle.rscript.specs.Statements.{IsWithin, IsRight, is_there}
-use Rattle.rscript.specs.Words.{fields_of}
-use Rattle.rscript.specs.Lines.{Line, Opens, HasResource, HasGroup, HasTask, Does, Ends, names_of, line_by, word_of}
-use Rattle.rscript.specs.SoFar.{SoFar, stands, section_of, with_line}
-use Rattle.rscript.specs.Faults.{may_stand, needs_resources, is_end, declared_causes, line_causes}
-use Rattle.rscript.specs.declared.word.Word.{Word}
-use Rattle.rscript.specs.declared.word.Word.TheVariants as word
-use Rattle.rscript.specs.declared.statement.Statement.TheVariants as statement
-use Rattle.rscript.specs.declared.code.Code.TheVariants.{TooMany, EmptyGroup}
-use Rattle.rscript.proofs.facts.Causes.{name_fine, statement_right}
+use Rattle.rscript_records.specs.Statements.{IsWithin, IsRight, is_there}
+use Rattle.rscript_records.specs.Words.{fields_of}
+use Rattle.rscript_records.specs.Lines.{Line, Opens, HasResource, HasGroup, HasTask, Does, Ends, names_of, line_by, word_of}
+use Rattle.rscript_records.specs.Places.{stands}
+use Rattle.rscript_records.specs.Causes.{line_causes}
+use Rattle.rscript_records.specs.declared.word.Word.{Word}
+use Rattle.rscript_records.specs.declared.word.Word.TheVariants as word
+use Rattle.rscript_records.specs.declared.statement.Statement.TheVariants as statement
+use Rattle.rscript_records.specs.declared.code.Code.TheVariants.{TooMany, EmptyGroup}
+use Rattle.rscript_records.proofs.facts.Causes.{name_fine, statement_right}
+use Rattle.rscript.specs.SoFar.{SoFar, section_of, with_line}
+use Rattle.rscript.specs.Faults.{may_stand, needs_resources, is_end, declared_causes}
 
 -- nothing is wrong with what a line declares or does
 abbrev pub IsFine : SoFar → Line → Type 0
@@ -87,7 +89,7 @@ fresh_is names text (a ∷ x ∷ y ∷ row) v h = absurd (some_none h)
 module _ (s : SoFar) where
   begin_fine : (kind : Kind) (reads writes first : Set) (n later : ℕ) → all_below (length s.resources) reads ≡ true → all_below (length s.resources) writes ≡ true
       → all_below (length s.resources) (normalised kind reads writes first n later).first ≡ true → n ≤ LENGTH_LIMIT → later ≤ LENGTH_LIMIT
-      → first_of (line_causes s (Does (statement.Begin (normalised kind reads writes first n later)))) ≡ None
+      → first_of (line_causes s.groups (section_of s.latest) (Does (statement.Begin (normalised kind reads writes first n later)))) ≡ None
       → IsFine s (Does (statement.Begin (normalised kind reads writes first n later)))
   begin_fine kind reads writes first n later a b c short late h =
       let free : request_refusal s.groups (normalised kind reads writes first n later) ≡ None = statement_right s.groups (section_of s.latest) (statement.Begin (normalised kind reads writes first n later)) h in
@@ -96,7 +98,7 @@ module _ (s : SoFar) where
       ((right.0, below.0, below.1, c), free)
 
   pub fine_by : (row : Row) (w : Word) (v : Values (fields_of w)) → read (names_of s.resources) (fields_of w) row ≡ Some v → AllGood (names_of s.resources) (fields_of w) v
-      → first_of (declared_causes s w row) ≡ None → first_of (line_causes s (line_by w v)) ≡ None → IsFine s (line_by w v)
+      → first_of (declared_causes s w row) ≡ None → first_of (line_causes s.groups (section_of s.latest) (line_by w v)) ≡ None → IsFine s (line_by w v)
   fine_by row word.Version v reads good declared line = tt
   fine_by row word.Resource v reads good declared line =
       ap (is_bad_name RESOURCES s.resources) (sym (fresh_is (names_of s.resources) _ row v reads)) ∙ name_fine RESOURCES s.resources (field_of row 1) declared

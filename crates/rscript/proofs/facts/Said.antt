@@ -9,14 +9,15 @@ use Rattle.rforms.proofs.facts.Choices.{some_none, map_some}
 use Rattle.rforms.proofs.facts.ReadGood.{read_good}
 use Rattle.rforms.proofs.facts.Tests.{not_false}
 use Rattle.rforms.proofs.facts.Walks.{when_not, or_none}
-use Rattle.rscript.specs.Words.{fields_of, word_in}
-use Rattle.rscript.specs.Lines.{Line, line_by, word_of, meaning, meant_as, names_of}
-use Rattle.rscript.specs.SoFar.{SoFar}
-use Rattle.rscript.specs.Faults.{may_stand, needs_resources, is_end, declared_causes, meant_causes, code_of, code_by}
-use Rattle.rscript.specs.declared.word.Word.{Word}
-use Rattle.rscript.specs.declared.word.Word.TheVariants as word
-use Rattle.rscript.specs.declared.code.Code.TheVariants.{BadOrder, NoResources, NoTask, UnknownName, BadNumber}
-use Rattle.rscript.proofs.facts.Causes.{none_of_both}
+use Rattle.rscript_records.specs.Words.{fields_of, word_in}
+use Rattle.rscript_records.specs.Lines.{Line, line_by, word_of, meaning, meant_as, names_of}
+use Rattle.rscript_records.specs.Causes.{meant_causes}
+use Rattle.rscript_records.specs.declared.word.Word.{Word}
+use Rattle.rscript_records.specs.declared.word.Word.TheVariants as word
+use Rattle.rscript_records.specs.declared.code.Code.TheVariants.{BadOrder, NoResources, NoTask, UnknownName, BadNumber}
+use Rattle.rscript_records.proofs.facts.Causes.{none_of_both}
+use Rattle.rscript.specs.SoFar.{SoFar, section_of}
+use Rattle.rscript.specs.Faults.{may_stand, needs_resources, is_end, declared_causes, code_of, code_by}
 use Rattle.rscript.proofs.facts.Fine.{IsFine, IsNext, fine_by}
 
 -- the word of a line is that of the record that said it
@@ -65,7 +66,7 @@ pub record IsClean (s : SoFar) (row : Row) : Type 0 where
 
 clean_as : (s : SoFar) (row : Row) (w : Word) (o : Option Line) → word_in row ≡ Some w → meant_as (names_of s.resources) row (Some w) ≡ o
     → may_stand s w ≡ true → (needs_resources w && is_nil s.resources) ≡ false → (is_end w && is_nil s.tasks) ≡ false
-    → first_of (declared_causes s w row) ≡ None → first_of (meant_causes s o) ≡ None → IsClean s row
+    → first_of (declared_causes s w row) ≡ None → first_of (meant_causes s.groups (section_of s.latest) o) ≡ None → IsClean s row
 unfolding meaning
 clean_as s row w None is means placed resources task declared line = absurd (some_none (sym line))
 clean_as s row w (Some line) is means placed resources task declared free =
@@ -79,7 +80,7 @@ clean_as s row w (Some line) is means placed resources task declared free =
         placed = subst (λ (v : Word). may_stand s v ≡ true) of placed;
         resources = subst (λ (v : Word). (needs_resources v && is_nil s.resources) ≡ false) of resources;
         task = subst (λ (v : Word). (is_end v && is_nil s.tasks) ≡ false) of task;
-        fine = subst (λ (l : Line). IsFine s l) told.2 (fine_by s row w told.0 told.1 good declared (subst (λ (l : Line). first_of (meant_causes s (Some l)) ≡ None) (sym told.2) free));
+        fine = subst (λ (l : Line). IsFine s l) told.2 (fine_by s row w told.0 told.1 good declared (subst (λ (l : Line). first_of (meant_causes s.groups (section_of s.latest) (Some l)) ≡ None) (sym told.2) free));
       };
     }
 

@@ -5,11 +5,11 @@ use Rattle.std.proofs.lemmas.Bool.{eqb-true}
 use Rattle.rforms.specs.Records.{Row}
 use Rattle.rforms.specs.Walks.{AllClean}
 use Rattle.rforms.proofs.facts.Walks.{no_fault}
-use Rattle.rscript.specs.Lines.{Line, meaning, names_of}
+use Rattle.rscript_records.specs.Lines.{Line, meaning, names_of}
+use Rattle.rscript_records.specs.declared.code.Code.TheVariants.{NoEnd}
 use Rattle.rscript.specs.Scripts.{Spells}
 use Rattle.rscript.specs.SoFar.{SoFar, nothing_yet, told_in, with_line, with_meaning, with_row}
 use Rattle.rscript.specs.Faults.{code_of, is_ended, first_fault, read_all}
-use Rattle.rscript.specs.declared.code.Code.TheVariants.{NoEnd}
 use Rattle.rscript.proofs.facts.Fine.{AllNext}
 use Rattle.rscript.proofs.facts.Said.{clean}
 use Rattle.rscript.proofs.forth.Lines.{AreLines, lines_spell}

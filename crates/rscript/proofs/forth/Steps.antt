@@ -8,15 +8,16 @@ use Rattle.rset.specs.declared.TheConstants.{RESOURCES, SEATS}
 use Rattle.rvalue.specs.declared.ledger.Edit.TheVariants as edit
 use Rattle.rforms.specs.Heads.{is_nil}
 use Rattle.rforms.proofs.facts.Tables.{table-push, groups-push}
-use Rattle.rscript.specs.declared.place.Where.{Where}
-use Rattle.rscript.specs.declared.section.Section.{Section}
-use Rattle.rscript.specs.Statements.{IsRight, FitsBehind, IsTask, is_there, where_of, section_after}
-use Rattle.rscript.specs.Lines.{Line, Opens, HasResource, HasGroup, HasTask, Does, Ends, statement_word}
+use Rattle.rscript_records.specs.declared.place.Where.{Where}
+use Rattle.rscript_records.specs.declared.section.Section.{Section}
+use Rattle.rscript_records.specs.Statements.{IsRight, FitsBehind, IsTask, is_there, where_of, section_after}
+use Rattle.rscript_records.specs.Lines.{Line, Opens, HasResource, HasGroup, HasTask, Does, Ends, statement_word}
+use Rattle.rscript_records.specs.Places.{stands}
+use Rattle.rscript_records.specs.declared.statement.Statement.{Statement}
+use Rattle.rscript_records.specs.declared.statement.Statement.TheVariants as statement
+use Rattle.rscript_records.specs.declared.word.Word.TheVariants as word
 use Rattle.rscript.specs.Scripts.{said_lines, AreWithin}
-use Rattle.rscript.specs.SoFar.{SoFar, stands, steps_in, section_of, followed_by, with_line}
-use Rattle.rscript.specs.declared.statement.Statement.{Statement}
-use Rattle.rscript.specs.declared.statement.Statement.TheVariants as statement
-use Rattle.rscript.specs.declared.word.Word.TheVariants as word
+use Rattle.rscript.specs.SoFar.{SoFar, steps_in, section_of, followed_by, with_line}
 use Rattle.rscript.proofs.facts.Fine.{IsNext, placed_at}
 use Rattle.rscript.proofs.forth.TaskLines.{grown_resource, grown_group, grown_task, grown_step, open_lines}
 use Rattle.rscript.proofs.forth.Stands.{Stands, AreTurns, all_with, latest_tasks, turn_more}

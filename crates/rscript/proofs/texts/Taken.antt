@@ -7,20 +7,20 @@ use Rattle.rforms.specs.Takers.{followed, fault_of, IsFaultOf, HasTaken}
 use Rattle.rforms.specs.Walks.{when, first_of}
 use Rattle.rforms.specs.declared.fault.Fault.{Fault}
 use Rattle.rforms.proofs.texts.Lists.{fault_by_state}
-use Rattle.rscript.specs.Words.{word_in}
+use Rattle.rscript_records.specs.Words.{word_in}
 use Rattle.rscript.specs.Scripts.{ScriptFields, Spells, IsScript, IsTextOf}
 use Rattle.rscript.specs.SoFar.{SoFar, nothing_yet, section_of, told_in, with_row}
 use Rattle.rscript.specs.Faults.{stands_at, placed_causes, code_by, code_of, is_ended, first_fault, read_all}
 use Rattle.rscript.specs.Reading.{Knows, Takes, Refuses}
 use Rattle.rforms.specs.declared.errors.TextErr.{TextErr}
 use Rattle.rforms.specs.declared.errors.TextErr.TheVariants as text
+use Rattle.rscript_records.specs.declared.code.Code.{Code}
+use Rattle.rscript_records.specs.declared.code.Code.TheVariants.{BadField, BadOrder, NoEnd}
+use Rattle.rscript_records.specs.declared.word.Word.{Word}
 use Rattle.rscript.specs.Texts.{script_code, is_script_done, KnowsSaid, error_of, IsFirstFault}
-use Rattle.rscript.specs.declared.code.Code.{Code}
-use Rattle.rscript.specs.declared.code.Code.TheVariants.{BadField, BadOrder, NoEnd}
 use Rattle.rscript.specs.declared.reading.Reading.{Reading}
 use Rattle.rscript.specs.declared.script.ScriptErr.{ScriptErr}
 use Rattle.rscript.specs.declared.script.ScriptErr.TheVariants as script
-use Rattle.rscript.specs.declared.word.Word.{Word}
 use Rattle.rscript.proofs.forth.Rows.{spells}
 
 -- one record more says what it adds

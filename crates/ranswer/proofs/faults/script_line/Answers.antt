@@ -1,5 +1,5 @@
 use Rattle.std.proofs.Common.{◌≡◌, [], ◌∷◌, ◌++◌, codes, decimal, sym, ap, ◌∙◌}
-use Rattle.rscript.specs.Codes.{code_number}
+use Rattle.rscript_records.specs.Codes.{code_number}
 use Rattle.ranswer.proofs.Lines.{line_is}
 use Rattle.ranswer.proofs.faults.script_line.Goals as goal
 

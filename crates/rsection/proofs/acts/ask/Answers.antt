@@ -1,7 +1,7 @@
 use Rattle.std.proofs.Common.{sym, subst}
 use Rattle.rvalue.specs.declared.ledger.Edit.{Edit}
 use Rattle.rvalue.specs.declared.ledger.Ledger.{Ledger}
-use Rattle.rscript.specs.declared.statement.Statement.TheVariants as statement
+use Rattle.rscript_records.specs.declared.statement.Statement.TheVariants as statement
 use Rattle.rguard.specs.Looks.{fields_of}
 use Rattle.rguard.specs.Guards.{IsPartOf}
 use Rattle.rguard.specs.declared.guard.Guard.{Guard}

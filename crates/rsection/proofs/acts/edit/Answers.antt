@@ -1,6 +1,6 @@
 use Rattle.std.proofs.Common.{refl}
 use Rattle.rvalue.specs.declared.act.Act.TheVariants.{Edited}
-use Rattle.rscript.specs.declared.statement.Statement.TheVariants as statement
+use Rattle.rscript_records.specs.declared.statement.Statement.TheVariants as statement
 use Rattle.rsection.proofs.Stepping.{acted, may_edit_there}
 use Rattle.rsection.proofs.acts.edit.Goals as goal
 

@@ -1,7 +1,7 @@
 use Rattle.std.proofs.Common.{List, sym, subst, ◌∙◌}
 use Rattle.std.proofs.lemmas.Result.{IfOk-weaker, IfErr-weaker}
 use Rattle.rstate.proofs.homes.Lists.{same_item}
-use Rattle.rscript.specs.declared.statement.Statement.{Statement}
+use Rattle.rscript_records.specs.declared.statement.Statement.{Statement}
 use Rattle.rsection.specs.Runs.{HasRun, HasBrokenOff}
 use Rattle.rsection.proofs.Whole.{whole_for}
 use Rattle.rsection.proofs.task.run_task.Goals as goal

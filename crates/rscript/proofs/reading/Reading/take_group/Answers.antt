@@ -2,7 +2,7 @@ use Rattle.std.proofs.Common.{◌++◌, ◌∷◌, [], Some, sym, ap, ◌∙◌,
 use Rattle.csv.specs.Records.{fields_of}
 use Rattle.rexpand.specs.Groups.{ReadGroups}
 use Rattle.rforms.specs.SetFields.{set_told}
-use Rattle.rscript.specs.Reading.{groups_in}
+use Rattle.rscript_records.specs.Causes.{groups_in}
 use Rattle.rrecords.proofs.Made.{no_members, has_members}
 use Rattle.rscript.proofs.Takes.{takes_group, refuses_unknown, refuses_empty, some_below, same_bad}
 use Rattle.rscript.proofs.reading.Reading.take_group.Goals as goal

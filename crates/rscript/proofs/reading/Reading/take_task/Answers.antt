@@ -3,8 +3,7 @@ use Rattle.csv.specs.Records.{fields_of}
 use Rattle.rset.specs.declared.TheConstants.{RESOURCES}
 use Rattle.rexpand.specs.Groups.{ReadGroups}
 use Rattle.rforms.specs.Walks.{first_of}
-use Rattle.rscript.specs.Faults.{name_causes}
-use Rattle.rscript.specs.Reading.{groups_in}
+use Rattle.rscript_records.specs.Causes.{name_causes, groups_in}
 use Rattle.rscript.proofs.Takes.{takes_task, not_zero}
 use Rattle.rscript.proofs.reading.Reading.take_task.Goals as goal
 

@@ -1,4 +1,0 @@
-pub mod WordBack
-pub mod LineBack
-pub mod Written
-pub mod Decided

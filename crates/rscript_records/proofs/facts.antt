@@ -1,0 +1,4 @@
+pub mod Causes
+pub mod Shapes
+pub mod Tells
+pub mod Begins

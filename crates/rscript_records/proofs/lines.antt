@@ -1,0 +1,3 @@
+pub mod WordBack
+pub mod LineBack
+pub mod Decided
