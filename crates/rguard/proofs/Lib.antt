@@ -1,4 +1,3 @@
-pub mod Closing
 pub mod Going
 pub mod Seeing
 pub mod Having

@@ -2,5 +2,4 @@ pub mod Seats
 pub mod Guards
 pub mod Awaiting
 pub mod Looks
-pub mod Closing
 pub mod Resting

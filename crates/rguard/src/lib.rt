@@ -3,7 +3,6 @@
 
 mod acquiring;
 mod awaited;
-mod close;
 mod guard;
 mod kinds;
 mod lock;
@@ -14,7 +13,6 @@ mod rise;
 mod section_guard;
 mod write;
 
-pub use close::{Closed, Receipt};
 pub use guard::Guard;
 pub use kinds::{Editing, Guarding, Nesting, Reading, Rising, Writing};
 pub use lock::{Lock, Rnlp};
@@ -23,5 +21,6 @@ pub use pending::{Looked, Pending};
 pub use read::ReadGuard;
 pub use rise::RiseGuard;
 pub use rlent::{GuardKind, Seat};
+pub use ropening::{Closed, Receipt};
 pub use section_guard::SectionGuard;
 pub use write::WriteGuard;

@@ -1,13 +1,16 @@
 //! The runtime of a lock: the locked state behind a gate.
-ghost use Rattle.std.specs.Prelude.{◌≡◌, ℕ, ◌<◌, ◌≤◌, [], IfOk, Some, All, length, replicate, slice_get};
+ghost use Rattle.std.specs.Prelude.{◌≡◌, ℕ, ◌<◌, ◌≤◌, [], IfOk, Some, All, Any, length, map, replicate, slice_get};
+ghost use Rattle.std.specs.Arc.{arc_value};
 ghost use Rattle.rmodel.specs.Holds.{nothing};
 ghost use Rattle.rlock.specs.Known.{newcomer};
 ghost use Rattle.rstate.specs.Histories.{Beginning};
+ghost use Rattle.ropening.specs.Closing.{IsClosedBy};
 ghost use Rattle.rguard.specs.Seats.{IsOf, IsIdle};
 
 use rlent::{CountedGate, Seat};
 use rlock::Kept;
 use rmodel::Machine;
+use ropening::Closed;
 use rstate::State;
 use rvalue::Editable;
 use std::alloc::{AllocError, Global};
@@ -53,9 +56,24 @@ impl<T: Editable, M: Machine> Lock<State<T, M>> {
         ensures each { IfOk result (λ r. (k : ℕ) → k < seats → slice_get r.1.items k ≡ Some (let began : Beginning T = record { groups = (M.state machine).groups; seats = (M.state machine).seats; cap = (M.state machine).cap; values = values.items } in
             newcomer r.0.gate k began (record { beginning = began; entries = []; taken = replicate (M.state machine).seats nothing }))) }
     {
-        match CountedGate::open(alloc, machine, values, seats) {
+        match ropening::open(alloc, machine, values, seats) {
             Ok((gate, all)) => Ok((Lock { gate }, all)),
             Err(e) => Err(e),
         }
+    }
+
+    /// Closes the runtime with all of its seats, each of which is idle. No memory is taken.
+    ///
+    /// The history is lawful from the beginning, begins with what each seat has seen, and has just what each seat has made as its entries. The values
+    /// are those that the history makes.
+    pub fn close(self, seats: Vec<Seat<T, M>>) -> Closed<T>
+        requires of { All (λ seat. IsOf self seat) seats.items }
+        requires idle { All (λ seat. IsIdle seat) seats.items }
+        requires all { (n : ℕ) → n < self.passes → Any (λ seat. seat.number ≡ n) seats.items }
+        ensures seats { All (λ seat. IsClosedBy T.after T.taken T.number result.0.entries (map arc_value result.1.items) seat) seats.items }
+        ensures receipt { result.2 ≡ result.0.entries }
+    {
+        let Lock { gate } = self;
+        ropening::close(gate, seats)
     }
 }

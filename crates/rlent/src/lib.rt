@@ -3,7 +3,6 @@
 
 mod counted;
 mod kind;
-mod opening;
 mod section;
 mod turns;
 

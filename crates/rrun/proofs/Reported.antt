@@ -23,7 +23,7 @@ use Rattle.rforms.specs.Reports.{IsLawful, IsRightEntry, ledger_after}
 use Rattle.rreport.specs.Report.{ReportFields, told_by}
 use Rattle.rscript_records.specs.declared.statement.Statement.{Statement}
 use Rattle.rscript.specs.Scripts.{ScriptFields, IsScript}
-use Rattle.rguard.specs.Closing.{IsClosedBy, IsLeft}
+use Rattle.ropening.specs.Closing.{IsClosedBy, IsLeft}
 use Rattle.rguard.specs.Seats.{SeatOf, IsOf, IsIdle}
 use Rattle.rsection.specs.Runs.{IsRunOf}
 use Rattle.rsection.specs.Seats.{IsSeatFor}

@@ -6,7 +6,7 @@ use Rattle.rlock.specs.Known.{entries_by}
 use Rattle.rvalue.specs.Entries.{EntryFields}
 use Rattle.rvalue.specs.Histories.{value_of}
 use Rattle.rstate.specs.Histories.{Beginning, IsLawfulFrom}
-use Rattle.rguard.specs.Seats.{SeatOf}
+use Rattle.rlent.specs.Seats.{SeatOf}
 
 -- From how the lock began the entries are lawful, and each resource has the value that they make of its opening value
 pub record IsLeft {V E : Type 0} (after : V → E → V) (taken : V → E → Bool) (number : V → ℕ) (b : Beginning V) (entries : List (EntryFields E)) (values : List V) : Type 0 where

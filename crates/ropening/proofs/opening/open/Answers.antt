@@ -3,7 +3,7 @@ use Rattle.std.proofs.lemmas.Option.{get_or_from_slice_get}
 use Rattle.rlock.specs.Known.{Site}
 use Rattle.rstate.specs.Histories.{Beginning}
 use Rattle.rlent.specs.Seats.{SeatOf, IsOf, IsIdle}
-use Rattle.rlent.proofs.opening.CountedGate+State+T+M.open.Goals as goal
+use Rattle.ropening.proofs.opening.open.Goals as goal
 
 pub returns-in-Ok-clause-seats : goal.returns-in-Ok-clause-seats
 returns-in-Ok-clause-seats g c = λ k d less.

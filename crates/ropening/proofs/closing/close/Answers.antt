@@ -1,14 +1,14 @@
-use Rattle.std.proofs.Common.{rules, ◌<◌, map, subst, ◌∙◌}
+use Rattle.std.proofs.Common.{rules, map, ◌∙◌}
 use Rattle.std.specs.Arc.{arc_value}
 use Rattle.std.specs.Prelude.{slice_index_or}
 use Rattle.std.proofs.lemmas.List.{length-map}
-use Rattle.rguard.proofs.Closing.{no_request, closed_by}
-use Rattle.rguard.proofs.close.Lock+State+T+M.close.Goals as goal
+use Rattle.ropening.proofs.LastState.{no_request, closed_by}
+use Rattle.ropening.proofs.closing.close.Goals as goal
 
 pub into_parts-history-requires-after_bounds : goal.into_parts-history-requires-after_bounds
 into_parts-history-requires-after_bounds g c κs within =
-    no_request g.T.Editable.after g.T.Editable.taken g.T.Editable.number c.args.self c.args.seats.items c.close-state.result c.requires.of c.requires.idle c.requires.all c.close-state.ensures.passes c.history.ensures.lawful
-    (subst (λ s. 0 < s.passes) c.self.view_is c.into_gate-gate.ensures.some)
+    no_request g.T.Editable.after g.T.Editable.taken g.T.Editable.number c.args.gate c.args.seats.items c.close-state.result c.requires.of c.requires.idle c.requires.all c.close-state.ensures.passes c.history.ensures.lawful
+    c.into_gate-gate.ensures.some
 
 pub returns-clause-seats : goal.returns-clause-seats
 returns-clause-seats g c = λ k d less.

@@ -1,4 +1,4 @@
--- The end of a lock: all seats are idle, so no request is incomplete.
+-- The last state of a lock: all seats are idle, so no request is incomplete, and what a seat tells of it.
 use Rattle.std.proofs.Common.{◌≡◌, ℕ, ◌<◌, ◌≤◌, ◌==◌, Bool, false, List, length, Some, sym, ap, subst, ◌∙◌, inl, inr, ◌⊎◌, arith}
 use Rattle.std.specs.Prelude.{slice_get, slice_index_or, All, Any}
 use Rattle.std.proofs.lemmas.Bool.{eqb-true, cases_lt}
@@ -12,8 +12,8 @@ use Rattle.rstate.specs.Contents.{Contents, lock_of, value_now}
 use Rattle.rstate.specs.Histories.{Beginning, IsLawfulFrom}
 use Rattle.rstate.proofs.histories.Following.{reached_lawful}
 use Rattle.rstate.proofs.homes.Lists.{same_item}
-use Rattle.rguard.specs.Closing.{IsLeft, IsClosedBy}
-use Rattle.rguard.specs.Seats.{SeatOf, IsOf, IsIdle, is_busy}
+use Rattle.ropening.specs.Closing.{IsLeft, IsClosedBy}
+use Rattle.rlent.specs.Seats.{SeatOf, IsOf, IsIdle, is_busy}
 use Rattle.rlent.proofs.Ending.{sizes}
 use Rattle.rlent.proofs.seats.Idle.{idle_has_none}
 
