@@ -13,8 +13,6 @@ mod kept;
 mod opening;
 mod pass;
 mod plays;
-mod roll;
-mod shelf;
 mod turn;
 mod view;
 

@@ -2,8 +2,6 @@
 #![tactic(auto)]
 
 #[cfg(test)]
-mod roll;
-#[cfg(test)]
 mod signing;
 #[cfg(test)]
 mod states;

@@ -1,8 +1,12 @@
-//! A state for a gate: a roll that passes sign.
-ghost use Rattle.std.specs.Prelude.{◌≡◌, ◌++◌, ◌∷◌, [], OnOk, OnErr};
+//! The smallest state for a gate: a roll that passes sign.
+ghost use Rattle.std.specs.Prelude.{◌≡◌, ◌+◌, [], ◌∷◌, ◌++◌, OnOk, OnErr};
+ghost use mathlib.Core.List.{IsPrefix};
+ghost use Rattle.rlock.specs.Known.{IsSamePass};
+ghost use Rattle.rlock_samples.specs.Roll.{signature};
 
-use rlock::Kept;
+use rlock::{Gate, Kept, Pass};
 use std::alloc::{AllocError, Global};
+use std::sync::Wait;
 
 /// A pass's signature.
 #[derive(Clone, Copy, Debug, PartialEq, Eq)]
@@ -16,7 +20,9 @@ pub struct Signature {
 /// A roll of one day, with its signatures.
 #[derive(Drop)]
 pub struct Roll {
+    /// Which day: it tells one roll from another, and no turn changes it.
     pub day: u64,
+    /// The signatures, the first that was made first.
     pub signed: Vec<Signature>,
 }
 
@@ -53,10 +59,30 @@ impl Roll {
     /// Adds a signature at the end. At `Err` the roll is as it was.
     pub fn sign(&mut self, pass: u8, time: u32) -> Result<(), AllocError>
         ensures day { self.new.day ≡ self.old.day }
-        ensures ok { OnOk result (self.new.signed.items ≡ self.old.signed.items ++ record { pass = pass; time = time } ∷ []) }
+        ensures ok { OnOk result (self.new.signed.items ≡ self.old.signed.items ++ signature pass time ∷ []) }
         ensures err { OnErr result (self.new.signed.items ≡ self.old.signed.items) }
     {
         self.signed.push(Signature { pass, time })?;
         Ok(())
     }
+}
+
+/// Signs the roll behind the gate in one turn of the pass, which comes back. At `Err` there was no memory, and the roll is as it was.
+pub fn sign_in<R: Wait>(
+    rt: &R,
+    gate: &Gate<Roll>,
+    pass: Pass<Roll>,
+    time: u32,
+) -> (Pass<Roll>, Result<(), AllocError>)
+    requires { pass.gate ≡ gate.now.gate }
+    ensures same { IsSamePass pass result.0 }
+    ensures turn { result.0.turns ≡ pass.turns + 1 }
+    ensures seen { IsPrefix pass.seen result.0.seen }
+    ensures signed { OnOk result.1 (result.0.mine ≡ pass.mine ++ signature pass.number time ∷ []) }
+    ensures not_signed { OnErr result.1 (result.0.mine ≡ pass.mine) }
+{
+    let number = pass.number();
+    let mut turn = gate.enter(rt, pass);
+    let signed = turn.state().sign(number, time);
+    (gate.leave(turn), signed)
 }

@@ -1,7 +1,7 @@
 -- What is out with a pass, and what it put home.
 use Rattle.std.specs.Prelude.{◌≡◌, ℕ, ◌+◌, ◌-◌, ◌^◌, min, Some, slice_get}
-use Rattle.rlock.specs.declared.shelf.Shelf.{Shelf}
-use Rattle.rlock.specs.declared.shelf.Spot.TheVariants.{Home, Out}
+use Rattle.rlock_samples.specs.declared.shelf.Shelf.{Shelf}
+use Rattle.rlock_samples.specs.declared.shelf.Spot.TheVariants.{Home, Out}
 use Rattle.rlock.specs.Known.{Known}
 
 -- the value of this spot was out with the pass as it left the shelf last
