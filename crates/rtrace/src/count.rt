@@ -13,6 +13,7 @@ ghost use Rattle.rtrace.specs.Counts.{IsCountOf};
 ghost use Rattle.rreading.specs.Takes.{bound_of};
 
 use crate::bounds::BoundsKept;
+use crate::owned::let_go;
 use csv::ByteRecord;
 use io_ends::Source;
 use rforms::{Code, Fault, Records, RowErr};
@@ -142,7 +143,10 @@ pub fn audit_stream<S: Source>(
     ensures within { ¬ IsErrOf result StreamErr.TooLong → TookAtMost (S.left source.old) (S.left source.new) limit }
     ensures counted { S.faults source.old ≤ S.faults source.new }
 {
-    count_stream(alloc, source, limit, &mut Counting::new(alloc))
+    let mut counting = Counting::new(alloc);
+    let answer = count_stream(alloc, source, limit, &mut counting);
+    let_go(counting);
+    answer
 }
 
 /// The same, by a reader that has read nothing. Where the report is right, the reader knows in the end what all of it said.

@@ -8,6 +8,7 @@ mod bounds;
 mod collect;
 mod count;
 mod lists;
+mod owned;
 
 pub use bounds::BoundsKept;
 pub use count::{AuditCounts, Counting, audit_stream, count_stream};

@@ -15,6 +15,7 @@ ghost use Rattle.rreport.specs.Report.{told_by, IsOverResources, HasItsLedgers};
 
 use crate::bounds::BoundsKept;
 use crate::collect::Collecting;
+use crate::owned::let_go;
 use csv::ByteRecord;
 use rforms::{Code, Fault, Records, RowErr, TextErr, take_text};
 use rreading::{Taken, take};
@@ -91,7 +92,9 @@ pub fn read_events(alloc: Global, bytes: &[u8]) -> Result<Report, TextErr>
     ensures bad { (fault : Fault Code) → result ≡ Err (TextErr.Bad fault) → IsFirstFault false bytes.now fault }
 {
     let mut taker = Collecting::new(alloc, false);
-    take_list(alloc, bytes, &mut taker)
+    let read = take_list(alloc, bytes, &mut taker);
+    let_go(taker);
+    read
 }
 
 // The same, by a taker that has taken nothing.
@@ -121,7 +124,9 @@ pub fn read_report(alloc: Global, bytes: &[u8]) -> Result<Report, TextErr>
         inner: Collecting::new(alloc, true),
         bounds: BoundsKept::new(),
     };
-    take_report(alloc, bytes, &mut taker)
+    let read = take_report(alloc, bytes, &mut taker);
+    let_go(taker);
+    read
 }
 
 // The same, by a taker that has taken nothing.
