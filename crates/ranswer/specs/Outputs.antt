@@ -8,7 +8,7 @@ use Rattle.rforms.specs.declared.fault.Code.{Code}
 use Rattle.rforms.specs.declared.fault.Fault.{Fault}
 use Rattle.rmodel.specs.Steps.{after}
 use Rattle.rbound_text.specs.BoundText.{bounds_text}
-use Rattle.rpage.specs.ErrorLine.{error_line}
+use Rattle.rfault_line.specs.ErrorLine.{error_line}
 use Rattle.rreport.specs.Report.{ReportFields, told_by}
 use Rattle.rscript_records.specs.Codes.{code_number}
 use Rattle.rscript_records.specs.declared.code.Code as script_code

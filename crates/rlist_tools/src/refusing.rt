@@ -2,12 +2,12 @@
 ghost use Rattle.std.specs.Prelude.{◌≡◌, ◌≢◌, Some};
 ghost use Rattle.io_ends.specs.Faults.{Rose};
 ghost use Rattle.ranswer.specs.Writing.{IsTold};
-ghost use Rattle.rpage.specs.ErrorLine.{error_line};
+ghost use Rattle.rfault_line.specs.ErrorLine.{error_line};
 
 use io_ends::Sink;
 use ranswer::{Told, ToolStatus, write_line};
+use rfault_line::error_line;
 use rforms::Fault;
-use rpage::error_line;
 use std::alloc::Global;
 
 /// Writes the line of the fault of a list or a report, and notes the fault for a person, with the line that is due in its

@@ -1,4 +1,4 @@
-//! The lines of a report, each spelled on a page that grows, and the line of a fault.
+//! The lines of a report, each spelled on a page that grows.
 //!
 //! What each line is says the table of records of `rforms`; here it is spelled, by names that stand ready in [`NameRows`].
 //! The head of a report and its ending stand here whole; its history is told line by line by the crates above.
@@ -7,7 +7,6 @@
 mod act;
 mod change;
 mod ending;
-mod error;
 mod event;
 mod frame;
 mod head;
@@ -17,7 +16,6 @@ mod pieces;
 mod wait;
 
 pub use ending::ending_of;
-pub use error::{code_number, error_line, refusal_number};
 pub use head::head_of;
 pub use names::NameRows;
 pub use page::Page;

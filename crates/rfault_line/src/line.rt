@@ -2,7 +2,7 @@
 ghost use Rattle.std.specs.Prelude.{◌≡◌, ◌++◌, OnOk, IfOk, decimal};
 ghost use Rattle.std.specs.List.{flat_map};
 ghost use Rattle.rforms.specs.Texts.{behind_comma};
-ghost use Rattle.rpage.specs.ErrorLine.{error_line, code_number, refusal_number, refusal_fields};
+ghost use Rattle.rfault_line.specs.ErrorLine.{error_line, code_number, refusal_number, refusal_fields};
 
 use itoa::Buffer;
 use rforms::{Code, Fault, Refusal};
