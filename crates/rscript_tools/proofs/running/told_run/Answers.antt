@@ -1,6 +1,6 @@
 use Rattle.std.proofs.Common.{Some, sym, subst}
 use Rattle.ranswer.proofs.ToolAnswers.{answered}
-use Rattle.ranswer.proofs.Runs.{receipts_left}
+use Rattle.ranswer.proofs.Runs.{receipts_left, unread_receipts}
 use Rattle.ranswer.proofs.Tellings.{tells_left, unread_tells}
 use Rattle.ranswer.specs.Receipts.{Receipts}
 use Rattle.ranswer.specs.Told.{Tells}
@@ -22,6 +22,11 @@ returns-in-Ok-clause-told g c = λ watchers.
     let read = rw (← c.deref.ensures.value) at c.in-Ok.ensures.read in
     subst (λ o. Tells watchers o (g.S.Source.left c.args.source.now) c.args.told.now c.run_text.new.told c.run_text.result) (sym c.if-not-ask_for_run.ensures)
     (tells_left Run (g.S.Source.left c.args.source.now) c.deref.result.now c.args.told.now c.args.told.now c.run_text.new.told c.run_text.result read.whole (c.run_text.ensures.told watchers))
+
+pub returns-in-Err-clause-receipts : goal.returns-in-Err-clause-receipts
+returns-in-Err-clause-receipts g c =
+    subst (λ o. Receipts o (g.S.Source.left c.args.source.now) (g.K.Sink.written c.args.sink.now) (g.K.Sink.written c.args.sink.now) c.args.receipts.now.items c.args.receipts.now.items c.in-Err.status) (sym c.if-not-ask_for_run.ensures)
+    (unread_receipts g.S.Source.left g.S.Source.faults (Some Run) _ _ (g.S.Source.left c.args.source.now) _ _ c.args.receipts.now.items c.in-Err.status c.in-Err.ensures.not_read)
 
 pub returns-in-Err-clause-told : goal.returns-in-Err-clause-told
 returns-in-Err-clause-told g c = λ watchers.
