@@ -33,6 +33,13 @@ const MOST_DIGITS: usize = 7;
 /// The most bytes that a script may have.
 pub const SCRIPT_LIMIT: usize = 1_048_576;
 
+// What `limit` promises of the inputs of commands, said of the constants too: other crates read them by name.
+const _: () = prove!(LIST_LIMIT == 67_108_864);
+
+const _: () = prove!(REPORT_LIMIT == 17_179_869_184);
+
+const _: () = prove!(SCRIPT_LIMIT == 1_048_576);
+
 impl Command {
     /// The most bytes that its input may have; None where it reads no input.
     pub fn limit(self) -> Option<usize>
