@@ -1,5 +1,5 @@
 -- What the whole program answers.
-use Rattle.std.specs.Prelude.{◌≡◌, ◌⊎◌, ℕ, Bool, true, false, List, [], Option, Some, None}
+use Rattle.std.specs.Prelude.{◌≡◌, ℕ, Bool, true, false, List, [], Option, Some, None, Result, IfOk, IfErr}
 use Rattle.io_ends.specs.Faults.{Rose}
 use Rattle.rforms.specs.Reports.{Entry}
 use Rattle.ranswer.specs.Words.{command_in}
@@ -12,7 +12,6 @@ use Rattle.ranswer.specs.Watched.{Watched}
 use Rattle.ranswer.specs.declared.command.Command.{Command}
 use Rattle.ranswer.specs.declared.command.Command.TheVariants.{Run, Replay, Audit, Bound, Drill}
 use Rattle.ranswer.specs.declared.status.ToolStatus.{ToolStatus}
-use Rattle.ranswer.specs.declared.status.ToolStatus.TheVariants as status
 use Rattle.ranswer.specs.declared.told.Told.{Told}
 use Rattle.redge.specs.Words.{own_text}
 
@@ -53,6 +52,11 @@ ProgramTells words watchers left before after answer = TellsBy (own_text words) 
 abbrev pub ShownTells : Bool → List (List ℕ) → List Seen → Option (List ℕ) → Option Told → Option Told → ToolStatus → Type 0
 ShownTells on_terminal words watchers left before after answer = ProgramTells words (watching (is_unwatched on_terminal (command_in words)) watchers) left before after answer
 
+-- what a person is told beyond the status of how a run ended: what is told of the words that were had, and nothing where none were to be had
+abbrev pub RunTells : {W : Type 0} → (W → List (List ℕ)) → Result W ToolStatus → Bool → List Seen → Option (List ℕ) → Option Told → Option Told → ToolStatus → Type 0
+RunTells spelled words on_terminal watchers left before after answer =
+    IfOk words (λ had. ShownTells on_terminal (spelled had) watchers left before after answer) × IfErr words (λ _. after ≡ before)
+
 -- of a source, the bytes that are left and how often it failed; of a sink, the bytes that were written and how often it failed
 module _ {S K : Type 0} (left : S → Option (List ℕ)) (reads : S → ℕ) (written : K → Option (List ℕ)) (writes : K → ℕ) where
   -- what the program answers whose own text these words ask for, or that hands them to the tools
@@ -82,15 +86,8 @@ module _ {S K : Type 0} (left : S → Option (List ℕ)) (reads : S → ℕ) (wr
   ShownAnswer on_terminal words source source_after sink sink_after receipts receipts_after watchers watchers_after answer =
       WatchedAnswer (is_unwatched on_terminal (command_in words)) words source source_after sink sink_after receipts receipts_after watchers watchers_after answer
 
-  -- how a run ended: with no words to be had, wrong words or want of memory, and nothing was touched; else as its words are answered
-  abbrev pub RunAnswer : Bool → S → S → K → K → List (List Entry) → List (List Entry) → List Seen → List Seen → ToolStatus → Type 0
-  RunAnswer on_terminal source source_after sink sink_after receipts receipts_after watchers watchers_after answer =
-      (((answer ≡ status.Words) ⊎ (answer ≡ status.NoMemory)) × IsUntouched source source_after sink sink_after receipts receipts_after watchers watchers_after)
-      ⊎ ((words : List (List ℕ)) × ShownAnswer on_terminal words source source_after sink sink_after receipts receipts_after watchers watchers_after answer)
-
-  -- how a run ended, and what a person may be told of it beyond its status: with no words to be had nothing, and else what is told of the words that it answers
-  abbrev pub RunTells : Bool → S → S → K → K → List (List Entry) → List (List Entry) → List Seen → List Seen → ToolStatus → Option Told → Type 0
-  RunTells on_terminal source source_after sink sink_after receipts receipts_after watchers watchers_after answer told =
-      (((answer ≡ status.Words) ⊎ (answer ≡ status.NoMemory)) × (told ≡ None) × IsUntouched source source_after sink sink_after receipts receipts_after watchers watchers_after)
-      ⊎ ((words : List (List ℕ)) × ShownAnswer on_terminal words source source_after sink sink_after receipts receipts_after watchers watchers_after answer
-      × ShownTells on_terminal words watchers (left source) None told answer)
+  -- how a run ended: the words that were had, which `spelled` reads, are answered; where none were to be had, with the status that says why, and nothing was touched
+  abbrev pub RunAnswer : {W : Type 0} → (W → List (List ℕ)) → Result W ToolStatus → Bool → S → S → K → K → List (List Entry) → List (List Entry) → List Seen → List Seen → ToolStatus → Type 0
+  RunAnswer spelled words on_terminal source source_after sink sink_after receipts receipts_after watchers watchers_after answer =
+      IfOk words (λ had. ShownAnswer on_terminal (spelled had) source source_after sink sink_after receipts receipts_after watchers watchers_after answer)
+      × IfErr words (λ wanting. (answer ≡ wanting) × IsUntouched source source_after sink sink_after receipts receipts_after watchers watchers_after)

@@ -8,6 +8,8 @@ mod edge;
 mod explain;
 mod own;
 mod progress;
+mod words;
 
-pub use edge::{answer, run, words_of};
+pub use edge::{answer, run};
 pub use progress::Progress;
+pub use words::{given_words, words_of};

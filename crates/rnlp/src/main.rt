@@ -1,22 +1,22 @@
 //! The program `rnlp`: its handles alone. What it does stands in `redge`.
 #![tactic(auto)]
 
-ghost use Rattle.std.specs.Prelude.{◌≡◌, [], List, IfOk, OnErr};
+ghost use Rattle.std.specs.Prelude.{◌≡◌, [], List, IfOk, OnErr, map, string_bytes};
 ghost use Rattle.std.specs.Process.{exit_status};
 ghost use Rattle.rforms.specs.Reports.{Entry};
 ghost use Rattle.rwatch.specs.Seen.{Seen};
 ghost use Rattle.ranswer.specs.Status.{status_number};
 ghost use Rattle.redge.specs.Program.{RunAnswer};
+ghost use Rattle.rnlp.specs.Counters.{counters};
 
 use io_ends::{Sink, Source, StdinSource, StdoutSink};
-use redge::Progress;
+use redge::{Progress, given_words, words_of};
 use rnlp_cli::ToolStatus;
 use rrun::NoPace;
 use rwatch::{Counter, WatchKind, Watcher, Watchers};
 use std::alloc::AllocError;
 use std::io::IsTerminal;
 use std::process::ExitCode;
-use std::rt::Env;
 use std::sync::Wait;
 use std::thread::Threads;
 
@@ -35,21 +35,23 @@ fn main(rt: HostRuntime) -> ExitCode {
     let on_terminal = rt.stderr().is_terminal();
     let mut source = Progress::new(&rt, StdinSource::new(rt.stdin()), on_terminal);
     let mut sink = StdoutSink::new(rt.stdout());
-    match run_watched(&rt, &mut source, &mut sink, on_terminal) {
+    let words = words_of(given_words(&rt));
+    match run_watched(&rt, &words, &mut source, &mut sink, on_terminal) {
         Ok(code) => code,
         Err(_) => ExitCode::from(ToolStatus::NoMemory.number()),
     }
 }
 
 // Runs the program, watched by a counter of each kind. Where memory is wanting for them nothing is touched.
-fn run_watched<R: Env + AllocGlobal + Eprint + Threads + Wait + Sync, S: Source, K: Sink>(
+fn run_watched<R: AllocGlobal + Eprint + Threads + Wait + Sync, S: Source, K: Sink>(
     rt: &R,
+    words: &Result<Vec<String>, ToolStatus>,
     source: &mut S,
     sink: &mut K,
     on_terminal: bool,
 ) -> Result<ExitCode, AllocError>
-    ensures ran { IfOk result (λ code. (status : ToolStatus) × (receipts : List (List Entry)) × (watchers watched : List Seen) × (exit_status code ≡ status_number status)
-        × RunAnswer S.left S.faults K.written K.faults on_terminal source.old source.new sink.old sink.new [] receipts watchers watched status) }
+    ensures ran { IfOk result (λ code. (status : ToolStatus) × (receipts : List (List Entry)) × (watched : List Seen) × (exit_status code ≡ status_number status)
+        × RunAnswer S.left S.faults K.written K.faults (λ had. map string_bytes had.items) words.now on_terminal source.old source.new sink.old sink.new [] receipts counters watched status) }
     ensures not_run { OnErr result ((source.new ≡ source.old) × (sink.new ≡ sink.old)) }
 {
     let mut list = Vec::new(rt.alloc());
@@ -61,6 +63,7 @@ fn run_watched<R: Env + AllocGlobal + Eprint + Threads + Wait + Sync, S: Source,
     let mut receipts = Vec::new(rt.alloc());
     Ok(redge::run(
         rt,
+        words,
         source,
         sink,
         &NoPace,

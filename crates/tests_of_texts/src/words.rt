@@ -3,7 +3,7 @@ ghost use Rattle.std.specs.Io.{WritesAtMost};
 
 use crate::runs::{SMALLEST, SMALLEST_REPORT};
 use io_ends::{MemSink, MemSource};
-use redge::{answer, words_of};
+use redge::{answer, given_words, words_of};
 use rnlp_cli::ToolStatus;
 use rrun::NoPace;
 use rwatch::Watchers;
@@ -51,7 +51,7 @@ fn fill(bytes: &[u8], buf: &mut [u8]) -> Result<usize, FillError>
 
 // Whether a program that was started with these arguments is given these words.
 fn gives(alloc: Global, args: &[&[u8]], wanted: &[&str]) -> bool {
-    match words_of(&(Started { args }, alloc)) {
+    match words_of(given_words(&(Started { args }, alloc))) {
         Ok(words) => are_words(&words, wanted),
         Err(_) => false,
     }
@@ -74,18 +74,23 @@ fn words_are_those_behind_the_name(rt: HostRuntime) {
     let all = gives(alloc, &[], &[])
         && gives(alloc, &[b"rnlp"], &[])
         && gives(alloc, &[b"rnlp", b"replay"], &["replay"])
-        && gives(alloc, &[b"rnlp", b"", b"two"], &["", "two"]);
+        && gives(alloc, &[b"rnlp", b"", b"two"], &["", "two"])
+        && gives(
+            alloc,
+            &[b"rnlp", b"bound", b"4", b"more", b"rnlp"],
+            &["bound", "4", "more", "rnlp"],
+        );
     assert!(rt; all);
 }
 
 #[test]
 fn words_that_are_no_text_are_wrong(rt: HostRuntime) {
-    let wrong = match words_of(&(
+    let wrong = match words_of(given_words(&(
         Started {
             args: &[b"rnlp", b"\xFF"],
         },
         rt.alloc(),
-    )) {
+    ))) {
         Ok(_) => false,
         Err(status) => status == ToolStatus::Words,
     };

@@ -1,0 +1,55 @@
+// The words that the program was started with.
+ghost use Rattle.std.specs.Prelude.{◌≡◌, ◌≢◌, ◌⊎◌, drop, IfOk, IfErr, IsOkAnd};
+
+use ranswer::ToolStatus;
+use std::env;
+use std::io::ErrorKind;
+use std::rt::Env;
+
+/// All that the program was started with, its name first, or what kept it from being had. Which words an environment holds
+/// no contract can say.
+pub fn given_words<R: Env + AllocGlobal>(rt: &R) -> Result<Vec<String>, ErrorKind> {
+    match env::args(rt) {
+        Ok(args) => match args.collect(rt.alloc()) {
+            Ok(all) => Ok(all),
+            Err(_) => Err(ErrorKind::OutOfMemory),
+        },
+        Err(e) => Err(e.kind()),
+    }
+}
+
+/// Of all that the program was started with the words after its name, or the status where nothing is to be had: wrong words
+/// where one is not UTF-8, and else want of memory.
+pub fn words_of(given: Result<Vec<String>, ErrorKind>) -> Result<Vec<String>, ToolStatus>
+    ensures words { IfOk given (λ all. IsOkAnd result (λ words. words.items ≡ drop 1 all.items)) }
+    ensures no_text { IfErr given (λ kind. kind ≡ ErrorKind.InvalidData → result ≡ Err ToolStatus.Words) }
+    ensures other { IfErr given (λ kind. kind ≢ ErrorKind.InvalidData → result ≡ Err ToolStatus.NoMemory) }
+    ensures status { IfErr result (λ status. (status ≡ ToolStatus.Words) ⊎ (status ≡ ToolStatus.NoMemory)) }
+{
+    match given {
+        Ok(all) => Ok(behind_name(all)),
+        Err(kind) => Err(status_without_words(kind)),
+    }
+}
+
+// All words but the first, which is the program's name.
+fn behind_name(all: Vec<String>) -> Vec<String>
+    ensures { result.items ≡ drop 1 all.items }
+{
+    let mut words = all;
+    if !words.is_empty() {
+        words.remove(0);
+    }
+    words
+}
+
+// The status where the words cannot be had: those that are no UTF-8 are wrong.
+fn status_without_words(kind: ErrorKind) -> ToolStatus
+    ensures no_text { kind ≡ ErrorKind.InvalidData → result ≡ ToolStatus.Words }
+    ensures other { kind ≢ ErrorKind.InvalidData → result ≡ ToolStatus.NoMemory }
+{
+    match kind {
+        ErrorKind::InvalidData => ToolStatus::Words,
+        _ => ToolStatus::NoMemory,
+    }
+}
