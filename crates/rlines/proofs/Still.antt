@@ -8,7 +8,7 @@ use Rattle.rwaits.specs.Past.{Past}
 use Rattle.rwaits.specs.declared.following.Following.{Following}
 use Rattle.rforms.specs.Reports.{Entry}
 use Rattle.rlines.specs.declared.reading.Reading.{Reading}
-use Rattle.rlines.specs.Knows.{changes_in, past_in, StandBehind}
+use Rattle.rlines.specs.Knows.{state_in, changes_in, past_in, StandBehind}
 use Rattle.rlines.specs.Takes.{StillDue, AreFirstOf}
 
 -- where a follower stands beside a machine, or neither is there
@@ -24,14 +24,17 @@ first_same names all same = ([], same ∙ sym (append-nil names))
 
 module _ (old new : Reading) where
   -- what else may have changed has nothing to do with what is due
-  pub due_still : new.whole ≡ old.whole → AreFirstOf old.resources new.resources → AreFirstOf old.tasks new.tasks → new.last ≡ old.last → new.told ≡ old.told
+  pub due_still : new.whole ≡ old.whole → AreFirstOf old.resources new.resources → AreFirstOf old.tasks new.tasks → new.cap ≡ old.cap → new.groups ≡ old.groups → new.last ≡ old.last → new.told ≡ old.told
       → new.machine ≡ old.machine → new.following ≡ old.following → new.ledgers.items ≡ old.ledgers.items → StillDue old new
-  due_still kind resources tasks last told machine following ledgers = record {
+  due_still kind resources tasks cap groups last told machine following ledgers = record {
     kind = kind;
     resources = resources;
     tasks = tasks;
+    cap = cap;
+    groups = groups;
     last = last;
     told = told;
+    lock = λ whole s h. ap (state_in s) machine ∙ h.lock;
     changes = ap changes_in machine;
     ledgers = ledgers;
     there = λ some. ap (λ (o : Option Following). is_some o) following ∙ some;
@@ -41,4 +44,4 @@ module _ (old new : Reading) where
   pub same_still : new ≡ old → StillDue old new
   same_still same =
       due_still (ap (λ (r : Reading). r.whole) same) (first_same old.resources new.resources (ap (λ (r : Reading). r.resources) same)) (first_same old.tasks new.tasks (ap (λ (r : Reading). r.tasks) same))
-      (ap (λ (r : Reading). r.last) same) (ap (λ (r : Reading). r.told) same) (ap (λ (r : Reading). r.machine) same) (ap (λ (r : Reading). r.following) same) (ap (λ (r : Reading). r.ledgers.items) same)
+      (ap (λ (r : Reading). r.cap) same) (ap (λ (r : Reading). r.groups) same) (ap (λ (r : Reading). r.last) same) (ap (λ (r : Reading). r.told) same) (ap (λ (r : Reading). r.machine) same) (ap (λ (r : Reading). r.following) same) (ap (λ (r : Reading). r.ledgers.items) same)

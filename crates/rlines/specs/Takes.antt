@@ -15,12 +15,12 @@ use Rattle.rmodel.specs.declared.granted.Granted.{Granted}
 use Rattle.rcover.specs.declared.wait_end.WaitEnd.{WaitEnd}
 use Rattle.rwaits.specs.Follows.{Follows}
 use Rattle.rforms.specs.Lines.{Line}
-use Rattle.rforms.specs.SoFar.{SoFar, at_tasks, at_changes, at_ledgers, entries_in, event_place, with_line}
+use Rattle.rforms.specs.SoFar.{SoFar, at_tasks, at_changes, at_ledgers, lock_in, entries_in, event_place, with_line}
 use Rattle.rforms.specs.Faults.{line_code, is_change_due}
 use Rattle.rforms.specs.declared.fault.Code.{Code}
 use Rattle.rforms.specs.declared.fault.Code.TheVariants.{BadOrder, WrongChange}
 use Rattle.rlines.specs.declared.reading.Reading.{Reading}
-use Rattle.rlines.specs.Knows.{Knows, changes_in, past_in, waits_due}
+use Rattle.rlines.specs.Knows.{Knows, state_in, changes_in, past_in, waits_due}
 
 -- what is wrong with the place of a line that tells no change and is no act, and that may come behind these places
 abbrev pub place_code : SoFar → ℕ → ℕ → Option Code
@@ -45,13 +45,16 @@ IsFirstDue old line due = (whole : Bool) (s : SoFar) → Knows whole old s → w
 abbrev pub AreFirstOf : List (List ℕ) → List (List ℕ) → Type 0
 AreFirstOf names all = (more : List (List ℕ)) × (all ≡ names ++ more)
 
--- what is due is due still: nothing more was told, the changes and the ledgers are as they were, the names keep their numbers, and whatever was said, its events are still followed
+-- what is due is due still: nothing more was told, the cap, the groups, the changes and the ledgers are as they were, the names keep their numbers, and whatever was said, the lock stands as its events left it, and they are still followed
 pub record StillDue (old new : Reading) : Type 0 where
   pub kind : new.whole ≡ old.whole
   pub resources : AreFirstOf old.resources new.resources
   pub tasks : AreFirstOf old.tasks new.tasks
+  pub cap : new.cap ≡ old.cap
+  pub groups : new.groups ≡ old.groups
   pub last : new.last ≡ old.last
   pub told : new.told ≡ old.told
+  pub lock : (whole : Bool) (s : SoFar) → Knows whole old s → state_in s new.machine ≡ lock_in s
   pub changes : changes_in new.machine ≡ changes_in old.machine
   pub ledgers : new.ledgers.items ≡ old.ledgers.items
   pub there : IsSome old.following → IsSome new.following

@@ -60,7 +60,8 @@ impl Reading {
     ///
     /// # Errors
     ///
-    /// Its refusal, or want of memory at the first event. Where it is refused, what was due is due still.
+    /// Its refusal, or want of memory at the first event. Where it is refused, what was due is due still, and no name was
+    /// declared.
     pub fn happen(&mut self, alloc: Global, event: &Event) -> Result<(), RowErr>
         requires ready { IsReady self.old }
         requires placed { IsPlaced self.old }
@@ -68,6 +69,7 @@ impl Reading {
         ensures taken { OnOk result (Takes self.old self.new (Happens event.now)) }
         ensures bad { (code : Code) → result ≡ Err (RowErr.Bad code) → Refuses self.old (Happens event.now) code }
         ensures still { (code : Code) → result ≡ Err (RowErr.Bad code) → StillDue self.old self.new }
+        ensures names { (code : Code) → result ≡ Err (RowErr.Bad code) → (self.new.resources ≡ self.old.resources) × (self.new.tasks ≡ self.old.tasks) }
     {
         let Ok(()) = self.make_machine(alloc) else {
             return Err(RowErr::Memory);

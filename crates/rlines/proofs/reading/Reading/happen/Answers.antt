@@ -80,11 +80,20 @@ returns-in-Err-clause-still c = λ code is.
       kind = ap (λ (r : Reading). r.whole) others ∙ ap (λ (r : Reading). r.whole) made;
       resources = first_same now.resources new.resources (ap (λ (r : Reading). r.resources) others ∙ ap (λ (r : Reading). r.resources) made);
       tasks = first_same now.tasks new.tasks (ap (λ (r : Reading). r.tasks) others ∙ ap (λ (r : Reading). r.tasks) made);
+      cap = ap (λ (r : Reading). r.cap) others ∙ ap (λ (r : Reading). r.cap) made;
+      groups = ap (λ (r : Reading). r.groups) others ∙ ap (λ (r : Reading). r.groups) made;
       last = ap (λ (r : Reading). r.last) others ∙ ap (λ (r : Reading). r.last) made;
       told = ap (λ (r : Reading). r.told) others ∙ ap (λ (r : Reading). r.told) made;
+      lock = λ whole s h. ap (λ (m : Standing). m.state) kept.0 ∙ ap (state_in s) (sym c.in-Some.is) ∙ ap (λ (r : Reading). state_in s r.machine) others ∙ (c.in-Ok.ensures.made.1 whole s h).0;
       changes = ap (λ (m : Standing). m.last) kept.0 ∙ ap changes_in (sym c.in-Some.is) ∙ ap (λ (r : Reading). changes_in r.machine) others ∙ (c.in-Ok.ensures.made.1 c.requires.ready.0 c.requires.ready.1 c.requires.ready.2).1;
       ledgers = ap (λ (r : Reading). r.ledgers.items) others ∙ ap (λ (r : Reading). r.ledgers.items) made;
       there = λ _. refl;
       followed = λ whole s h.
           kept.1 (past_in s) (subst (λ (o : Option Following). IfSome o (λ f. Follows f (past_in s))) (sym (ap (λ (r : Reading). r.following) others) ∙ c.in-Some-following.is) (c.in-Ok.ensures.followed whole s h));
     }
+
+pub returns-in-Err-clause-names : goal.returns-in-Err-clause-names
+returns-in-Err-clause-names c = λ code is.
+    let made = c.make_machine.ensures.others in
+    let others = c.allow.ensures.others in
+    (ap (λ (r : Reading). r.resources) others ∙ ap (λ (r : Reading). r.resources) made, ap (λ (r : Reading). r.tasks) others ∙ ap (λ (r : Reading). r.tasks) made)
