@@ -23,7 +23,7 @@ use Rattle.ranswer.specs.declared.told.Told.{Told}
 
 left_still : (behind : List Row) (was now : Counting) → IsLeftBy CountStays behind was now → StillDue was.reading now.reading
 left_still [] was now same = same_still was.reading now.reading (ap (λ (c : Counting). c.reading) same)
-left_still (refused ∷ rest) was now stays = stays
+left_still (refused ∷ rest) was now stays = stays.0
 
 -- names that begin with those of a reader begin with the names that were said
 longer : (read said all : List (List ℕ)) → read ≡ said → (more : List (List ℕ)) × (all ≡ read ++ more) → (more : List (List ℕ)) × (all ≡ said ++ more)

@@ -1,4 +1,4 @@
-use Rattle.std.proofs.Common.{◌+◌, true, arith}
+use Rattle.std.proofs.Common.{◌+◌, true, refl, arith}
 use Rattle.csv.specs.Records.{fields_of}
 use Rattle.rforms.specs.Faults.{read_all}
 use Rattle.rforms.proofs.texts.Lists.{entries_few}
@@ -51,4 +51,4 @@ returns-clause-taken c = λ rows h.
     rows row c.take.new.taken h c.in_default.ensures.taken c.in_default.ensures.bound bounds (omega (arith, e)) (omega (arith, n))
 
 pub returns-in-Err-clause-still : goal.returns-in-Err-clause-still
-returns-in-Err-clause-still c = λ cause is. c.in-Err.ensures.still cause (same_err is)
+returns-in-Err-clause-still c = λ cause is. (c.in-Err.ensures.still cause (same_err is), refl, refl, refl)
