@@ -21,6 +21,7 @@ ghost use Rattle.rcover.specs.Ended.{ended_by};
 ghost use Rattle.rcover.specs.declared.wait_end.WaitEnd.{WaitEnd};
 ghost use Rattle.rwaits.specs.Past.{Past, start_of, with_event, begun};
 ghost use Rattle.rlines.specs.Knows.{changes_in};
+ghost use Rattle.rlines.specs.Takes.{StillDue};
 ghost use Rattle.rreading.specs.Takes.{Adds};
 ghost use Rattle.rreplay.specs.Followed.{AreFollowed, IsTold};
 ghost use Rattle.rreplay.specs.Names.{names_read};
@@ -73,9 +74,10 @@ impl Replaying {
     ghost use Rattle.rforms.specs.Faults.{code_of, is_ended};
     ghost use Rattle.rreplay.specs.Replaying.{KnowsReplay};
 
-    /// Nothing was taken.
+    /// Nothing was taken, and no record told anything.
     pub fn new(alloc: Global) -> Replaying
-        ensures { KnowsReplay result nothing_yet }
+        ensures knows { KnowsReplay result nothing_yet }
+        ensures nothing { result.taken ≡ Taken.Other }
     {
         Replaying {
             alloc,
@@ -90,12 +92,15 @@ impl Replaying {
     ///
     /// # Errors
     ///
-    /// The first code of the record, or want of memory.
+    /// The first code of the record, or want of memory. Where the record is wrong, what was due to the reader is due still,
+    /// and the text and what tells events are as they were.
     pub fn take_record(&mut self, fields: &ByteRecord) -> Result<(), RowErr>
         requires { (s : SoFar) × KnowsReplay self.old s × (length (entries_in s) < 2 ^ 62) }
         ensures taken { OnOk result ((s : SoFar) → KnowsReplay self.old s → (code_of false s (fields_of fields.now) ≡ None) × KnowsReplay self.new (with_row false s (fields_of fields.now))) }
         ensures told { OnOk result ((s : SoFar) → KnowsReplay self.old s → Adds self.new.taken s (with_row false s (fields_of fields.now))) }
         ensures bad { (code : Code) → result ≡ Err (RowErr.Bad code) → (s : SoFar) → KnowsReplay self.old s → code_of false s (fields_of fields.now) ≡ Some code }
+        ensures still { (code : Code) → result ≡ Err (RowErr.Bad code)
+            → (self.new ≡ record self.old { reading = self.new.reading; taken = self.new.taken }) × StillDue self.old.reading self.new.reading }
     {
         if let Err(e) = take(&mut self.reading, self.alloc, fields, &mut self.taken) {
             return Err(e);
@@ -250,6 +255,7 @@ impl Records for Replaying {
     ghost use Rattle.std.specs.Prelude.{false};
     ghost use Rattle.rforms.specs.Takers.{list_code, is_list_done, KnowsSaid};
     ghost use Rattle.rforms.specs.declared.fault.Code.TheVariants.{NoEnd};
+    ghost use Rattle.rlines.specs.Takes.{StillDue};
     ghost use Rattle.rreplay.specs.Replaying.{KnowsReplay};
 
     type Code = Code;
@@ -261,6 +267,8 @@ impl Records for Replaying {
     ghost no_end = { NoEnd };
 
     ghost knows = { KnowsSaid false KnowsReplay };
+
+    ghost stays = { λ was taker. StillDue was.reading taker.reading };
 
     fn take(&mut self, fields: &ByteRecord) -> Result<(), RowErr> {
         self.take_record(fields)

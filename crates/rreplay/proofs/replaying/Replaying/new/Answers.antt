@@ -3,8 +3,8 @@ use Rattle.rforms.specs.SoFar.{nothing_yet, head_in, names_in}
 use Rattle.rreplay.proofs.Following.{no_text}
 use Rattle.rreplay.proofs.replaying.Replaying.new.Goals as goal
 
-pub returns : goal.returns
-returns c = record {
+pub returns-clause-knows : goal.returns-clause-knows
+returns-clause-knows c = record {
   reading = c.new.ensures;
   history = c.new-2.ensures ∙ sym (no_text (head_in nothing_yet) (names_in nothing_yet));
   telling = tt;

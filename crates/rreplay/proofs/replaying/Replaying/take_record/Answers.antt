@@ -1,4 +1,4 @@
-use Rattle.std.proofs.Common.{false, Err, ap}
+use Rattle.std.proofs.Common.{false, Err, refl, ap}
 use Rattle.csv.specs.Records.{fields_of}
 use Rattle.rforms.specs.SoFar.{entries_in, head_in}
 use Rattle.rforms.specs.Waits.{all_ended}
@@ -85,6 +85,9 @@ returns-in-Other-clause-taken c = λ s k.
 
 pub returns-in-Err-clause-bad : goal.returns-in-Err-clause-bad
 returns-in-Err-clause-bad c = λ code e s k. c.in-Err.ensures.bad code (ap Err (one_err e)) false s k.reading
+
+pub returns-in-Err-clause-still : goal.returns-in-Err-clause-still
+returns-in-Err-clause-still c = λ code e. (refl, c.in-Err.ensures.still code (ap Err (one_err e)))
 
 pub returns-in-Ok-clause-told : goal.returns-in-Ok-clause-told
 returns-in-Ok-clause-told c = λ s k. (c.in_default.ensures.taken false s k.reading).2

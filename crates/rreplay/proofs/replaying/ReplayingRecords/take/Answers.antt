@@ -12,3 +12,6 @@ take_record-requires c =
 
 pub returns-clause-bad : goal.returns-clause-bad
 returns-clause-bad c = λ cause e rows k. c.take_record.ensures.bad cause e (read_all false rows) k
+
+pub returns-clause-still : goal.returns-clause-still
+returns-clause-still c = λ cause e. (c.take_record.ensures.still cause e).1
