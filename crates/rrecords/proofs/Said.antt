@@ -37,6 +37,12 @@ ask_by word.Rise h a b c = absurd (c refl)
 ask_by word.Ask h a b c = refl
 ask_by _ h a b c = absurd (true≢false (sym h))
 
+-- a change that a record tells is one of the seat that it is told of
+pub change_seat : (w : Word) (seat : ℕ) → (change_by w seat).seat ≡ seat
+change_seat (word.Entitled half) seat = refl
+change_seat (word.Satisfied half) seat = refl
+change_seat _ seat = refl
+
 module _ (rs ts : List (List ℕ)) (row : Row) where
   -- ---- events
 

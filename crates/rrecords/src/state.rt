@@ -27,6 +27,7 @@ pub fn change_of(
     requires form { IsOf word (fields_of fields.now) }
     requires change { is_status word ≡ true }
     ensures told { IfOk result (λ change. Says (names_by resources.now tasks.now) word (fields_of fields.now) (status_line change)) }
+    ensures change { IfOk result (λ change. change ≡ change_by word change.seat) }
     ensures wrong { IfErr result (λ code. IsWrong (names_by resources.now tasks.now) word (fields_of fields.now) code) }
 {
     match tasks.number_of(field_of(fields, 1)) {
