@@ -9,7 +9,7 @@ use Rattle.rforms.specs.Heads.{read_groups}
 use Rattle.rforms.specs.Records.{Row, AreRowsOf}
 use Rattle.rforms.specs.Texts.{IsTextOf}
 use Rattle.rforms.specs.Walks.{or_else}
-use Rattle.rforms.specs.WrongBounds.{first_wrong_bound, wrong_bound}
+use Rattle.rforms.specs.WrongBounds.{first_wrong_bound, first_fault, wrong_bound}
 use Rattle.rforms.specs.Faults.{code_of, is_ended, first_record_fault, read_all}
 use Rattle.rforms.specs.Reports.{Report, Spells, ledger_after}
 use Rattle.rforms.specs.SoFar.{SoFar, nothing_yet, at_groups, head_in, entries_in, told_in, with_row}
@@ -17,8 +17,11 @@ use Rattle.rforms.proofs.facts.Choices.{some_is, some_none}
 use Rattle.rlines.specs.declared.reading.Reading.{Reading}
 use Rattle.rtrace.specs.declared.collect.Collecting.{Collecting}
 use Rattle.rreport.specs.Report.{ReportFields, told_by, IsOverResources, HasItsLedgers}
-use Rattle.rforms.specs.Takers.{HasTaken, IsFirstFault, list_code, is_list_done}
+use Rattle.rforms.specs.Takers.{HasTaken, IsFaultOf, IsFirstFault, list_code, is_list_done}
+use Rattle.rforms.specs.declared.fault.Code.{Code}
 use Rattle.rforms.specs.declared.fault.Code.TheVariants.{NoEnd, WrongBound}
+use Rattle.rforms.specs.declared.fault.Fault.{Fault}
+use Rattle.rforms.proofs.facts.Codes.{told_last}
 use Rattle.rforms.proofs.facts.Walks.{no_fault}
 use Rattle.rforms.proofs.forth.Rows.{right_bounds}
 use Rattle.rforms.proofs.texts.Lists.{list_faults}
@@ -88,6 +91,13 @@ module _ {T : Type 0} (K : T → List Row → Type 0) (bytes : List ℕ) (taker 
   -- and where none is, the records spell what was said
   pub right_spells : first_wrong_bound true h.rows ≡ None → Spells true h.rows (told_in (read_all true h.rows))
   right_spells right = right_bounds true h.rows (told_by_taken K bytes taker h) right
+
+-- the fault of a record is no wrong bound
+pub no_bound_refused : (bytes : List ℕ) (fault : Fault Code) → IsFaultOf (list_code true) (is_list_done true) NoEnd bytes fault → fault.code ≡ WrongBound → ⊥
+no_bound_refused bytes fault h wrong =
+    let told : first_record_fault true h.0 ≡ Some (fault.line, fault.code) = sym (list_faults true h.0) ∙ h.2 in
+    let first = subst (λ (code : Code). first_fault true h.0 ≡ Some (fault.line, code)) wrong (ap (λ o. or_else o (first_wrong_bound true h.0)) told) in
+    some_none (sym (told_last true h.0 fault.line first) ∙ told)
 
 -- how much a report tells whose bounds are right
 pub counts_of : (bytes : List ℕ) (taker : Counting) (h : HasTaken (list_code true) (is_list_done true) NoEnd KnowsCount bytes taker) → first_wrong_bound true h.rows ≡ None

@@ -149,8 +149,9 @@ pub fn audit_stream<S: Source>(
     answer
 }
 
-/// The same, by a reader that has read nothing. Where the report is right, the reader knows in the end what all of it said.
-/// Where a record has a fault, the reader stands where that record would be due (`StandsAt`): so it can be told what was due.
+/// The same, by a reader that has read nothing. Where the report is right, the reader knows in the end what all of it said,
+/// and so it does where only a bound is wrong. Where a record has a fault, the reader stands where that record would be due
+/// (`StandsAt`): so it can be told what was due.
 ///
 /// # Errors
 ///
@@ -165,6 +166,8 @@ pub fn count_stream<S: Source>(
     ensures right { IfOk result (λ counts. (text : List ℕ) × CameWhole (S.left source.old) (S.left source.new) text × IsCountOf text counts) }
     ensures knows { OnOk result ((text : List ℕ) × CameWhole (S.left source.old) (S.left source.new) text × HasTaken (list_code true) (is_list_done true) NoEnd KnowsCount text counting.new) }
     ensures still { (fault : Fault Code) → result ≡ Err (StreamErr.Bad fault) → fault.code ≢ WrongBound → (text : List ℕ) × CameWhole (S.left source.old) (S.left source.new) text × StandsAt KnowsCount CountStays text fault.line counting.new }
+    ensures judged { (fault : Fault Code) → result ≡ Err (StreamErr.Bad fault) → fault.code ≡ WrongBound
+        → (text : List ℕ) × CameWhole (S.left source.old) (S.left source.new) text × HasTaken (list_code true) (is_list_done true) NoEnd KnowsCount text counting.new }
     ensures bad { (fault : Fault Code) → result ≡ Err (StreamErr.Bad fault) → (text : List ℕ) × CameWhole (S.left source.old) (S.left source.new) text × IsFirstFault true text fault }
     ensures fault { IsErrOf result StreamErr.ReadFault → Rose (S.faults source.old) (S.faults source.new) }
     ensures quiet { ¬ IsErrOf result StreamErr.ReadFault → S.faults source.new ≡ S.faults source.old }

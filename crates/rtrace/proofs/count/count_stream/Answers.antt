@@ -3,6 +3,7 @@ use Rattle.rforms.proofs.texts.Lists.{list_fault}
 use Rattle.rforms.proofs.texts.Place.{err_is}
 use Rattle.rreport.proofs.Writing.{always_on_ok}
 use Rattle.rtrace.proofs.Results.{if_ok, no_read_fault, not_too_long}
+use Rattle.rtrace.proofs.Whole.{no_bound_refused}
 use Rattle.rtrace.proofs.count.count_stream.Goals as goal
 
 pub counted-requires : goal.counted-requires
@@ -33,3 +34,11 @@ returns-in-Ok-clause-still g c = λ fault is other. absurd (other (c.counted.ens
 
 pub returns-in-Err-clause-still : goal.returns-in-Err-clause-still
 returns-in-Err-clause-still g c = λ fault is other. c.in-Err.ensures.still fault (ap Err (err_is is))
+
+pub returns-in-Ok-clause-judged : goal.returns-in-Ok-clause-judged
+returns-in-Ok-clause-judged g c = λ fault is wrong. c.in-Ok.ensures.taken
+
+pub returns-in-Err-clause-judged : goal.returns-in-Err-clause-judged
+returns-in-Err-clause-judged g c = λ fault is wrong.
+    let h = c.in-Err.ensures.bad fault (ap Err (err_is is)) in
+    absurd (no_bound_refused h.0 fault h.2 wrong)
