@@ -1,8 +1,12 @@
 -- What is out with a pass, and what it put home.
-use Rattle.std.specs.Prelude.{◌≡◌, ℕ, ◌+◌, ◌-◌, ◌^◌, min, Some, slice_get}
+use Rattle.std.specs.Prelude.{◌≡◌, ◌≢◌, ℕ, ◌+◌, ◌-◌, ◌^◌, min, Some, slice_get}
 use Rattle.rlock_samples.specs.declared.shelf.Shelf.{Shelf}
 use Rattle.rlock_samples.specs.declared.shelf.Spot.TheVariants.{Home, Out}
 use Rattle.rlock.specs.Known.{Known}
+
+-- what is out with the pass n on the one shelf is out with it on the other
+abbrev pub StaysOut : ℕ → Shelf → Shelf → Type 0
+StaysOut n before after = (spot : ℕ) → slice_get before.spots.items spot ≡ Some (Out n) → slice_get after.spots.items spot ≡ Some (Out n)
 
 -- the value of this spot was out with the pass as it left the shelf last
 abbrev pub HasOut : {O E : Type 0} → Known Shelf O E → ℕ → Type 0
@@ -11,6 +15,10 @@ HasOut pass spot = (last : Shelf) → pass.last ≡ Some last → slice_get last
 -- this value was in the spot as the pass left the shelf last
 abbrev pub HasHome : {O E : Type 0} → Known Shelf O E → ℕ → ℕ → Type 0
 HasHome pass spot value = (last : Shelf) → pass.last ≡ Some last → slice_get last.spots.items spot ≡ Some (Home value)
+
+-- the value of this spot was not at home as the pass left the shelf last
+abbrev pub HasNotHome : {O E : Type 0} → Known Shelf O E → ℕ → Type 0
+HasNotHome pass spot = (last : Shelf) (value : ℕ) → pass.last ≡ Some last → slice_get last.spots.items spot ≢ Some (Home value)
 
 -- a value with this amount more, which ends at the greatest value
 abbrev pub sum_within : ℕ → ℕ → ℕ

@@ -2,7 +2,7 @@
 ghost use Rattle.std.specs.Prelude.{◌≡◌, ◌≢◌, ℕ, ◌+◌, true, false, Some, None, IfSome, if◌then◌else◌, slice_get, slice_set};
 ghost use Rattle.rlock_samples.specs.declared.shelf.Spot.TheVariants.{Home, Out};
 ghost use Rattle.rlock.specs.Known.{IsSamePass};
-ghost use Rattle.rlock_samples.specs.Shelf.{HasOut, HasHome, sum_within};
+ghost use Rattle.rlock_samples.specs.Shelf.{StaysOut, HasOut, HasHome, HasNotHome, sum_within};
 
 use rlock::{Gate, Kept, Pass};
 use std::sync::Wait;
@@ -36,12 +36,12 @@ impl Kept for Shelf {
 
     ghost number = { λ entry. 0 };
 
-    // What is out with a pass stays out with it.
-    ghost stays = { λ n before after. (spot : ℕ) → slice_get before.spots.items spot ≡ Some (Out n) → slice_get after.spots.items spot ≡ Some (Out n) };
+    // What is out with a pass stays out with it, and nothing else comes to be.
+    ghost stays = { λ n before after. StaysOut n before after × StaysOut n after before };
 
-    ghost stays_refl = { λ n shelf spot out. out };
+    ghost stays_refl = { λ n shelf. ((λ spot out. out), (λ spot out. out)) };
 
-    ghost stays_trans = { λ n before between after p q spot out. q spot (p spot out) };
+    ghost stays_trans = { λ n before between after p q. ((λ spot out. q.0 spot (p.0 spot out)), (λ spot out. p.1 spot (q.1 spot out))) };
 }
 
 impl Shelf {
@@ -68,9 +68,10 @@ impl Shelf {
     }
 }
 
-/// Takes out the value of a spot in one turn of the pass, where it is at home.
-/// What was out with the pass is out with it still, and is not taken out again. What is found at home others may have put
-/// there since, of which a pass knows nothing: so no clause says which value comes.
+/// Takes out the value of a spot in one turn of the pass, where it is at home: at `None` it is not, and nothing is taken out.
+/// What was out with the pass is out with it still, and is not taken out again; nothing else is out with it but what it takes
+/// out here. What is found at home others may have put there since, of which a pass knows nothing: so no clause says which
+/// value comes.
 pub fn take_out<R: Wait>(
     rt: &R,
     gate: &Gate<Shelf>,
@@ -82,7 +83,10 @@ pub fn take_out<R: Wait>(
     ensures turn { result.0.turns ≡ pass.turns + 1 }
     ensures out { IfSome result.1 (λ value. HasOut result.0 spot) }
     ensures once { HasOut pass spot → result.1 ≡ None }
+    ensures none { result.1 ≡ None → HasNotHome result.0 spot }
+    ensures none_out { result.1 ≡ None → HasOut result.0 spot → HasOut pass spot }
     ensures kept { (other : ℕ) → HasOut pass other → HasOut result.0 other }
+    ensures only { (other : ℕ) → other ≢ spot → HasOut result.0 other → HasOut pass other }
 {
     let number = pass.number();
     let mut turn = gate.enter(rt, pass);
@@ -91,7 +95,7 @@ pub fn take_out<R: Wait>(
 }
 
 /// Gives home the value of a spot that is out with the pass, in one turn of it.
-/// What else was out with the pass is out with it still.
+/// What else was out with the pass is out with it still, and nothing more.
 pub fn give_home<R: Wait>(
     rt: &R,
     gate: &Gate<Shelf>,
@@ -105,6 +109,7 @@ pub fn give_home<R: Wait>(
     ensures turn { result.turns ≡ pass.turns + 1 }
     ensures home { HasHome result spot value }
     ensures kept { (other : ℕ) → other ≢ spot → HasOut pass other → HasOut result other }
+    ensures only { (other : ℕ) → HasOut result other → (other ≢ spot) × HasOut pass other }
 {
     let number = pass.number();
     let mut turn = gate.enter(rt, pass);
@@ -112,8 +117,9 @@ pub fn give_home<R: Wait>(
     gate.leave(turn)
 }
 
-/// Adds to the value of a spot, where it is at home: takes it out, and gives it home in a later turn. Answers whether it did.
-/// A sum that is too great ends at the greatest value. What was out with the pass is out with it still.
+/// Adds to the value of a spot, where it is at home: takes it out, and gives it home in a later turn. Answers whether it did:
+/// it did not where the value is not at home. A sum that is too great ends at the greatest value. What was out with the pass
+/// is out with it still, and nothing more.
 pub fn add<R: Wait>(
     rt: &R,
     gate: &Gate<Shelf>,
@@ -125,8 +131,10 @@ pub fn add<R: Wait>(
     ensures same { IsSamePass pass result.0 }
     ensures turns { result.0.turns ≡ pass.turns + (if result.1 then 2 else 1) }
     ensures home { result.1 ≡ true → (value : ℕ) × HasHome result.0 spot (sum_within value amount) }
+    ensures none { result.1 ≡ false → HasNotHome result.0 spot }
     ensures out { HasOut pass spot → (result.1 ≡ false) × HasOut result.0 spot }
     ensures kept { (other : ℕ) → other ≢ spot → HasOut pass other → HasOut result.0 other }
+    ensures only { (other : ℕ) → HasOut result.0 other → HasOut pass other }
 {
     let (pass, value) = take_out(rt, gate, pass, spot);
     match value {
