@@ -1,5 +1,5 @@
 -- The least claims of lines, kept from event to event.
-use Rattle.std.specs.Prelude.{◌≡◌, ◌≤◌, ◌<◌, ◌*◌, true, false, length}
+use Rattle.std.specs.Prelude.{◌≡◌, ◌≤◌, ◌<◌, ◌*◌, true, false, length, replicate}
 use Rattle.std.specs.FinSet.{empty}
 use Rattle.std.specs.List.{AllByRecursion}
 use Rattle.rset.specs.declared.TheConstants.{SEATS}
@@ -7,7 +7,7 @@ use Rattle.rmodel.specs.WellFormed.{EachPair, Rises, Distinct}
 use Rattle.rcover.specs.Moments.{Moment}
 use Rattle.rheads.specs.declared.heads.Heads.{Heads}
 use Rattle.rheads.specs.Lines.{IsTold, no_head}
-use Rattle.rheads.specs.Shares.{TellWrites}
+use Rattle.rheads.specs.Shares.{TellWrites, no_share}
 
 -- heads have a place for each seat
 pub record HasPlaces (h : Heads) : Type 0 where
@@ -30,6 +30,12 @@ pub record TellsNothing (h : Heads) : Type 0 where
   pub writers : h.writers ≡ empty
   pub lost : h.lost ≡ no_head
   pub untold : h.told ≡ false
+
+-- and for no seat anything is kept: the head of no line, a set without members, and nothing that is taken
+pub record AreEmpty (h : Heads) : Type 0 where
+  pub heads : h.now.items ≡ replicate SEATS no_head
+  pub sets : h.behind.items ≡ replicate SEATS empty
+  pub shares : h.shares ≡ replicate SEATS no_share
 
 -- claims are such as those of a state
 pub record IsMoment (m : Moment) : Type 0 where

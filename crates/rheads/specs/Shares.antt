@@ -18,6 +18,10 @@ use Rattle.rheads.specs.Lines.{is_finish}
 abbrev pub share_of : Claim → Share
 share_of c = record { places = c.places; writes = c.writes }
 
+-- nothing that is taken
+abbrev pub no_share : Share
+no_share = record { places = empty; writes = empty }
+
 -- what each write among some claims takes is kept for its seat
 abbrev pub TellShares : List Share → List Claimed → Type 0
 TellShares ss zs = AllByRecursion (λ z. z.claim.write_half ≡ true → slice_get ss z.claim.seat ≡ Some (share_of z.claim)) zs

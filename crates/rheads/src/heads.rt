@@ -1,12 +1,12 @@
 // The least claims of the lines of all writes, kept from event to event.
 ghost use Rattle.std.specs.FinSet.{empty};
-ghost use Rattle.std.specs.Prelude.{◌≡◌, ◌≤◌, ◌<◌, [], false, true, IfOk, length, take};
+ghost use Rattle.std.specs.Prelude.{◌≡◌, ◌≤◌, ◌<◌, [], false, true, IfOk, length, replicate, take};
 ghost use Rattle.std.specs.List.{AllByRecursion};
 ghost use Rattle.rcover.specs.Moments.{Moment};
 ghost use Rattle.rset.specs.declared.TheConstants.{SEATS};
 ghost use Rattle.rclaim.specs.Events.{seat_of};
-ghost use Rattle.rheads.specs.Lines.{TellAt, TellHeads, GoesBy, HeadsTell, IsLost, IsTold, HoldBehind, ArePlaced};
-ghost use Rattle.rheads.specs.Heads.{HasPlaces, TellsNothing, TellsNow, TellsWrites, IsMoment};
+ghost use Rattle.rheads.specs.Lines.{no_head, TellAt, TellHeads, GoesBy, HeadsTell, IsLost, IsTold, HoldBehind, ArePlaced};
+ghost use Rattle.rheads.specs.Heads.{AreEmpty, HasPlaces, TellsNothing, TellsNow, TellsWrites, IsMoment};
 ghost use Rattle.rheads.specs.Shares.{AreLeft, TellWrites, takes_write};
 
 use crate::lines::{Head, forget, no_head, tell_heads};
@@ -43,7 +43,8 @@ pub struct Heads {
 
 /// A head of no line, for each seat.
 fn new_heads(alloc: Global) -> Result<Vec<Head>, AllocError>
-    ensures { IfOk result (λ v. length v.items ≡ SEATS) }
+    ensures len { IfOk result (λ v. length v.items ≡ SEATS) }
+    ensures heads { IfOk result (λ v. v.items ≡ replicate SEATS no_head) }
 {
     let mut heads = Vec::new(alloc);
     for _ in 0..PLACES {
@@ -54,7 +55,8 @@ fn new_heads(alloc: Global) -> Result<Vec<Head>, AllocError>
 
 /// A set without members, for each seat.
 fn new_sets(alloc: Global) -> Result<Vec<ResourceSet>, AllocError>
-    ensures { IfOk result (λ v. length v.items ≡ SEATS) }
+    ensures len { IfOk result (λ v. length v.items ≡ SEATS) }
+    ensures sets { IfOk result (λ v. v.items ≡ replicate SEATS empty) }
 {
     let mut sets = Vec::new(alloc);
     for _ in 0..PLACES {
@@ -64,12 +66,13 @@ fn new_sets(alloc: Global) -> Result<Vec<ResourceSet>, AllocError>
 }
 
 impl Heads {
-    /// Heads that are not told, with all room for them.
+    /// Heads that are not told, with all room for them: for each seat the head of no line, which is not satisfied.
     pub fn new(alloc: Global) -> Result<Heads, AllocError>
         ensures room { IfOk result (λ made. HasPlaces made) }
         ensures told { IfOk result (λ made. TellsNow made []) }
         ensures writes { IfOk result (λ made. TellsWrites made []) }
         ensures none { IfOk result (λ made. TellsNothing made) }
+        ensures kept { IfOk result (λ made. AreEmpty made) }
     {
         Ok(Heads {
             now: new_heads(alloc)?,
@@ -135,8 +138,8 @@ impl Heads {
         }
     }
 
-    /// Notes the head of the write that an event takes away, if it takes one, and that its seat has none from then on. Answers the
-    /// places of that write; none, where it takes none.
+    /// Notes the head of the write that an event takes away, if it takes one, and that its seat has none from then on; and else
+    /// that of no line. Answers the places of that write; none, where it takes none.
     pub fn lose(&mut self, event: &Event) -> ResourceSet
         requires low { seat_of event.now < SEATS }
         requires room { HasPlaces self.old }
@@ -147,9 +150,10 @@ impl Heads {
         ensures behind { self.new.behind ≡ self.old.behind }
         ensures rest { self.new ≡ record self.old { lost = self.new.lost; writers = self.new.writers } }
         ensures none { takes_write event.now self.old.writers ≡ false → result ≡ empty }
+        ensures none_lost { takes_write event.now self.old.writers ≡ false → self.new.lost ≡ no_head }
     {
         if !takes_write(event, self.writers) {
-            self.lost.claim.seat = SEATS;
+            self.lost = no_head();
             return ResourceSet::empty();
         }
         let at = event.seat() as usize;

@@ -6,7 +6,7 @@ ghost use Rattle.rset.specs.declared.TheConstants.{SEATS};
 ghost use Rattle.rclaim.specs.Events.{seat_of};
 ghost use Rattle.rmodel.specs.WellFormed.{EachPair, Distinct};
 ghost use Rattle.rmodel.specs.Claims.{satisfied_by};
-ghost use Rattle.rheads.specs.Shares.{share_of, shares_with, is_write_of, is_written, takes_write, writes_if, TellWrites};
+ghost use Rattle.rheads.specs.Shares.{no_share, share_of, shares_with, is_write_of, is_written, takes_write, writes_if, TellWrites};
 
 use crate::taken::{is_finish, is_write_told};
 use rclaim::{Event, StatusChange};
@@ -23,7 +23,9 @@ pub struct Share {
 }
 
 /// Nothing that is taken.
-pub(crate) fn no_share() -> Share {
+pub(crate) fn no_share() -> Share
+    ensures { result ≡ no_share }
+{
     Share {
         places: ResourceSet::empty(),
         writes: ResourceSet::empty(),

@@ -5,7 +5,9 @@ use Rattle.std.specs.List.{AllByRecursion}
 use Rattle.std.specs.Prelude.{slice_get}
 use Rattle.std.specs.FinSet.{remove}
 use Rattle.rset.specs.Sets.{Set}
+use Rattle.rset.specs.declared.TheConstants.{SEATS}
 use Rattle.rmodel.proofs.ListFacts.{all_at, contrary}
+use Rattle.rheads.specs.declared.lines.Head.{Head}
 use Rattle.rheads.specs.declared.shares.Share.{Share}
 use Rattle.rheads.specs.Lines.{head_of, takes_seat, IsLost}
 use Rattle.rheads.specs.Shares.{share_of, takes_write, AreLeft}
@@ -18,7 +20,8 @@ some_one a b h = cc
 
 pub returns-then-not-takes_write-clause-lost : goal.returns-then-not-takes_write-clause-lost
 returns-then-not-takes_write-clause-lost c = λ m moment told writes.
-    lost_none _ c.empty.result c.args.event.now m (omega arith) moment.seats (none_taken c.args.event.now m c.args.self.now.writers writes.seats (sym c.takes_write.ensures ∙ c.if-not-takes_write.true))
+    let seat : c.no_head-self.result.claim.seat ≡ SEATS = ap (λ (h : Head). h.claim.seat) c.no_head-self.ensures in
+    lost_none c.no_head-self.result c.empty.result c.args.event.now m (omega arith) moment.seats (none_taken c.args.event.now m c.args.self.now.writers writes.seats (sym c.takes_write.ensures ∙ c.if-not-takes_write.true))
 
 pub returns-then-not-takes_write-clause-left : goal.returns-then-not-takes_write-clause-left
 returns-then-not-takes_write-clause-left c = left_all c.args.event.now c.args.self.now.writers (sym c.takes_write.ensures ∙ c.if-not-takes_write.true)
@@ -49,6 +52,12 @@ returns-clause-left c =
 
 pub returns-then-not-takes_write-clause-none : goal.returns-then-not-takes_write-clause-none
 returns-then-not-takes_write-clause-none c = λ none. c.empty.ensures
+
+pub returns-then-not-takes_write-clause-none_lost : goal.returns-then-not-takes_write-clause-none_lost
+returns-then-not-takes_write-clause-none_lost c = λ none. c.no_head-self.ensures
+
+pub returns-clause-none_lost : goal.returns-clause-none_lost
+returns-clause-none_lost c = λ none. contrary (takes_write c.args.event.now c.args.self.now.writers) (sym c.takes_write.ensures ∙ c.if-not-takes_write.false) none
 
 pub returns-clause-none : goal.returns-clause-none
 returns-clause-none c = λ none. contrary (takes_write c.args.event.now c.args.self.now.writers) (sym c.takes_write.ensures ∙ c.if-not-takes_write.false) none
