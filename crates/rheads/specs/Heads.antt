@@ -1,5 +1,5 @@
 -- The least claims of lines, kept from event to event.
-use Rattle.std.specs.Prelude.{◌≡◌, ◌≤◌, ◌<◌, ◌*◌, true, false, length, replicate}
+use Rattle.std.specs.Prelude.{◌≡◌, ◌≤◌, ◌<◌, ◌*◌, true, false, length, replicate, vec_capacity}
 use Rattle.std.specs.FinSet.{empty}
 use Rattle.std.specs.List.{AllByRecursion}
 use Rattle.rset.specs.declared.TheConstants.{SEATS}
@@ -9,11 +9,13 @@ use Rattle.rheads.specs.declared.heads.Heads.{Heads}
 use Rattle.rheads.specs.Lines.{IsTold, no_head}
 use Rattle.rheads.specs.Shares.{TellWrites, no_share}
 
--- heads have a place for each seat
+-- heads have a place for each seat, and all room is what was made at first: no call takes memory
 pub record HasPlaces (h : Heads) : Type 0 where
   pub now : length h.now.items ≡ SEATS
   pub behind : length h.behind.items ≡ SEATS
   pub shares : length h.shares ≡ SEATS
+  pub now_room : vec_capacity h.now ≡ SEATS
+  pub behind_room : vec_capacity h.behind ≡ SEATS
 
 -- if they are told, they are those of the claims at a moment
 abbrev pub TellsNow : Heads → Moment → Type 0

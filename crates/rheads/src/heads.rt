@@ -1,6 +1,6 @@
 // The least claims of the lines of all writes, kept from event to event.
 ghost use Rattle.std.specs.FinSet.{empty};
-ghost use Rattle.std.specs.Prelude.{◌≡◌, ◌≤◌, ◌<◌, [], false, true, IfOk, length, replicate, take};
+ghost use Rattle.std.specs.Prelude.{◌≡◌, ◌≤◌, ◌<◌, [], false, true, IfOk, length, replicate, take, vec_capacity};
 ghost use Rattle.std.specs.List.{AllByRecursion};
 ghost use Rattle.rcover.specs.Moments.{Moment};
 ghost use Rattle.rset.specs.declared.TheConstants.{SEATS};
@@ -45,10 +45,11 @@ pub struct Heads {
 fn new_heads(alloc: Global) -> Result<Vec<Head>, AllocError>
     ensures len { IfOk result (λ v. length v.items ≡ SEATS) }
     ensures heads { IfOk result (λ v. v.items ≡ replicate SEATS no_head) }
+    ensures capacity { IfOk result (λ v. vec_capacity v ≡ SEATS) }
 {
-    let mut heads = Vec::new(alloc);
+    let mut heads = Vec::with_capacity(alloc, PLACES)?;
     for _ in 0..PLACES {
-        heads.push(no_head())?;
+        heads.push_reserved(no_head());
     }
     Ok(heads)
 }
@@ -57,10 +58,11 @@ fn new_heads(alloc: Global) -> Result<Vec<Head>, AllocError>
 fn new_sets(alloc: Global) -> Result<Vec<ResourceSet>, AllocError>
     ensures len { IfOk result (λ v. length v.items ≡ SEATS) }
     ensures sets { IfOk result (λ v. v.items ≡ replicate SEATS empty) }
+    ensures capacity { IfOk result (λ v. vec_capacity v ≡ SEATS) }
 {
-    let mut sets = Vec::new(alloc);
+    let mut sets = Vec::with_capacity(alloc, PLACES)?;
     for _ in 0..PLACES {
-        sets.push(ResourceSet::empty())?;
+        sets.push_reserved(ResourceSet::empty());
     }
     Ok(sets)
 }

@@ -21,10 +21,11 @@ use Rattle.rstretch.specs.declared.run.Run.{Run}
 abbrev pub IsEmpty : Run → Type 0
 IsEmpty r = kept_in r ≡ no_sections
 
--- a follower has its room
+-- a follower has its room: all of it is what was made at first, so that a step takes no memory
 pub record HaveRoom (a : Following) : Type 0 where
-  pub last : 2 * SEATS ≤ vec_capacity a.last
+  pub last : vec_capacity a.last ≡ 2 * SEATS
   pub seats : length a.runs.items ≡ SEATS
+  pub runs_room : vec_capacity a.runs ≡ SEATS
   pub runs : AllByRecursion HasRoom a.runs.items
   pub scratch : HasRoom a.scratch
   pub ended : vec_capacity a.ended ≡ 2 * SEATS

@@ -83,22 +83,27 @@ fn new_runs(alloc: Global) -> Result<Vec<Run>, AllocError>
     ensures len { IfOk result (λ v. length v.items ≡ SEATS) }
     ensures room { IfOk result (λ v. AllByRecursion HasRoom v.items) }
     ensures none { IfOk result (λ v. AllByRecursion IsEmpty v.items) }
+    ensures capacity { IfOk result (λ v. vec_capacity v ≡ SEATS) }
 {
-    let mut runs = Vec::new(alloc);
+    let mut runs = Vec::with_capacity(alloc, PLACES)?;
     for _ in 0..PLACES {
-        runs.push(new_run(alloc)?)?;
+        runs.push_reserved(new_run(alloc)?);
     }
     Ok(runs)
 }
 
-/// Makes a list a copy of these claims, in the room that it has.
+/// Makes a list a copy of these claims, in the room that it has. The room stays. It is made as long as they are, and then copied
+/// at one go.
 fn copy_claims(to: &mut Vec<Claimed>, from: &[Claimed])
     requires { length from.now ≤ vec_capacity to.old }
     ensures items { to.new.items ≡ from.now }
-    ensures capacity { vec_capacity to.old ≤ vec_capacity to.new }
+    ensures capacity { vec_capacity to.new ≡ vec_capacity to.old }
 {
-    to.clear();
-    let _copied = to.extend_from_slice(from);
+    to.truncate(from.len());
+    for i in to.len()..from.len() {
+        to.push_reserved(from[i]);
+    }
+    to.copy_from_slice(from);
 }
 
 impl Following {

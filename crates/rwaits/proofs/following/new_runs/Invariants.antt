@@ -1,5 +1,6 @@
-use Rattle.std.proofs.Common.{◌≡◌, length}
+use Rattle.std.proofs.Common.{◌≡◌, length, vec_capacity}
 use Rattle.std.specs.List.{AllByRecursion}
+use Rattle.rset.specs.declared.TheConstants.{SEATS}
 use Rattle.rstretch.specs.Kept.{HasRoom}
 use Rattle.rwaits.specs.Follows.{IsEmpty}
 use Rattle.rwaits.proofs.following.new_runs.Given as goal
@@ -9,4 +10,5 @@ invariant-loop l = record {
   len : length l.runs.items ≡ l.counter;
   room : AllByRecursion HasRoom l.runs.items;
   none : AllByRecursion IsEmpty l.runs.items;
+  capacity : vec_capacity l.runs ≡ SEATS;
 }

@@ -75,6 +75,7 @@ returns c = λ p g.
     (record {
       last = k.room.last;
       seats = ap (λ (rs : List Run). length rs) kept_runs ∙ same ∙ k.room.seats;
+      runs_room = k.room.runs_room;
       runs = subst (AllByRecursion HasRoom) (sym kept_runs) c.clear_run.ensures.room;
       scratch = k.room.scratch;
       ended = c.clear.ensures.capacity ∙ k.room.ended;

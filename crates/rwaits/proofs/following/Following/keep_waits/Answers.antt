@@ -1,5 +1,6 @@
 use Rattle.std.proofs.Common.{◌≡◌, ◌<◌, true, List, ◌∷◌, ◌++◌, length, refl, sym, ap, subst, ◌∙◌}
 use Rattle.std.specs.List.{AllByRecursion}
+use Rattle.std.specs.Prelude.{vec_capacity}
 use Rattle.std.specs.Vec.{with_items}
 use Rattle.std.specs.declared.vec.Vec.{Vec}
 use Rattle.std.specs.declared.alloc.Global.{Global}
@@ -78,6 +79,8 @@ turn-requires-clause-room c =
       now = ap (λ (v : Vec Head Global). length v.items) c.lose-gone.ensures.now ∙ room.now;
       behind = ap (λ (v : Vec Set Global). length v.items) c.lose-gone.ensures.behind ∙ room.behind;
       shares = ap (λ (ss : List Share). length ss) c.lose-gone.ensures.shares ∙ room.shares;
+      now_room = ap (λ (v : Vec Head Global). vec_capacity v) c.lose-gone.ensures.now ∙ room.now_room;
+      behind_room = ap (λ (v : Vec Set Global). vec_capacity v) c.lose-gone.ensures.behind ∙ room.behind_room;
     }
 
 -- what the heads ask for as they are gone on with
@@ -242,6 +245,7 @@ returns c = λ a p t.
     (record {
       last = t.room.last;
       seats = ap (λ (rs : List Run). length rs) kept_runs ∙ same ∙ t.room.seats;
+      runs_room = t.room.runs_room;
       runs = subst (AllByRecursion HasRoom) (sym kept_runs) c.keep.ensures.room;
       scratch = t.room.scratch;
       ended = t.room.ended;

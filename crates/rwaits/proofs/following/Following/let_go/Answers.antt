@@ -25,7 +25,7 @@ returns c = λ machine p g.
     let table = table_of a.runs.items in
     let b : Following = record a { ended = c.clear.new.self; heads = c.close.new.self } in
     known a p k e comes b
-    (record { last = k.room.last; seats = k.room.seats; runs = k.room.runs; scratch = k.room.scratch; ended = c.clear.ensures.capacity ∙ k.room.ended; lengths = k.room.lengths; asks = k.room.asks; heads = c.close.ensures.room; places = k.room.places; wanted = k.room.wanted })
+    (record { last = k.room.last; seats = k.room.seats; runs_room = k.room.runs_room; runs = k.room.runs; scratch = k.room.scratch; ended = c.clear.ensures.capacity ∙ k.room.ended; lengths = k.room.lengths; asks = k.room.asks; heads = c.close.ensures.room; places = k.room.places; wanted = k.room.wanted })
     (kept_stays s e there comes is table (calm_all s e there comes a.waiting k.waiting c.requires.calm table (with_entry table (seat_of e) no_sections) (λ other. refl)))
     (λ rest. k.long (e ∷ rest))
     (λ d. lengths_stay e is (length_by a.lengths) d)

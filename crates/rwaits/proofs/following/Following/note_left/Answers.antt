@@ -117,6 +117,7 @@ returns c = λ a p t.
       room = record {
         last = t.room.last;
         seats = t.room.seats;
+        runs_room = t.room.runs_room;
         runs = t.room.runs;
         scratch = t.room.scratch;
         ended = t.room.ended;

@@ -128,6 +128,7 @@ returns c = λ p g.
       room = record {
         last = k.room.last;
         seats = k.room.seats;
+        runs_room = k.room.runs_room;
         runs = k.room.runs;
         scratch = c.tell.ensures.scratch;
         ended = c.tell.ensures.capacity ∙ k.room.ended;
