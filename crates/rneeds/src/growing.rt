@@ -55,8 +55,8 @@ impl GrowingNeeds {
     }
 
     /// Tells it an event, which is accepted behind those that it was told before. Memory is taken for shapes and for the sets
-    /// that they ask for, not for events: none for a finish or a rise. For a request that has the shape of its seat's last one
-    /// none is taken either, which is not proved.
+    /// that they ask for, not for events: none for a finish or a rise, over which nothing changes. For a request that has the shape
+    /// of its seat's last one none is taken either, which is not proved.
     ///
     /// # Errors
     ///
@@ -66,6 +66,7 @@ impl GrowingNeeds {
         ensures ok { OnOk result ((groups : ReadGroups) (seats cap : ℕ) (events : List Event) → Knows self.old seats events → AreAccepted (opening groups seats cap) (events ++ event.now ∷ []) → Knows self.new seats (events ++ event.now ∷ [])) }
         ensures err { OnErr result (self.new ≡ self.old) }
         ensures succeeds { (seat : ℕ) → ((event.now ≡ Finish seat) ⊎ (event.now ≡ Rise seat)) → IsOk result }
+        ensures still { (seat : ℕ) → ((event.now ≡ Finish seat) ⊎ (event.now ≡ Rise seat)) → self.new ≡ self.old }
     {
         match event {
             Event::Issue { seat, request } => self.take_request(*seat, *request),

@@ -1,5 +1,8 @@
-use Rattle.std.proofs.Common.{◌++◌, ◌∷◌, [], sym, ap, subst, ◌∙◌, arith}
+use Rattle.std.proofs.Common.{◌≡◌, ◌⊎◌, ℕ, ◌++◌, ◌∷◌, [], inl, inr, sym, ap, subst, ◌∙◌, arith}
+use Rattle.rset.specs.Sets.{Set}
+use Rattle.rclaim.specs.Requests.{RequestFields}
 use Rattle.rclaim.specs.declared.event.Event.{Event}
+use Rattle.rclaim.specs.declared.event.Event.TheVariants.{Issue, Finish, Rise, Ask}
 use Rattle.rmodel.specs.State.{opening}
 use Rattle.rmodel.specs.Steps.{AreAccepted}
 use Rattle.rshapes.specs.Shapes.{is_nested_at}
@@ -8,6 +11,15 @@ use Rattle.rneeds.specs.Knows.{Knows}
 use Rattle.rneeds.proofs.Following.{last_by, knows_issue, knows_ask, knows_other}
 use Rattle.rneeds.proofs.Told.{seat_there, ask_of_last, nested_at, on_ok_both}
 use Rattle.rneeds.proofs.growing.GrowingNeeds.told.Goals as goal
+
+-- an issue and an ask are neither a finish nor a rise
+no_issue : {P : Type 0} (e : Event) (t : ℕ) (r : RequestFields) (seat : ℕ) → e ≡ Issue t r → (e ≡ Finish seat) ⊎ (e ≡ Rise seat) → P
+no_issue e t r seat issue (inl finish) = absurd cc
+no_issue e t r seat issue (inr rise) = absurd cc
+
+no_ask : {P : Type 0} (e : Event) (t : ℕ) (part : Set) (seat : ℕ) → e ≡ Ask t part → (e ≡ Finish seat) ⊎ (e ≡ Rise seat) → P
+no_ask e t part seat ask (inl finish) = absurd cc
+no_ask e t part seat ask (inr rise) = absurd cc
 
 pub take_request-requires-clause-task : goal.take_request-requires-clause-task
 take_request-requires-clause-task c =
@@ -67,3 +79,9 @@ returns-in-Finish-clause-ok c = λ groups seats cap events known accepted. knows
 
 pub returns-in-Finish-2-clause-ok : goal.returns-in-Finish-2-clause-ok
 returns-in-Finish-2-clause-ok c = λ groups seats cap events known accepted. knows_other c.args.self.now seats events c.args.event.now c.in-Finish.is known
+
+pub returns-in-Issue-clause-still : goal.returns-in-Issue-clause-still
+returns-in-Issue-clause-still c = λ seat ends. no_issue c.args.event.now c.in-Issue.seat c.in-Issue.request seat c.in-Issue.is ends
+
+pub returns-in-Ask-clause-still : goal.returns-in-Ask-clause-still
+returns-in-Ask-clause-still c = λ seat ends. no_ask c.args.event.now c.in-Ask.seat c.in-Ask.set seat c.in-Ask.is ends
