@@ -106,7 +106,7 @@ impl NameRows {
 
     /// Puts the name of a task at a place of a page, and answers where it ends; nothing where there is no such task.
     #[inline]
-    pub fn put_task(&self, page: &mut [u8], at: usize, seat: u8) -> usize
+    pub(crate) fn put_task(&self, page: &mut [u8], at: usize, seat: u8) -> usize
         requires { at + LONGEST_NAME ≤ length page.old }
         ensures text { take result page.new ≡ take at page.old ++ name_at self.now.tasks seat }
         ensures end { result ≤ at + LONGEST_NAME }
@@ -116,7 +116,7 @@ impl NameRows {
 
     /// Puts the name of a resource at a place of a page, and answers where it ends; nothing where there is no such resource.
     #[inline]
-    pub fn put_resource(&self, page: &mut [u8], at: usize, place: u8) -> usize
+    pub(crate) fn put_resource(&self, page: &mut [u8], at: usize, place: u8) -> usize
         requires { at + LONGEST_NAME ≤ length page.old }
         ensures text { take result page.new ≡ take at page.old ++ name_at self.now.resources place }
         ensures end { result ≤ at + LONGEST_NAME }
