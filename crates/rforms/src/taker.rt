@@ -1,5 +1,5 @@
 // Taking the records of a text one after another.
-ghost use Rattle.std.specs.Prelude.{◌≡◌, ◌<◌, ◌^◌, ◌++◌, ◌+◌, ◌∷◌, [], ℕ, Bool, true, false, List, Option, length, OnOk, IfOk, None, Some};
+ghost use Rattle.std.specs.Prelude.{◌≡◌, ◌<◌, ◌^◌, ◌++◌, ◌+◌, ◌∷◌, [], ℕ, Bool, true, false, List, Option, length, OnOk, IfOk, IfErr, None, Some};
 ghost use Rattle.csv.specs.Records.{fields_of};
 ghost use Rattle.rforms.specs.Records.{Row};
 ghost use Rattle.rforms.specs.Takers.{IsFresh, IsFaultBehind, IsFaultOf, IsRefusedAt, StandsAt, HasTaken, HasTakenPart};
@@ -106,9 +106,10 @@ pub fn take_part<T: Records>(
 ///
 /// # Errors
 ///
-/// What is wrong with a text that ends there.
+/// What is wrong with a text that ends there, and never want of memory.
 pub fn end_at<T: Records>(taker: &T, line: u64) -> Result<(), TextErr<T::Code>>
     ensures taken { OnOk result ((rows : List Row) → T.knows taker.now rows → T.is_done rows ≡ true) }
+    ensures told { IfErr result (λ e. e ≡ TextErr.Bad (record { line = line; code = T.no_end })) }
     ensures bad { (fault : Fault T.Code) → result ≡ Err (TextErr.Bad fault) → (fault ≡ record { line = line; code = T.no_end }) × ((rows : List Row) → T.knows taker.now rows → T.is_done rows ≡ false) }
 {
     if taker.has_ended() {
