@@ -64,7 +64,7 @@ impl<R: Read> Source for ReaderSource<R> {
 pub type StdinSource = ReaderSource<Stdin>;
 
 impl<R: Read> Tried<R> {
-    // One call of the reader, whose error is counted.
+    // What one call of the reader told.
     fn read_once(&mut self, buf: &mut [u8]) -> Result<usize, ErrorKind>
         ensures bound { IfOk result (λ n. n ≤ length buf.old) }
         ensures bytes { ReadConsumes (R.remaining self.old.device) (R.remaining self.new.device) result buf.new }
@@ -72,12 +72,10 @@ impl<R: Read> Tried<R> {
         ensures interrupted { IfErr result (λ kind. kind ≡ ErrorKind.Interrupted → (self.new.faults ≡ self.old.faults) × (self.new.interruptions ≡ one_more self.old.interruptions)) }
         ensures fault { IfErr result (λ kind. kind ≢ ErrorKind.Interrupted → (self.new.faults ≡ one_more self.old.faults) × (self.new.interruptions ≡ self.old.interruptions)) }
     {
-        let kind = match self.device.read(buf) {
-            Ok(n) => return Ok(n),
-            Err(e) => e.kind(),
-        };
-        self.count(kind);
-        Err(kind)
+        match self.call_read(buf) {
+            Ok(n) => Ok(n),
+            Err(e) => Err(e.kind()),
+        }
     }
 
     // One read that is not interrupted. Of a reader whose bytes are known the clauses say that no failure is told as the end.
@@ -93,7 +91,7 @@ impl<R: Read> Tried<R> {
         ensures more { self.old.interruptions ≤ self.new.interruptions }
         ensures counts { (self.new.faults < 2 ^ 64) × (self.new.interruptions < 2 ^ 64) }
     {
-        while self.interruptions < u64::MAX {
+        while self.interruptions() < u64::MAX {
             match self.read_once(buf) {
                 Ok(n) => return Ok(n),
                 Err(ErrorKind::Interrupted) => {}

@@ -1,19 +1,40 @@
 // A device of the standard library with what it told so far.
 //
-// The counts are touched where the device answers and nowhere else. So the clauses on them tell of the calls that try
-// again that they hide no fault behind a later answer, and that they tell no interruption as a fault.
-ghost use Rattle.std.specs.Prelude.{◌≡◌, ◌≢◌};
-ghost use Rattle.io_ends.specs.Faults.{one_more};
+// The device and the counts are private to this file: no code but `call_read` and `call_write` calls the device, and each
+// call is counted by what it answers. So the clauses on the counts tell of the calls that try again that they hide no fault
+// behind a later answer, and that they take no interruption for a fault and no fault for an interruption. That what is
+// answered is the device's own, no clause can say.
+ghost use Rattle.std.specs.Prelude.{◌≡◌, ◌==◌, true, length};
+ghost use Rattle.std.specs.Io.{ReadsAtMost, WritesAtMost};
+ghost use Rattle.std.specs.Io.KnownBytes.{ReadConsumes, WriteAppends};
+ghost use Rattle.io_ends.specs.Tries.{IsCounted, told_of};
 
-use std::io::ErrorKind;
+use std::io;
+use std::io::{ErrorKind, Read, Write};
 
 // A device, how often it told a fault, and how often it told that a call was interrupted. A count stays at 2^64 - 1,
 // and a device that was interrupted so often is not tried any more.
 #[derive(Drop)]
 pub(crate) struct Tried<D> {
-    pub(crate) device: D,
-    pub(crate) faults: u64,
-    pub(crate) interruptions: u64,
+    device: D,
+    faults: u64,
+    interruptions: u64,
+}
+
+// What an answer tells. That no bytes went is an error, unless it may be so.
+pub(crate) fn told_of(may_be_none: bool, answer: io::Result<usize>) -> Result<usize, ErrorKind>
+    ensures { result ≡ told_of may_be_none answer }
+{
+    match answer {
+        Ok(n) => {
+            if may_be_none || n > 0 {
+                Ok(n)
+            } else {
+                Err(ErrorKind::WriteZero)
+            }
+        }
+        Err(e) => Err(e.kind()),
+    }
 }
 
 impl<D> Tried<D> {
@@ -27,16 +48,57 @@ impl<D> Tried<D> {
         }
     }
 
-    // Counts an error that the device told.
-    pub(crate) fn count(&mut self, kind: ErrorKind)
-        ensures device { self.new.device ≡ self.old.device }
-        ensures interrupted { kind ≡ ErrorKind.Interrupted → (self.new.faults ≡ self.old.faults) × (self.new.interruptions ≡ one_more self.old.interruptions) }
-        ensures fault { kind ≢ ErrorKind.Interrupted → (self.new.faults ≡ one_more self.old.faults) × (self.new.interruptions ≡ self.old.interruptions) }
+    pub(crate) fn interruptions(&self) -> u64
+        ensures { result ≡ self.now.interruptions }
     {
+        self.interruptions
+    }
+
+    // Counts what the device told.
+    fn count(&mut self, told: Result<usize, ErrorKind>)
+        ensures device { self.new.device ≡ self.old.device }
+        ensures counted { IsCounted told
+            (record { faults = self.old.faults; interruptions = self.old.interruptions })
+            (record { faults = self.new.faults; interruptions = self.new.interruptions }) }
+    {
+        let kind = match told {
+            Ok(_) => return,
+            Err(kind) => kind,
+        };
         if kind == ErrorKind::Interrupted {
             self.interruptions = self.interruptions.saturating_add(1);
         } else {
             self.faults = self.faults.saturating_add(1);
         }
+    }
+}
+
+impl<R: Read> Tried<R> {
+    // One call of the reader, counted by its answer, which is handed on.
+    pub(crate) fn call_read(&mut self, buf: &mut [u8]) -> io::Result<usize>
+        ensures bound { ReadsAtMost result buf.new }
+        ensures bytes { ReadConsumes (R.remaining self.old.device) (R.remaining self.new.device) result buf.new }
+        ensures counted { IsCounted (told_of true result)
+            (record { faults = self.old.faults; interruptions = self.old.interruptions })
+            (record { faults = self.new.faults; interruptions = self.new.interruptions }) }
+    {
+        let answer = self.device.read(buf);
+        self.count(told_of(true, answer));
+        answer
+    }
+}
+
+impl<W: Write> Tried<W> {
+    // One call of the writer, counted by its answer, which is handed on.
+    pub(crate) fn call_write(&mut self, piece: &[u8]) -> io::Result<usize>
+        ensures bound { WritesAtMost result piece.now }
+        ensures bytes { WriteAppends (W.contents self.old.device) (W.contents self.new.device) result piece.now }
+        ensures counted { IsCounted (told_of (length piece.now == 0) result)
+            (record { faults = self.old.faults; interruptions = self.old.interruptions })
+            (record { faults = self.new.faults; interruptions = self.new.interruptions }) }
+    {
+        let answer = self.device.write(piece);
+        self.count(told_of(piece.is_empty(), answer));
+        answer
     }
 }

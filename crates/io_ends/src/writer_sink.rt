@@ -5,7 +5,7 @@ ghost use Rattle.io_ends.specs.Faults.{Rose, one_more};
 ghost use Rattle.io_ends.specs.Ends.{Takes};
 ghost use Rattle.io_ends.specs.Tries.{IsTried, fault_count, untried};
 
-use crate::tried::Tried;
+use crate::tried::{Tried, told_of};
 use crate::{Failed, Sink};
 use std::io::{ErrorKind, Write};
 use std::marker::Model;
@@ -65,7 +65,7 @@ impl<W: Write> Sink for WriterSink<W> {
 pub type StdoutSink = WriterSink<Stdout>;
 
 impl<W: Write> Tried<W> {
-    // One call of the writer, whose error is counted. To take nothing of a piece that is not empty is an error.
+    // What one call of the writer told. To take nothing of a piece that is not empty is an error.
     fn write_once(&mut self, piece: &[u8]) -> Result<usize, ErrorKind>
         ensures bound { IfOk result (λ n. n ≤ length piece.now) }
         ensures some { IfOk result (λ n. 0 < length piece.now → 1 ≤ n) }
@@ -74,13 +74,7 @@ impl<W: Write> Tried<W> {
         ensures interrupted { IfErr result (λ kind. kind ≡ ErrorKind.Interrupted → (self.new.faults ≡ self.old.faults) × (self.new.interruptions ≡ one_more self.old.interruptions)) }
         ensures fault { IfErr result (λ kind. kind ≢ ErrorKind.Interrupted → (self.new.faults ≡ one_more self.old.faults) × (self.new.interruptions ≡ self.old.interruptions)) }
     {
-        let kind = match self.device.write(piece) {
-            Ok(0) if !piece.is_empty() => ErrorKind::WriteZero,
-            Ok(n) => return Ok(n),
-            Err(e) => e.kind(),
-        };
-        self.count(kind);
-        Err(kind)
+        told_of(piece.is_empty(), self.call_write(piece))
     }
 
     // One write that is not interrupted.
@@ -96,7 +90,7 @@ impl<W: Write> Tried<W> {
         ensures more { self.old.interruptions ≤ self.new.interruptions }
         ensures counts { (self.new.faults < 2 ^ 64) × (self.new.interruptions < 2 ^ 64) }
     {
-        while self.interruptions < u64::MAX {
+        while self.interruptions() < u64::MAX {
             match self.write_once(piece) {
                 Ok(n) => return Ok(n),
                 Err(ErrorKind::Interrupted) => {}

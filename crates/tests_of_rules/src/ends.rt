@@ -44,7 +44,7 @@ fn takes_its_room(alloc: Global) -> Result<bool, Fail> {
     Ok(answers && sink.written() == b"hell".as_slice())
 }
 
-// A device whose first call is interrupted and whose third call fails.
+// A device whose first call is interrupted, and whose third and fifth calls fail, each in its own way.
 #[derive(Drop)]
 struct Stumbling {
     calls: u8,
@@ -58,6 +58,7 @@ impl Stumbling {
         match self.calls {
             1 => Err(Error::from(ErrorKind::Interrupted)),
             3 => Err(Error::from(ErrorKind::BrokenPipe)),
+            5 => Err(Error::from(ErrorKind::WouldBlock)),
             _ => Ok(len.min(3)),
         }
     }
@@ -79,22 +80,27 @@ impl Write for Stumbling {
     }
 }
 
-// An interrupted read is made again, a fault is told at once, and the read after it is made.
+// An interrupted read is made again, a fault of either kind is told at once, and the read after it is made.
 fn reads_again() -> bool {
     let mut source = ReaderSource::new(Stumbling { calls: 0 });
     let mut buf = [0u8; 5];
     let first = source.read(&mut buf);
     let second = source.read(&mut buf);
     let third = source.read(&mut buf);
-    first == Ok(3) && second == Err(Failed) && third == Ok(3)
+    let fourth = source.read(&mut buf);
+    first == Ok(3) && second == Err(Failed) && third == Ok(3) && fourth == Err(Failed)
 }
 
+// The same of a write; and that nothing is taken of an empty piece is no fault.
 fn writes_again() -> bool {
     let mut sink = WriterSink::new(Stumbling { calls: 0 });
     let first = sink.write(b"hello");
     let second = sink.write(b"hello");
     let third = sink.write(b"hello");
-    first == Ok(3) && second == Err(Failed) && third == Ok(3)
+    let fourth = sink.write(b"hello");
+    let empty = sink.write(b"");
+    let faults = second == Err(Failed) && fourth == Err(Failed);
+    faults && first == Ok(3) && third == Ok(3) && empty == Ok(0)
 }
 
 // The bytes of a reader and of a writer pass through, and a writer that is full fails.
