@@ -27,13 +27,8 @@ fn declare(groups: &mut Groups, set: ResourceSet) -> Result<(), GroupErr>
     groups.declare(set)
 }
 
-fn is_printed(alloc: Global) -> Result<bool, Fail> {
-    let refusal = format!(in alloc; "{}", GroupErr::TooMany)?;
-    Ok(refusal.as_str() == "too many groups")
-}
-
 #[test]
 fn groups_have_memory(rt: HostRuntime) -> Result<(), Fail> {
-    assert!(rt; is_filled_and_copied(rt.alloc())? && is_printed(rt.alloc())?);
+    assert!(rt; is_filled_and_copied(rt.alloc())?);
     Ok(())
 }

@@ -16,6 +16,8 @@ mod drills;
 #[cfg(test)]
 mod ends;
 #[cfg(test)]
+mod errors;
+#[cfg(test)]
 mod groups;
 #[cfg(test)]
 mod machines;

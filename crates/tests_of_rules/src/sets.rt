@@ -14,12 +14,11 @@ fn is_filled_and_copied(alloc: Global) -> Result<bool, Fail> {
     Ok(numbers && copy.number_of(b"right_2") == Some(1) && copy.number_of(b"right").is_none())
 }
 
-// A set is printed by its members, and a refusal in words.
+// A set is printed by its members.
 fn is_printed(alloc: Global) -> Result<bool, Fail> {
-    let set = format!(in alloc; "{:?}", ResourceSet::one(63).with(5).with(0))?;
-    let refusal = format!(in alloc; "{}", NameErr::BadName)?;
-    let words = "no name: 1 to 16 of a to z, 0 to 9 and _ that begin with a letter";
-    Ok(set.as_str() == "{0, 5, 63}" && refusal.as_str() == words)
+    let set = format!(in alloc; "{:?}", ResourceSet::one(63).with(5).with(1).with(0))?;
+    let empty = format!(in alloc; "{:?}", ResourceSet::empty())?;
+    Ok(set.as_str() == "{0, 1, 5, 63}" && empty.as_str() == "{}")
 }
 
 #[test]
@@ -29,7 +28,7 @@ fn a_table_has_memory(rt: HostRuntime) -> Result<(), Fail> {
 }
 
 #[test]
-fn sets_and_refusals_are_printed(rt: HostRuntime) -> Result<(), Fail> {
+fn sets_are_printed(rt: HostRuntime) -> Result<(), Fail> {
     assert!(rt; is_printed(rt.alloc())?);
     Ok(())
 }

@@ -4,7 +4,7 @@ ghost use Rattle.rforms.specs.Written.{MayBeWritten};
 ghost use Rattle.rreport.specs.Report.{told_by, IsOverResources, HasItsLedgers};
 
 use io_ends::MemSink;
-use rreport::{Report, write_report};
+use rreport::{Report, WriteErr, write_report};
 use rtrace::{TextErr, read_events, read_report};
 use std::alloc::Global;
 use std::test::Fail;
@@ -88,6 +88,13 @@ fn is_written(
     Ok(written.is_ok() == fails.is_empty() && sink.written() == due.as_bytes())
 }
 
+// The words of an error.
+fn is_worded(alloc: Global) -> Result<bool, Fail> {
+    let fault = format!(in alloc; "{}", WriteErr::WriteFault)?;
+    let memory = format!(in alloc; "{}", WriteErr::Memory)?;
+    Ok(fault.as_str() == "writing failed" && memory.as_str() == "out of memory")
+}
+
 #[test]
 fn a_report_is_written_as_it_was_read(rt: HostRuntime) -> Result<(), Fail> {
     let written = is_written(rt.alloc(), true, REPORT, &[], REPORT)?;
@@ -106,5 +113,12 @@ fn an_event_list_is_written_as_its_report(rt: HostRuntime) -> Result<(), Fail> {
 fn a_sink_that_fails_at_once_has_nothing(rt: HostRuntime) -> Result<(), Fail> {
     let written = is_written(rt.alloc(), true, REPORT, &[1], "")?;
     assert!(rt; written);
+    Ok(())
+}
+
+#[test]
+fn errors_of_writing_are_told_in_their_words(rt: HostRuntime) -> Result<(), Fail> {
+    let worded = is_worded(rt.alloc())?;
+    assert!(rt; worded);
     Ok(())
 }
