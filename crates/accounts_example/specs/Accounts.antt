@@ -1,8 +1,12 @@
 -- What a transfer makes of an account.
-use Rattle.std.specs.Prelude.{◌≡◌, ◌+◌, ◌^◌, Bool, false, nat_lt, nat_le, if◌then◌else◌, refl}
+use Rattle.std.specs.Prelude.{◌≡◌, ℕ, ◌+◌, ◌-◌, ◌^◌, Bool, false, nat_lt, nat_le, if◌then◌else◌, refl}
 use Rattle.accounts_example.specs.declared.account.Account.{Account}
 use Rattle.accounts_example.specs.declared.account.Transfer.{Transfer}
 use Rattle.accounts_example.specs.declared.account.Transfer.TheVariants.{Deposit, Withdraw}
+
+-- what is in an account: what was put in and not taken out
+abbrev pub balance_of : Account → ℕ
+balance_of account = account.put_in - account.taken_out
 
 -- a deposit is taken where its sum is a number of 64 bits, a withdrawal where the account has it
 abbrev pub is_taken : Account → Transfer → Bool

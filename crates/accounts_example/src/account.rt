@@ -1,5 +1,6 @@
 //! The value type of the example: an account.
-ghost use Rattle.accounts_example.specs.Accounts.{is_taken, account_after, untaken_leaves};
+ghost use Rattle.std.specs.Prelude.{◌≡◌};
+ghost use Rattle.accounts_example.specs.Accounts.{balance_of, is_taken, account_after, untaken_leaves};
 
 use rvalue::Editable;
 use std::alloc::{AllocError, Global};
@@ -22,7 +23,9 @@ pub enum Transfer {
 
 impl Account {
     /// What is in it.
-    pub fn balance(&self) -> u64 {
+    pub fn balance(&self) -> u64
+        ensures { result ≡ balance_of self.now }
+    {
         self.put_in.saturating_sub(self.taken_out)
     }
 }

@@ -1,8 +1,10 @@
 //! Sections that move amounts between accounts, and read them.
-ghost use Rattle.std.specs.Prelude.{◌≡◌, ℕ, ◌<◌, ◌≤◌, All, IsTrue, IfOk, OnOk, IfErr, length, [], ◌∷◌};
-ghost use Rattle.std.specs.FinSet.{empty, contains};
+ghost use Rattle.std.specs.Prelude.{◌≡◌, ◌<◌, ◌≤◌, ◌++◌, All, IsTrue, IfOk, IfErr, IfSome, IsNone, false, length, [], ◌∷◌};
+ghost use Rattle.std.specs.FinSet as finset;
 ghost use Rattle.rset.specs.declared.TheConstants.{SEATS, RESOURCES};
+ghost use Rattle.rguard.specs.Seats.{Goes};
 ghost use Rattle.rguard.specs.Resting.{IsAt, Rests, HoldsAll, MayWriteAll, all_with};
+ghost use Rattle.accounts_example.specs.Sections.{write_of, read_of, HasEntered, HasFinished, MadeSection, MadeNothing, taken_by_each, move_acts, IsSumSeen, HasRead};
 
 use crate::account::{Account, Transfer};
 use rclaim::{Kind, Request};
@@ -76,7 +78,8 @@ pub fn to_write<'a, R: Wait, M: Machine>(
     requires { Rests (all_with group) lock.now seat }
     ensures at { IfOk result (λ guard. IsAt (all_with group) lock.entry.now guard.seat × (guard.seat.number ≡ seat.number)) }
     ensures writes { IfOk result (λ guard. MayWriteAll set guard.seat) }
-    ensures err { IfErr result (λ s. Rests (all_with group) lock.entry.now s × (s.number ≡ seat.number)) }
+    ensures entered { IfOk result (HasEntered (write_of set) seat) }
+    ensures err { IfErr result (λ s. Rests (all_with group) lock.entry.now s × Goes seat [] s) }
 {
     let _ = set.len();
     let Ok(request) = Request::new(Kind::Write, set, set, set, 1, 0) else {
@@ -103,7 +106,8 @@ pub fn to_read<'a, R: Wait, M: Machine>(
     requires { Rests (all_with group) lock.now seat }
     ensures at { IfOk result (λ guard. IsAt (all_with group) lock.entry.now guard.seat × (guard.seat.number ≡ seat.number)) }
     ensures reads { IfOk result (λ guard. HoldsAll group guard.seat) }
-    ensures err { IfErr result (λ s. Rests (all_with group) lock.entry.now s × (s.number ≡ seat.number)) }
+    ensures entered { IfOk result (HasEntered (read_of group) seat) }
+    ensures err { IfErr result (λ s. Rests (all_with group) lock.entry.now s × Goes seat [] s) }
 {
     let _ = group.len();
     let Ok(request) = Request::new(Kind::Read, group, group, group, 1, 0) else {
@@ -119,7 +123,7 @@ pub fn to_read<'a, R: Wait, M: Machine>(
     }
 }
 
-/// Edits each of these resources, and answers whether each took the edit.
+/// Edits each of these resources, by rising number, and answers whether each took the edit.
 pub fn edit_each<M: Machine>(
     alloc: Global,
     guard: &mut WriteGuard<'_, Account, M>,
@@ -127,7 +131,8 @@ pub fn edit_each<M: Machine>(
     edit: Transfer,
 ) -> bool
     requires { MayWriteAll set guard.old.seat }
-    ensures { guard.new.seat ≡ guard.old.seat }
+    ensures seat { guard.new.seat ≡ guard.old.seat }
+    ensures acts { IsTrue result → guard.new.acts ≡ guard.old.acts ++ taken_by_each set edit }
 {
     for l in set.iter() {
         match guard.edit(alloc, l, edit) {
@@ -138,9 +143,10 @@ pub fn edit_each<M: Machine>(
     true
 }
 
-/// What is in these resources together.
+/// What is in these resources together, as sums of 64 bits go.
 pub fn sum_of<M: Machine>(guard: &ReadGuard<'_, Account, M>, set: ResourceSet) -> u64
     requires { HoldsAll set guard.now.seat }
+    ensures { IsSumSeen set guard.now result }
 {
     let mut sum = 0u64;
     for l in set.iter() {
@@ -149,7 +155,7 @@ pub fn sum_of<M: Machine>(guard: &ReadGuard<'_, Account, M>, set: ResourceSet) -
     sum
 }
 
-/// Ends a section that writes. Whether all of it was done is told.
+/// Ends a section that writes: its acts are told if all of it was done, and none of them else. Whether they were told is answered.
 pub fn ended<R: Wait, M: Machine>(
     rt: &R,
     alloc: Global,
@@ -159,17 +165,22 @@ pub fn ended<R: Wait, M: Machine>(
     done: bool,
 ) -> (Place<M>, bool)
     requires { IsAt (all_with group) lock.now guard.seat }
-    ensures { Rests (all_with group) lock.now result.0 × (result.0.number ≡ guard.entry.seat.number) }
+    ensures rests { Rests (all_with group) lock.now result.0 × (result.0.number ≡ guard.entry.seat.number) }
+    ensures told { IsTrue result.1 → IsTrue done × HasFinished guard.entry.acts guard.entry result.0 }
+    ensures untold { result.1 ≡ false → HasFinished [] guard.entry result.0 }
 {
     let _ = lock;
     let _ = group.len();
+    if !done {
+        return (guard.discard(rt), false);
+    }
     match guard.finish(rt, alloc) {
-        Ok(seat) => (seat, done),
+        Ok(seat) => (seat, true),
         Err((guard, _)) => (guard.discard(rt), false),
     }
 }
 
-/// One section that reads the resources that are declared together: what is in them.
+/// One section that reads the resources that are declared together: what is in them. None where there was no memory.
 pub fn read_in<R: Wait, M: Machine>(
     rt: &R,
     alloc: Global,
@@ -178,7 +189,9 @@ pub fn read_in<R: Wait, M: Machine>(
     group: ResourceSet,
 ) -> (Place<M>, Option<u64>)
     requires { Rests (all_with group) lock.now seat }
-    ensures { Rests (all_with group) lock.now result.0 × (result.0.number ≡ seat.number) }
+    ensures rests { Rests (all_with group) lock.now result.0 × (result.0.number ≡ seat.number) }
+    ensures some { IfSome result.1 (λ total. HasRead group total seat result.0) }
+    ensures none { IsNone result.1 → Goes seat [] result.0 }
 {
     match to_read(rt, alloc, lock, seat, group) {
         Ok(guard) => {
@@ -189,7 +202,8 @@ pub fn read_in<R: Wait, M: Machine>(
     }
 }
 
-/// One section that takes 1 from each of some resources, and adds 1 to each of others. Whether all was done is told.
+/// One section that takes 1 from each of some resources, and then adds 1 to each of others: all of it, or else nothing. Whether it was
+/// done is answered.
 pub fn move_in<R: Wait, M: Machine>(
     rt: &R,
     alloc: Global,
@@ -200,7 +214,9 @@ pub fn move_in<R: Wait, M: Machine>(
     to: ResourceSet,
 ) -> (Place<M>, bool)
     requires { Rests (all_with group) lock.now seat }
-    ensures { Rests (all_with group) lock.now result.0 × (result.0.number ≡ seat.number) }
+    ensures rests { Rests (all_with group) lock.now result.0 × (result.0.number ≡ seat.number) }
+    ensures moved { IsTrue result.1 → MadeSection (write_of (finset.union from to)) (move_acts from to) seat result.0 }
+    ensures unmoved { result.1 ≡ false → MadeNothing (write_of (finset.union from to)) seat result.0 }
 {
     match to_write(rt, alloc, lock, seat, group, from.union(to)) {
         Ok(mut guard) => {

@@ -8,6 +8,8 @@ use Rattle.accounts_example.specs.declared.account.Account.{Account}
 use Rattle.accounts_example.specs.Accounts.{account_after, is_taken}
 use Rattle.rguard.specs.Resting.{all_with}
 use Rattle.rguard.proofs.Resting.{suits_to_read, is_inside_itself}
+use Rattle.accounts_example.specs.Sections.{read_of}
+use Rattle.accounts_example.proofs.Sections.{entered_to_read}
 use Rattle.accounts_example.proofs.transfers.to_read.Goals as goal
 
 pub acquire-requires-clause-suits : goal.acquire-requires-clause-suits
@@ -19,3 +21,7 @@ returns-in-Ok-Read-clause-reads g c = λ l there.
     reads_acquired account_after is_taken (λ (account : Account). account.put_in) c.args.lock.now c.args.seat c.in-Ok.request c.in-Ok-Read.guard c.in-Ok-Read.field-0 l
     (ap (λ (r : RequestFields). is_plain r.kind) c.in-Ok.ensures.made) c.in-Ok-Read.field-0-is c.in-Ok-Read.ensures.ok c.seat.ensures.lawful c.seat.ensures.own
     (ap (λ (r : RequestFields). contains r.reads l) c.in-Ok.ensures.made ∙ there)
+
+pub returns-in-Ok-Read-clause-entered : goal.returns-in-Ok-Read-clause-entered
+returns-in-Ok-Read-clause-entered g c =
+    entered_to_read c.args.lock.now c.args.seat c.in-Ok.request (read_of c.args.group) c.in-Ok-Read.guard c.in-Ok-Read.field-0 c.in-Ok.ensures.made c.in-Ok-Read.field-0-is c.in-Ok-Read.ensures.ok

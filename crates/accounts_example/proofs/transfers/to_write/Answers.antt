@@ -8,6 +8,8 @@ use Rattle.accounts_example.specs.declared.account.Account.{Account}
 use Rattle.accounts_example.specs.Accounts.{account_after, is_taken}
 use Rattle.rguard.specs.Resting.{all_with}
 use Rattle.rguard.proofs.Resting.{suits_to_write}
+use Rattle.accounts_example.specs.Sections.{write_of}
+use Rattle.accounts_example.proofs.Sections.{entered_to_write}
 use Rattle.accounts_example.proofs.transfers.to_write.Goals as goal
 
 pub acquire-requires-clause-suits : goal.acquire-requires-clause-suits
@@ -19,3 +21,7 @@ returns-in-Ok-Write-clause-writes g c = λ l there.
     writes_acquired account_after is_taken (λ (account : Account). account.put_in) c.args.lock.now c.args.seat c.in-Ok.request c.in-Ok-Write.guard c.in-Ok-Write.field-0 l
     (ap (λ (r : RequestFields). is_plain r.kind) c.in-Ok.ensures.made) c.in-Ok-Write.field-0-is c.in-Ok-Write.ensures.ok c.seat.ensures.lawful c.seat.ensures.own
     (ap (λ (r : RequestFields). contains r.writes l) c.in-Ok.ensures.made ∙ there)
+
+pub returns-in-Ok-Write-clause-entered : goal.returns-in-Ok-Write-clause-entered
+returns-in-Ok-Write-clause-entered g c =
+    entered_to_write c.args.lock.now c.args.seat c.in-Ok.request (write_of c.args.set) c.in-Ok-Write.guard c.in-Ok-Write.field-0 c.in-Ok.ensures.made c.in-Ok-Write.field-0-is c.in-Ok-Write.ensures.ok
