@@ -1,8 +1,9 @@
 //! One section under a guard.
-ghost use Rattle.std.specs.Prelude.{◌≡◌, IfOk, IfErr};
+ghost use Rattle.std.specs.Prelude.{◌≡◌, ◌++◌, IsTrue, IfOk, IfErr};
 ghost use Rattle.rset.specs.declared.TheConstants.{RESOURCES};
 ghost use Rattle.rexpand.specs.Groups.{no_groups};
 ghost use Rattle.rguard.specs.Resting.{IsAt, Rests, MayWriteAll};
+ghost use Rattle.bench_sections.specs.Sections.{write_of, one_added, HasEntered, MadeSection};
 
 use rclaim::{Kind, Request};
 use rguard::{Guard, Rnlp, Seat, WriteGuard};
@@ -12,7 +13,7 @@ use rvalue::{Edit, Ledger};
 use std::alloc::Global;
 use std::sync::Wait;
 
-/// A guard to write these resources; or the seat, where there was no memory.
+// A guard to write these resources; or the seat, where there was no memory.
 fn to_write<'a, R: Wait, M: Machine>(
     rt: &R,
     alloc: Global,
@@ -23,6 +24,7 @@ fn to_write<'a, R: Wait, M: Machine>(
     requires { Rests (no_groups RESOURCES) lock.now seat }
     ensures at { IfOk result (λ guard. IsAt (no_groups RESOURCES) lock.entry.now guard.seat) }
     ensures writes { IfOk result (λ guard. MayWriteAll set guard.seat) }
+    ensures entered { IfOk result (HasEntered (write_of set) seat) }
     ensures err { IfErr result (Rests (no_groups RESOURCES) lock.entry.now) }
 {
     let _ = set.len();
@@ -39,14 +41,15 @@ fn to_write<'a, R: Wait, M: Machine>(
     }
 }
 
-// Adds 1 to each of these resources, and answers whether each took it.
+// Adds 1 to each of these resources, by rising number, and answers whether each took it.
 fn add_to_each<M: Machine>(
     alloc: Global,
     guard: &mut WriteGuard<'_, Ledger, M>,
     set: ResourceSet,
 ) -> bool
     requires { MayWriteAll set guard.old.seat }
-    ensures { guard.new.seat ≡ guard.old.seat }
+    ensures seat { guard.new.seat ≡ guard.old.seat }
+    ensures acts { IsTrue result → guard.new.acts ≡ guard.old.acts ++ one_added set }
 {
     for l in set.iter() {
         match guard.edit(alloc, l, Edit::Add(1)) {
@@ -66,7 +69,8 @@ pub fn add_in<R: Wait, M: Machine>(
     set: ResourceSet,
 ) -> (Seat<Ledger, M>, bool)
     requires { Rests (no_groups RESOURCES) lock.now seat }
-    ensures { Rests (no_groups RESOURCES) lock.now result.0 }
+    ensures rests { Rests (no_groups RESOURCES) lock.now result.0 }
+    ensures added { IsTrue result.1 → MadeSection (write_of set) (one_added set) seat result.0 }
 {
     let mut guard = match to_write(rt, alloc, lock, seat, set) {
         Ok(guard) => guard,

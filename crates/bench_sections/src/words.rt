@@ -1,6 +1,8 @@
 //! What the program is asked to measure.
-ghost use Rattle.std.specs.Prelude.{◌<◌, ◌≤◌, IfSome};
+ghost use Rattle.std.specs.Prelude.{◌<◌, ◌≤◌, IsNone, IfSome, map, string_bytes};
 ghost use Rattle.rset.specs.declared.TheConstants.{SEATS};
+ghost use Rattle.bench_sections.specs.Words.{AsksFor};
+ghost use Rattle.bench_sections.specs.declared.words.Asked.{Asked};
 
 use rset::{RESOURCES, SEATS};
 use std::env;
@@ -15,17 +17,26 @@ pub struct Asked {
     pub apart: bool,
 }
 
-/// What the words behind the program's name ask for, if they ask for something.
+/// What the words of the command line ask for, if they ask for something.
 pub fn asked_by_words<R: Env + AllocGlobal>(rt: &R) -> Option<Asked>
     ensures { IfSome result (λ a. (0 < a.threads) × (a.threads ≤ SEATS)) }
 {
     let words: Vec<String> = env::args(rt).ok()?.collect(rt.alloc()).ok()?;
-    if words.len() != 5 {
+    asked_in(words.as_slice())
+}
+
+// What these words ask for, the first of which is the program's name, if they ask for something.
+fn asked_in(words: &[String]) -> Option<Asked>
+    ensures asked { IfSome result (AsksFor (map string_bytes words.now)) }
+    ensures none { IsNone result → (asked : Asked) → ¬ AsksFor (map string_bytes words.now) asked }
+    ensures some { IfSome result (λ a. (0 < a.threads) × (a.threads ≤ SEATS)) }
+{
+    let [_, threads, sections, resources, place] = words else {
         return None;
-    }
-    let threads = words[1].parse::<u8>().ok()?;
-    let sections = words[2].parse::<u32>().ok()?;
-    let resources = words[3].parse::<u8>().ok()?;
+    };
+    let threads = threads.parse::<u8>().ok()?;
+    let sections = sections.parse::<u32>().ok()?;
+    let resources = resources.parse::<u8>().ok()?;
     if threads == 0 || threads > SEATS || u16::from(resources) > RESOURCES {
         return None;
     }
@@ -33,6 +44,6 @@ pub fn asked_by_words<R: Env + AllocGlobal>(rt: &R) -> Option<Asked>
         threads,
         sections,
         resources,
-        apart: words[4].as_str() == "apart",
+        apart: place.as_str() == "apart",
     })
 }

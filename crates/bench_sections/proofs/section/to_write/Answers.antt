@@ -9,6 +9,8 @@ use Rattle.rvalue.specs.Ledgers.{value_after, is_taken}
 use Rattle.rset.specs.declared.TheConstants.{RESOURCES}
 use Rattle.rexpand.specs.Groups.{no_groups}
 use Rattle.rguard.proofs.Resting.{suits_to_write}
+use Rattle.bench_sections.specs.Sections.{write_of}
+use Rattle.bench_sections.proofs.Sections.{entered_to_write}
 use Rattle.bench_sections.proofs.section.to_write.Goals as goal
 
 pub acquire-requires-clause-suits : goal.acquire-requires-clause-suits
@@ -20,3 +22,7 @@ returns-in-Ok-Write-clause-writes g c = λ l there.
     writes_acquired value_after is_taken (λ (ledger : Ledger). ledger.balance) c.args.lock.now c.args.seat c.in-Ok.request c.in-Ok-Write.guard c.in-Ok-Write.field-0 l
     (ap (λ (r : RequestFields). is_plain r.kind) c.in-Ok.ensures.made) c.in-Ok-Write.field-0-is c.in-Ok-Write.ensures.ok c.seat.ensures.lawful c.seat.ensures.own
     (ap (λ (r : RequestFields). contains r.writes l) c.in-Ok.ensures.made ∙ there)
+
+pub returns-in-Ok-Write-clause-entered : goal.returns-in-Ok-Write-clause-entered
+returns-in-Ok-Write-clause-entered g c =
+    entered_to_write c.args.lock.now c.args.seat c.in-Ok.request (write_of c.args.set) c.in-Ok-Write.guard c.in-Ok-Write.field-0 c.in-Ok.ensures.made c.in-Ok-Write.field-0-is c.in-Ok-Write.ensures.ok

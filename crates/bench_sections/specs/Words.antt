@@ -1,0 +1,26 @@
+-- The words that the program is given, and what they ask for.
+use Rattle.std.specs.Prelude.{◌≡◌, ℕ, ◌<◌, ◌≤◌, ◌^◌, List, [], ◌∷◌, codes}
+use Rattle.std.specs.Str.{bytes_eq}
+use Rattle.std.specs.Str.Parse.{IsNumeral, digits_value, without_leading_plus}
+use Rattle.rset.specs.declared.TheConstants.{SEATS, RESOURCES}
+use Rattle.bench_sections.specs.declared.words.Asked.{Asked}
+
+-- the word is a decimal numeral, before which a plus may stand, and tells this number
+abbrev pub Tells : List ℕ → ℕ → Type 0
+Tells word number = IsNumeral 10 (without_leading_plus word) × (digits_value 10 (without_leading_plus word) ≡ number)
+
+-- what five words ask for: behind the program's name, three numbers and a word, which is `apart` or means `hot`
+pub record IsAskedBy (threads sections resources place : List ℕ) (asked : Asked) : Type 0 where
+  pub threads_are : Tells threads asked.threads
+  pub some : 0 < asked.threads
+  pub seats : asked.threads ≤ SEATS
+  pub sections_are : Tells sections asked.sections
+  pub fits : asked.sections < 2 ^ 32
+  pub resources_are : Tells resources asked.resources
+  pub few : asked.resources ≤ RESOURCES
+  pub apart_is : asked.apart ≡ bytes_eq place (codes "apart")
+
+-- no other words ask for anything
+abbrev pub AsksFor : List (List ℕ) → Asked → Type 0
+AsksFor (name ∷ threads ∷ sections ∷ resources ∷ place ∷ []) asked = IsAskedBy threads sections resources place asked
+AsksFor _ asked = ⊥
