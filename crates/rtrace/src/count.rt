@@ -71,9 +71,10 @@ impl Records for Counting {
 }
 
 impl Counting {
-    /// Nothing was read. No memory is taken.
+    /// Nothing was read, and no record told anything. No memory is taken.
     pub fn new(alloc: Global) -> Counting
-        ensures { KnowsCount result [] }
+        ensures knows { KnowsCount result [] }
+        ensures nothing { result.taken ≡ Taken.Other }
     {
         Counting {
             alloc,
