@@ -1,6 +1,6 @@
 -- What a section of the example does: the one request that its seat issues, the acts that its finish tells, and what its guard sees.
-use Rattle.std.specs.Prelude.{◌≡◌, ◌⊎◌, ℕ, ◌%◌, ◌^◌, true, List, [], ◌∷◌, ◌++◌, map}
-use Rattle.std.specs.List.{sum_by}
+use Rattle.std.specs.Prelude.{◌≡◌, ◌⊎◌, ℕ, ◌%◌, ◌^◌, Bool, true, List, [], ◌∷◌, ◌++◌, map}
+use Rattle.std.specs.List.{AllByRecursion, sum_by}
 use Rattle.std.specs.FinSet.{empty, contains}
 use Rattle.rset.specs.Sets.{Set, rising}
 use Rattle.rclaim.specs.Requests.{RequestFields}
@@ -45,6 +45,11 @@ module _ {V E : Type 0} where
 -- a transfer on each of these accounts, by rising number, each of which was taken
 abbrev pub taken_by_each : Set → Transfer → List (Act Transfer)
 taken_by_each set transfer = map (λ l. Edited l transfer true) (rising set)
+
+-- the later acts are the earlier ones, and behind them nothing but this transfer on some accounts, taken or not
+abbrev pub GoesOnByEdits : Transfer → List (Act Transfer) → List (Act Transfer) → Type 0
+GoesOnByEdits transfer earlier later =
+    (more : List (Act Transfer)) × (later ≡ earlier ++ more) × AllByRecursion (λ act. (l : ℕ) × (taken : Bool) × (act ≡ Edited l transfer taken)) more
 
 -- a move takes 1 from each of some accounts, and then adds 1 to each of others
 abbrev pub move_acts : Set → Set → List (Act Transfer)

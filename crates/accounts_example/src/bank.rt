@@ -1,9 +1,12 @@
 //! Four threads that move amounts between accounts at one runtime.
-ghost use Rattle.std.specs.Prelude.{◌≡◌, ℕ, ◌<◌, length, All, IsTrue, IsSomeAnd, IfOk, slice_index_or};
+ghost use Rattle.std.specs.Prelude.{◌≡◌, ℕ, ◌+◌, ◌<◌, ◌%◌, ◌^◌, length, map, take, All, IsTrue, IsSomeAnd, IfOk, IfSome, slice_index_or};
+ghost use Rattle.std.specs.Arc.{arc_value};
+ghost use Rattle.std.specs.List.{sum_by};
 ghost use Rattle.rguard.specs.Seats.{SeatOf};
 ghost use Rattle.accounts_example.specs.declared.account.Account.{Account};
 ghost use Rattle.accounts_example.specs.declared.account.Transfer.{Transfer};
-ghost use Rattle.rguard.specs.Resting.{Rests, all_with};
+ghost use Rattle.accounts_example.specs.Accounts.{balance_of};
+ghost use Rattle.accounts_example.specs.Moves.{HasOnlyMoved};
 
 use crate::account::Account;
 use crate::transfers::{OPENING, move_in, opened, read_in};
@@ -14,43 +17,66 @@ use rplain::Plain;
 use rset::ResourceSet;
 use rstate::State;
 use std::alloc::{AllocError, Global};
-use std::sync::Wait;
+use std::sync::{Arc, Wait};
 use std::thread;
 use std::thread::Threads;
 
 // How many accounts the threads use.
-const ACCOUNTS: u64 = 4;
+const ACCOUNTS: u8 = 4;
 
 // A thread: its seat, which is away only while it is at work, from which account to which it moves amounts, and whether all went well.
 #[derive(Drop)]
 struct Job<S: Kept> {
     seat: Option<Pass<S>>,
-    from: ResourceSet,
-    to: ResourceSet,
+    from: u8,
+    to: u8,
     done: bool,
 }
 
 type Task<M> = Job<State<Account, M>>;
 
-// All sections of a thread.
+// What a thread does again and again: it moves 1 from an account to another, and then looks at all of them. Whether it was moved, and the
+// look saw what they had together at first, is answered.
+fn turn<R: Wait, M: Machine>(
+    rt: &R,
+    alloc: Global,
+    lock: &Rnlp<Account, M>,
+    group: ResourceSet,
+    seat: Seat<Account, M>,
+    from: u8,
+    to: u8,
+) -> (Seat<Account, M>, bool)
+    requires seat { HasOnlyMoved group lock.now seat }
+    requires from { from < 4 }
+    requires to { to < 4 }
+    ensures { HasOnlyMoved group lock.now result.0 }
+{
+    let giver = ResourceSet::one(from);
+    let taker = ResourceSet::one(to);
+    let (between, moved) = move_in(rt, alloc, lock, seat, group, giver, taker);
+    let (later, sum) = read_in(rt, alloc, lock, between, group);
+    (later, moved && sum == Some(u64::from(ACCOUNTS) * OPENING))
+}
+
+// All turns of a thread.
 fn run_job<R: Wait, M: Machine>(
     rt: &R,
     alloc: Global,
     lock: &Rnlp<Account, M>,
     group: ResourceSet,
-    sections: u32,
+    times: u32,
     job: &mut Task<M>,
 )
-    requires { IsSomeAnd job.old.seat (Rests (all_with group) lock.now) }
-    ensures { IsSomeAnd job.new.seat (Rests (all_with group) lock.now) }
+    requires seat { IsSomeAnd job.old.seat (HasOnlyMoved group lock.now) }
+    requires four { (job.old.from < 4) × (job.old.to ≡ (job.old.from + 1) % 4) }
+    ensures { IsSomeAnd job.new.seat (HasOnlyMoved group lock.now) }
 {
     let mut seat = job.seat.take().unwrap();
     let mut done = true;
-    for _ in 0..sections {
-        let (next, moved) = move_in(rt, alloc, lock, seat, group, job.from, job.to);
-        let (next, sum) = read_in(rt, alloc, lock, next, group);
+    for _ in 0..times {
+        let (next, all) = turn(rt, alloc, lock, group, seat, job.from, job.to);
         seat = next;
-        done = done && moved && sum == Some(ACCOUNTS * OPENING);
+        done = done && all;
     }
     job.seat = Some(seat);
     job.done = done;
@@ -62,11 +88,11 @@ fn run_all<R: Threads + Wait + Sync, M: Machine>(
     alloc: Global,
     lock: &Rnlp<Account, M>,
     group: ResourceSet,
-    sections: u32,
+    times: u32,
     mut jobs: Vec<Task<M>>,
 ) -> Vec<Task<M>>
-    requires { All (λ j. IsSomeAnd j.seat (Rests (all_with group) lock.now)) jobs.items }
-    ensures { All (λ j. IsSomeAnd j.seat (Rests (all_with group) lock.now)) result.items }
+    requires { All (λ j. IsSomeAnd j.seat (HasOnlyMoved group lock.now) × (j.from < 4) × (j.to ≡ (j.from + 1) % 4)) jobs.items }
+    ensures { All (λ j. IsSomeAnd j.seat (HasOnlyMoved group lock.now)) result.items }
 {
     if jobs.is_empty() {
         return jobs;
@@ -77,9 +103,9 @@ fn run_all<R: Threads + Wait + Sync, M: Machine>(
         jobs.as_mut_slice(),
         threads,
         &|_task: usize, job: &mut Task<M>|
-            requires { IsSomeAnd job.now.seat (Rests (all_with group) lock.now) }
-            ensures { IsSomeAnd job.exit.now.seat (Rests (all_with group) lock.entry.now) }
-        { run_job(rt, alloc, lock, group, sections, job) },
+            requires { IsSomeAnd job.now.seat (HasOnlyMoved group lock.now) × (job.now.from < 4) × (job.now.to ≡ (job.now.from + 1) % 4) }
+            ensures { IsSomeAnd job.exit.now.seat (HasOnlyMoved group lock.entry.now) }
+        { run_job(rt, alloc, lock, group, times, job) },
     );
     jobs
 }
@@ -91,18 +117,18 @@ fn jobs_for(
     group: ResourceSet,
     seats: Vec<Seat<Account, Plain>>,
 ) -> Result<Vec<Task<Plain>>, AllocError>
-    requires { All (Rests (all_with group) lock.now) seats.items }
-    ensures { IfOk result (λ v. All (λ j. IsSomeAnd j.seat (Rests (all_with group) lock.now)) v.items) }
+    requires { All (HasOnlyMoved group lock.now) seats.items }
+    ensures { IfOk result (λ v. All (λ j. IsSomeAnd j.seat (HasOnlyMoved group lock.now) × (j.from < 4) × (j.to ≡ (j.from + 1) % 4)) v.items) }
 {
     let _ = lock;
     let _ = group.len();
     let mut jobs = Vec::new(alloc);
     for seat in seats {
-        let number = seat.number() % 4;
+        let number = seat.number() % ACCOUNTS;
         jobs.push(Job {
             seat: Some(seat),
-            from: ResourceSet::one(number),
-            to: ResourceSet::one((number + 1) % 4),
+            from: number,
+            to: (number + 1) % ACCOUNTS,
             done: false,
         })?;
     }
@@ -126,8 +152,8 @@ fn seats_of(
     group: ResourceSet,
     jobs: Vec<Task<Plain>>,
 ) -> Result<Vec<Seat<Account, Plain>>, AllocError>
-    requires { All (λ j. IsSomeAnd j.seat (Rests (all_with group) lock.now)) jobs.items }
-    ensures { IfOk result (λ v. All (Rests (all_with group) lock.now) v.items) }
+    requires { All (λ j. IsSomeAnd j.seat (HasOnlyMoved group lock.now)) jobs.items }
+    ensures { IfOk result (λ v. All (HasOnlyMoved group lock.now) v.items) }
 {
     let _ = lock;
     let _ = group.len();
@@ -152,15 +178,32 @@ fn are_in_order<M: Machine>(seats: &[Seat<Account, M>]) -> bool
     true
 }
 
-// Closes the runtime, and adds up what is in the ledgers. None if a seat is not there.
+// What is in the first of these accounts together, as sums of 64 bits go. None where there are fewer.
+fn sum_of_first(accounts: &[Arc<Account, Global>], count: usize) -> Option<u64>
+    ensures { IfSome result (λ sum. sum ≡ sum_by balance_of (take count (map arc_value accounts.now)) % 2 ^ 64) }
+{
+    if accounts.len() < count {
+        return None;
+    }
+    let (first, _) = accounts.split_at(count);
+    let mut sum = 0u64;
+    for account in first {
+        sum = sum.wrapping_add(account.balance());
+    }
+    Some(sum)
+}
+
+// Closes the runtime: what is in the four accounts together. None if a seat is not there.
 fn sum_left<M: Machine>(
     lock: Rnlp<Account, M>,
     group: ResourceSet,
     seats: Vec<Seat<Account, M>>,
     count: u8,
 ) -> Option<u64>
-    requires rest { All (Rests (all_with group) lock) seats.items }
+    requires rest { All (HasOnlyMoved group lock) seats.items }
     requires count { lock.passes ≡ count }
+    requires some { 0 < count }
+    ensures { IfSome result (λ sum. sum ≡ 4000) }
 {
     let _ = group.len();
     if seats.len() != usize::from(count) {
@@ -170,20 +213,20 @@ fn sum_left<M: Machine>(
         return None;
     }
     let (_, values, _) = lock.close(seats);
-    let mut sum = 0u64;
-    for value in values.iter().take(4) {
-        sum = sum.wrapping_add(value.balance());
-    }
-    Some(sum)
+    sum_of_first(values.as_slice(), usize::from(ACCOUNTS))
 }
 
-/// What is in the four accounts once each thread has moved amounts so often. None if a section found no memory, or a reader another sum.
-pub fn moved<R: Threads + Wait + Sync>(rt: &R, alloc: Global, times: u32) -> Option<u64> {
+/// What is in the four accounts together once each thread has moved amounts so often: what was in them at first, whatever the threads did.
+/// None if a section found no memory, or a look another sum.
+pub fn moved<R: Threads + Wait + Sync>(rt: &R, alloc: Global, times: u32) -> Option<u64>
+    ensures { IfSome result (λ sum. sum ≡ 4000) }
+{
     let group = ResourceSet::one(0).with(1).with(2).with(3);
     let (lock, seats) = opened(alloc, group, 4).ok()?;
     let jobs = jobs_for(alloc, &lock, group, seats).ok()?;
     let jobs = run_all(rt, alloc, &lock, group, times, jobs);
     let done = are_done(jobs.as_slice());
     let seats = seats_of(alloc, &lock, group, jobs).ok()?;
-    sum_left(lock, group, seats, 4).filter(|_| done)
+    let sum = sum_left(lock, group, seats, 4)?;
+    if done { Some(sum) } else { None }
 }

@@ -1,10 +1,11 @@
 //! Sections that move amounts between accounts, and read them.
-ghost use Rattle.std.specs.Prelude.{◌≡◌, ◌<◌, ◌≤◌, ◌++◌, All, IsTrue, IfOk, IfErr, IfSome, IsNone, false, length, [], ◌∷◌};
+ghost use Rattle.std.specs.Prelude.{◌≡◌, ◌<◌, ◌≤◌, ◌++◌, All, IsTrue, IfOk, IfErr, IfSome, IsNone, false, length, [], ◌∷◌, replicate};
 ghost use Rattle.std.specs.FinSet as finset;
 ghost use Rattle.rset.specs.declared.TheConstants.{SEATS, RESOURCES};
 ghost use Rattle.rguard.specs.Seats.{Goes};
 ghost use Rattle.rguard.specs.Resting.{IsAt, Rests, HoldsAll, MayWriteAll, all_with};
-ghost use Rattle.accounts_example.specs.Sections.{write_of, read_of, HasEntered, HasFinished, MadeSection, MadeNothing, taken_by_each, move_acts, IsSumSeen, HasRead};
+ghost use Rattle.accounts_example.specs.Moves.{opened_account, IsNew};
+ghost use Rattle.accounts_example.specs.Sections.{write_of, read_of, GoesOnByEdits, HasEntered, HasFinished, MadeSection, MadeNothing, taken_by_each, move_acts, IsSumSeen, HasRead};
 
 use crate::account::{Account, Transfer};
 use rclaim::{Kind, Request};
@@ -25,7 +26,7 @@ pub type Place<M> = Seat<Account, M>;
 /// What is in each account at first.
 pub const OPENING: u64 = 1_000;
 
-/// A runtime over an account for each resource, at which a set is declared, and its seats.
+/// A runtime over an account for each resource, at which a set is declared, and its seats, none of which has done anything.
 pub fn opened(
     alloc: Global,
     group: ResourceSet,
@@ -35,6 +36,7 @@ pub fn opened(
     requires few { seats ≤ SEATS }
     ensures count { IfOk result (λ r. r.0.passes ≡ seats) }
     ensures seats { IfOk result (λ r. All (Rests (all_with group) r.0) r.1.items) }
+    ensures new { IfOk result (λ r. All IsNew r.1.items) }
 {
     let groups = declared(alloc, group)?;
     let machine = Plain::new(alloc, groups, seats, seats)?;
@@ -57,7 +59,8 @@ fn declared(alloc: Global, group: ResourceSet) -> Result<Groups, AllocError>
 
 // An account for each resource.
 fn accounts(alloc: Global) -> Result<Vec<Account>, AllocError>
-    ensures { IfOk result (λ v. length v.items ≡ RESOURCES) }
+    ensures count { IfOk result (λ v. length v.items ≡ RESOURCES) }
+    ensures each { IfOk result (λ v. v.items ≡ replicate RESOURCES opened_account) }
 {
     let account = Account {
         put_in: OPENING,
@@ -66,7 +69,7 @@ fn accounts(alloc: Global) -> Result<Vec<Account>, AllocError>
     vec![in alloc; account; RESOURCES as usize]
 }
 
-/// A guard to write these resources; or the seat, where there was no memory.
+/// A guard to write these resources; or the seat, where there was no memory or the set is empty.
 pub fn to_write<'a, R: Wait, M: Machine>(
     rt: &R,
     alloc: Global,
@@ -95,7 +98,7 @@ pub fn to_write<'a, R: Wait, M: Machine>(
     }
 }
 
-/// A guard to read the resources that are declared together; or the seat, where there was no memory.
+/// A guard to read the resources that are declared together; or the seat, where there was no memory or none is declared.
 pub fn to_read<'a, R: Wait, M: Machine>(
     rt: &R,
     alloc: Global,
@@ -123,7 +126,7 @@ pub fn to_read<'a, R: Wait, M: Machine>(
     }
 }
 
-/// Edits each of these resources, by rising number, and answers whether each took the edit.
+/// Edits each of these resources, by rising number, until one does not take the edit or no memory is found, and answers whether all took it.
 pub fn edit_each<M: Machine>(
     alloc: Global,
     guard: &mut WriteGuard<'_, Account, M>,
@@ -133,6 +136,7 @@ pub fn edit_each<M: Machine>(
     requires { MayWriteAll set guard.old.seat }
     ensures seat { guard.new.seat ≡ guard.old.seat }
     ensures acts { IsTrue result → guard.new.acts ≡ guard.old.acts ++ taken_by_each set edit }
+    ensures only { GoesOnByEdits edit guard.old.acts guard.new.acts }
 {
     for l in set.iter() {
         match guard.edit(alloc, l, edit) {
@@ -180,7 +184,8 @@ pub fn ended<R: Wait, M: Machine>(
     }
 }
 
-/// One section that reads the resources that are declared together: what is in them. None where there was no memory.
+/// One section that reads the resources that are declared together: what is in them. None where there was no memory or
+/// none is declared.
 pub fn read_in<R: Wait, M: Machine>(
     rt: &R,
     alloc: Global,

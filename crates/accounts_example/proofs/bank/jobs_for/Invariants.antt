@@ -1,6 +1,7 @@
+use Rattle.std.proofs.Common.{◌≡◌, ◌+◌, ◌%◌, ◌<◌}
 use Rattle.std.specs.Prelude.{All, IsSomeAnd}
-use Rattle.rguard.specs.Resting.{Rests, all_with}
+use Rattle.accounts_example.specs.Moves.{HasOnlyMoved}
 use Rattle.accounts_example.proofs.bank.jobs_for.Given as goal
 
 abbrev pub invariant-loop-seat : goal.invariant-loop-seat
-invariant-loop-seat l = All (λ j. IsSomeAnd j.seat (Rests (all_with l.fn.group) l.lock)) l.jobs.items
+invariant-loop-seat l = All (λ j. IsSomeAnd j.seat (HasOnlyMoved l.fn.group l.lock) × (j.from < 4) × (j.to ≡ (j.from + 1) % 4)) l.jobs.items

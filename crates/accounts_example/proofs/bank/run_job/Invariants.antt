@@ -1,5 +1,6 @@
-use Rattle.rguard.specs.Resting.{Rests, all_with}
+use Rattle.std.proofs.Common.{◌≡◌, ◌+◌, ◌%◌, ◌<◌}
+use Rattle.accounts_example.specs.Moves.{HasOnlyMoved}
 use Rattle.accounts_example.proofs.bank.run_job.Given as goal
 
 abbrev pub invariant-loop : goal.invariant-loop
-invariant-loop g l = Rests (all_with l.group) l.lock l.seat
+invariant-loop g l = HasOnlyMoved l.group l.lock l.seat × (l.job.from < 4) × (l.job.to ≡ (l.job.from + 1) % 4)

@@ -1,16 +1,31 @@
-use Rattle.std.proofs.Common.{rules, ◌≡◌, ◌<◌, List, length, get_or, true, None, [], sym, ap, ◌∙◌, subst}
-use Rattle.std.proofs.lemmas.List.{get_or_default}
-use Rattle.rguard.specs.Seats.{SeatOf}
-use Rattle.accounts_example.specs.declared.account.Account.{Account}
-use Rattle.accounts_example.specs.declared.account.Transfer.{Transfer}
+use Rattle.std.proofs.Common.{rules, ◌≡◌, ◌<◌, ◌%◌, ◌^◌, map, length, take, true, sym, ap, ◌∙◌, subst}
+use Rattle.std.proofs.lemmas.Option.{IfSome_then}
+use Rattle.std.specs.Arc.{arc_value}
+use Rattle.std.specs.List.{sum_by}
+use Rattle.accounts_example.specs.Accounts.{balance_of}
+use Rattle.accounts_example.proofs.Conserved.{all_there, four_together}
 use Rattle.accounts_example.proofs.bank.sum_left.Goals as goal
 
+pub close-values-requires-clause-of : goal.close-values-requires-clause-of
+close-values-requires-clause-of g c κs within = λ k d less. (c.requires.rest k d less).rests.at.of
+
+pub close-values-requires-clause-idle : goal.close-values-requires-clause-idle
+close-values-requires-clause-idle g c κs within = λ k d less. (c.requires.rest k d less).rests.idle
+
 pub close-values-requires-clause-all : goal.close-values-requires-clause-all
-close-values-requires-clause-all g c κs within = λ n low. let d : SeatOf Account Transfer = record { gate = c.args.lock.gate; number = 0; opening = None; seen = []; mine = []; last = None; turns = 0 } in let seats = c.args.seats.items in let same = c.as_slice.ensures.value in
-    let inside : n < length seats = search rules in let yes : c.are_in_order.result ≡ true = search rules in (
-      n,
-      get_or seats n d,
-      inside,
-      get_or_default seats n (get_or seats n d) d inside,
-      ap (λ (l : List (SeatOf Account Transfer)). (get_or l n d).number) (sym same) ∙ c.are_in_order.ensures yes n d (subst (λ (l : List (SeatOf Account Transfer)). n < length l) (sym same) inside),
-    )
+close-values-requires-clause-all g c κs within = λ n low.
+    let in_order : c.are_in_order.result ≡ true = search rules in
+    let inside : n < length c.args.seats.items = search rules in
+    all_there c.args.seats.items c.as_slice.result.now c.as_slice.ensures.value (c.are_in_order.ensures in_order) n inside
+
+pub returns : goal.returns
+returns g c =
+    let in_order : c.are_in_order.result ≡ true = search rules in
+    let all : length c.args.seats.items ≡ c.args.lock.passes = search rules in
+    let values = map arc_value c.close-values.result.1.items in
+    let four : sum_by balance_of (take 4 values) ≡ 4000 =
+    four_together c.args.group c.args.lock c.args.seats.items c.requires.rest
+    (λ n low. all_there c.args.seats.items c.as_slice.result.now c.as_slice.ensures.value (c.are_in_order.ensures in_order) n (subst (λ m. n < m) (sym all) low))
+    (subst (λ m. 0 < m) (sym c.requires.count) c.requires.some) c.close-values.result.0.entries values c.close-values.ensures.seats in
+    IfSome_then c.sum_of_first.result c.sum_of_first.ensures (λ sum is.
+    is ∙ (λ i. sum_by balance_of (take (c.from-2.ensures i) (map arc_value (c.as_slice-2.ensures.value i))) % 2 ^ 64) ∙ ap (λ n. n % 2 ^ 64) four)

@@ -6,7 +6,7 @@ use Rattle.rguard.specs.Seats.{SeatOf}
 use Rattle.accounts_example.specs.declared.account.Account.{Account}
 use Rattle.accounts_example.specs.declared.account.Transfer.{Transfer}
 use Rattle.rguard.proofs.Resting.{each_rising}
-use Rattle.accounts_example.proofs.Acts.{each_taken, one_more, all_made}
+use Rattle.accounts_example.proofs.Acts.{each_taken, one_more, all_made, goes_nowhere, goes_on}
 use Rattle.accounts_example.proofs.transfers.edit_each.Goals as goal
 
 pub loop-l-init : goal.loop-l-init
@@ -15,6 +15,7 @@ loop-l-init g c =
       subst (λ (s : Set). AllByRecursion (λ place. HoldingToWrite c.args.guard.now.seat place) (rising s)) all (each_rising (λ place. HoldingToWrite c.args.guard.now.seat place) c.args.set c.requires),
       refl,
       ap (λ (s : Set). c.args.guard.now.acts ++ each_taken (rising s) c.args.edit) (sym all),
+      goes_nowhere c.args.edit c.args.guard.now.acts,
     )
 
 pub loop-l-preserved : goal.loop-l-preserved
@@ -25,6 +26,7 @@ loop-l-preserved g c =
       seat ∙ c.loop-l.invariant.1,
       one_more c.loop-l.guard (rising c.loop-l.l-iterator) c.args.edit (c.args.guard.now.acts ++ each_taken (rising c.args.set) c.args.edit) c.loop-l.invariant.2
           c.edit.new.self c.in-Some.l (rising c.next.new.self) c.in-Ok-true.field-0 c.in-Some.ensures.steps c.in-Ok-true.field-0-test c.in-Ok-true.ensures.act,
+      goes_on c.args.edit c.args.guard.now.acts c.loop-l.guard c.in-Some.l c.in-Ok-true.field-0 c.edit.new.self c.loop-l.invariant.3 c.in-Ok-true.ensures.act,
     )
 
 pub returns-clause-acts : goal.returns-clause-acts

@@ -1,0 +1,45 @@
+-- What the seats of the example do to the four accounts.
+use Rattle.std.specs.Prelude.{◌≡◌, ◌⊎◌, ℕ, ◌<◌, List, [], replicate}
+use Rattle.std.specs.FinSet.{insert, empty}
+use Rattle.std.specs.List.{AllByRecursion}
+use Rattle.rset.specs.declared.TheConstants.{RESOURCES}
+use Rattle.rset.specs.Sets.{Set}
+use Rattle.rlock.specs.Known.{Site}
+use Rattle.rvalue.specs.declared.act.Act.{Act}
+use Rattle.rvalue.specs.Entries.{EntryFields}
+use Rattle.rguard.specs.Seats.{SeatOf}
+use Rattle.rguard.specs.Guards.{AsSeen}
+use Rattle.rguard.specs.Resting.{Rests, all_with}
+use Rattle.accounts_example.specs.Sections.{move_acts}
+use Rattle.accounts_example.specs.declared.account.Account.{Account}
+use Rattle.accounts_example.specs.declared.account.Transfer.{Transfer}
+
+-- an account as it opens: 1,000 were put in, and nothing was taken out
+abbrev pub opened_account : Account
+opened_account = record { put_in = 1000; taken_out = 0 }
+
+-- the lock of the seat began with such an account for each resource
+abbrev pub OpensWithAccounts : SeatOf Account Transfer → Type 0
+OpensWithAccounts seat = AsSeen seat (λ b. b.values ≡ replicate RESOURCES opened_account)
+
+-- and the seat has done nothing yet
+abbrev pub IsNew : SeatOf Account Transfer → Type 0
+IsNew seat = (seat.mine ≡ []) × OpensWithAccounts seat
+
+-- the acts move 1 from one of the four accounts to one of them
+pub record IsMove (acts : List (Act Transfer)) : Type 0 where
+  pub from : ℕ
+  pub to : ℕ
+  pub from_there : from < 4
+  pub to_there : to < 4
+  pub acts_are : acts ≡ move_acts (insert empty from) (insert empty to)
+
+-- the entry has no acts, or such a move
+abbrev pub MovesAtMost : EntryFields Transfer → Type 0
+MovesAtMost entry = (entry.acts ≡ []) ⊎ IsMove entry.acts
+
+-- a seat at rest of a lock that began with such accounts: whatever it did moved amounts of 1 among the four
+pub record HasOnlyMoved (group : Set) (site : Site) (seat : SeatOf Account Transfer) : Type 0 where
+  pub rests : Rests (all_with group) site seat
+  pub opens : OpensWithAccounts seat
+  pub moves : AllByRecursion MovesAtMost seat.mine
