@@ -36,7 +36,15 @@ fn main(rt: HostRuntime) -> ExitCode {
     let mut source = Progress::new(&rt, StdinSource::new(rt.stdin()), on_terminal);
     let mut sink = StdoutSink::new(rt.stdout());
     let words = words_of(given_words(&rt));
-    match run_watched(&rt, &words, &mut source, &mut sink, on_terminal) {
+    code_of(run_watched(&rt, &words, &mut source, &mut sink, on_terminal))
+}
+
+// The exit status of a run; that of want of memory where it did not begin.
+fn code_of(ran: Result<ExitCode, AllocError>) -> ExitCode
+    ensures ran { IfOk ran (λ code. result ≡ code) }
+    ensures not_run { OnErr ran (exit_status result ≡ status_number ToolStatus.NoMemory) }
+{
+    match ran {
         Ok(code) => code,
         Err(_) => ExitCode::from(ToolStatus::NoMemory.number()),
     }
