@@ -2,7 +2,7 @@
 ghost use Rattle.std.specs.Prelude.{◌≡◌, ◌≢◌, ℕ, ◌+◌, true, false, Some, None, IfSome, if◌then◌else◌, slice_get, slice_set};
 ghost use Rattle.rlock_samples.specs.declared.shelf.Spot.TheVariants.{Home, Out};
 ghost use Rattle.rlock.specs.Known.{IsSamePass};
-ghost use Rattle.rlock_samples.specs.Shelf.{StaysOut, HasOut, HasHome, HasNotHome, sum_within};
+ghost use Rattle.rlock_samples.specs.Shelf.{StaysOut, HasAsManySpots, HasOut, HasHome, HasNotHome, spots_of, sum_within};
 
 use rlock::{Gate, Kept, Pass};
 use std::sync::Wait;
@@ -24,7 +24,7 @@ pub struct Shelf {
 }
 
 impl Kept for Shelf {
-    ghost use Rattle.std.specs.Prelude.{[]};
+    ghost use Rattle.std.proofs.Common.{[], refl, ◌∙◌};
 
     type Opening = ();
 
@@ -36,12 +36,12 @@ impl Kept for Shelf {
 
     ghost number = { λ entry. 0 };
 
-    // What is out with a pass stays out with it, and nothing else comes to be.
-    ghost stays = { λ n before after. StaysOut n before after × StaysOut n after before };
+    // What is out with a pass stays out with it, and nothing else comes to be. No spot comes or goes.
+    ghost stays = { λ n before after. StaysOut n before after × StaysOut n after before × HasAsManySpots before after };
 
-    ghost stays_refl = { λ n shelf. ((λ spot out. out), (λ spot out. out)) };
+    ghost stays_refl = { λ n shelf. ((λ spot out. out), (λ spot out. out), refl) };
 
-    ghost stays_trans = { λ n before between after p q. ((λ spot out. q.0 spot (p.0 spot out)), (λ spot out. p.1 spot (q.1 spot out))) };
+    ghost stays_trans = { λ n before between after p q. ((λ spot out. q.0 spot (p.0 spot out)), (λ spot out. p.1 spot (q.1 spot out)), q.2 ∙ p.2) };
 }
 
 impl Shelf {
@@ -70,8 +70,8 @@ impl Shelf {
 
 /// Takes out the value of a spot in one turn of the pass, where it is at home: at `None` it is not, and nothing is taken out.
 /// What was out with the pass is out with it still, and is not taken out again; nothing else is out with it but what it takes
-/// out here. What is found at home others may have put there since, of which a pass knows nothing: so no clause says which
-/// value comes.
+/// out here, and no spot comes or goes. What is found at home others may have put there since, of which a pass knows nothing:
+/// so no clause says which value comes.
 pub fn take_out<R: Wait>(
     rt: &R,
     gate: &Gate<Shelf>,
@@ -87,6 +87,7 @@ pub fn take_out<R: Wait>(
     ensures none_out { result.1 ≡ None → HasOut result.0 spot → HasOut pass spot }
     ensures kept { (other : ℕ) → HasOut pass other → HasOut result.0 other }
     ensures only { (other : ℕ) → other ≢ spot → HasOut result.0 other → HasOut pass other }
+    ensures spots { spots_of result.0 ≡ spots_of pass }
 {
     let number = pass.number();
     let mut turn = gate.enter(rt, pass);
@@ -95,7 +96,7 @@ pub fn take_out<R: Wait>(
 }
 
 /// Gives home the value of a spot that is out with the pass, in one turn of it.
-/// What else was out with the pass is out with it still, and nothing more.
+/// What else was out with the pass is out with it still, and nothing more. No spot comes or goes.
 pub fn give_home<R: Wait>(
     rt: &R,
     gate: &Gate<Shelf>,
@@ -110,6 +111,7 @@ pub fn give_home<R: Wait>(
     ensures home { HasHome result spot value }
     ensures kept { (other : ℕ) → other ≢ spot → HasOut pass other → HasOut result other }
     ensures only { (other : ℕ) → HasOut result other → (other ≢ spot) × HasOut pass other }
+    ensures spots { spots_of result ≡ spots_of pass }
 {
     let number = pass.number();
     let mut turn = gate.enter(rt, pass);
@@ -119,7 +121,7 @@ pub fn give_home<R: Wait>(
 
 /// Adds to the value of a spot, where it is at home: takes it out, and gives it home in a later turn. Answers whether it did:
 /// it did not where the value is not at home. A sum that is too great ends at the greatest value. What was out with the pass
-/// is out with it still, and nothing more.
+/// is out with it still, and nothing more, and no spot comes or goes.
 pub fn add<R: Wait>(
     rt: &R,
     gate: &Gate<Shelf>,
@@ -135,6 +137,7 @@ pub fn add<R: Wait>(
     ensures out { HasOut pass spot → (result.1 ≡ false) × HasOut result.0 spot }
     ensures kept { (other : ℕ) → other ≢ spot → HasOut pass other → HasOut result.0 other }
     ensures only { (other : ℕ) → HasOut result.0 other → HasOut pass other }
+    ensures spots { spots_of result.0 ≡ spots_of pass }
 {
     let (pass, value) = take_out(rt, gate, pass, spot);
     match value {

@@ -1,13 +1,13 @@
 use Rattle.std.proofs.Common.{sym, ap, subst, ◌∙◌}
 use Rattle.std.proofs.lemmas.Option.{same_Some}
 use Rattle.rlock_samples.specs.declared.shelf.Shelf.{Shelf}
-use Rattle.rlock_samples.specs.Shelf.{StaysOut}
-use Rattle.rlock_samples.proofs.Shelves.{put_others, knows, is_out, given_home}
+use Rattle.rlock_samples.specs.declared.shelf.Spot.TheVariants.{Home}
+use Rattle.rlock_samples.proofs.Shelves.{Allowed, one_set, put_others, knows, is_out, as_many, given_home}
 use Rattle.rlock_samples.proofs.shelf.give_home.Goals as goal
 
 pub leave-requires-clause-others : goal.leave-requires-clause-others
 leave-requires-clause-others g c = λ found is k differ.
-    subst (λ (s : Shelf). StaysOut k s c.put.new.self × StaysOut k c.put.new.self s) (c.state.ensures.value ∙ same_Some c.enter-turn.result.state found (sym c.enter-turn.ensures.found ∙ is))
+    subst (λ (s : Shelf). Allowed k s c.put.new.self) (c.state.ensures.value ∙ same_Some c.enter-turn.result.state found (sym c.enter-turn.ensures.found ∙ is))
     (put_others c.state.result.now c.put.new.self c.args.spot c.args.pass.number c.args.value
     (is_out c.args.pass c.state.result.now (knows c.args.pass c.state.result.now c.enter-turn.result.state c.enter-turn.ensures.state.its_last c.state.ensures.value) c.args.spot c.requires.out)
     c.put.ensures k (λ e. differ (e ∙ ap (λ p. p.number) (sym c.enter-turn.ensures.pass))))
@@ -18,3 +18,10 @@ returns-clause-only g c =
     (knows c.args.pass c.state.result.now c.enter-turn.result.state c.enter-turn.ensures.state.its_last c.state.ensures.value)
     (ap (λ p. p.last) c.leave.ensures) (ap (λ p. p.number) c.leave.ensures ∙ ap (λ p. p.number) c.enter-turn.ensures.pass)
     c.args.spot c.args.value c.requires.out c.put.ensures
+
+pub returns-clause-spots : goal.returns-clause-spots
+returns-clause-spots g c =
+    as_many c.args.pass c.leave.result c.state.result.now c.put.new.self
+    (knows c.args.pass c.state.result.now c.enter-turn.result.state c.enter-turn.ensures.state.its_last c.state.ensures.value)
+    (ap (λ p. p.last) c.leave.ensures)
+    (one_set c.state.result.now c.put.new.self c.args.spot (Home c.args.value) c.put.ensures)

@@ -3,13 +3,12 @@ use Rattle.std.specs.Prelude.{slice_get}
 use Rattle.std.proofs.lemmas.Option.{same_Some}
 use Rattle.rlock_samples.specs.declared.shelf.Shelf.{Shelf}
 use Rattle.rlock_samples.specs.declared.shelf.Spot.{Spot}
-use Rattle.rlock_samples.specs.Shelf.{StaysOut}
-use Rattle.rlock_samples.proofs.Shelves.{take_beside, take_others, not_home, knows, was_out}
+use Rattle.rlock_samples.proofs.Shelves.{Allowed, take_beside, take_many, take_others, not_home, knows, was_out, as_many}
 use Rattle.rlock_samples.proofs.shelf.take_out.Goals as goal
 
 pub leave-requires-clause-others : goal.leave-requires-clause-others
 leave-requires-clause-others g c = λ found is k differ.
-    subst (λ (s : Shelf). StaysOut k s c.take-value.new.self × StaysOut k c.take-value.new.self s) (c.state.ensures.value ∙ same_Some c.enter-turn.result.state found (sym c.enter-turn.ensures.found ∙ is))
+    subst (λ (s : Shelf). Allowed k s c.take-value.new.self) (c.state.ensures.value ∙ same_Some c.enter-turn.result.state found (sym c.enter-turn.ensures.found ∙ is))
     (take_others c.state.result.now c.take-value.new.self c.args.spot c.number-number.result c.take-value.result c.take-value.ensures.taken c.take-value.ensures.none k
     (λ e. differ (e ∙ (c.number-number.ensures ∙ ap (λ p. p.number) (sym c.enter-turn.ensures.pass)))))
 
@@ -30,3 +29,10 @@ returns-clause-only g c = λ other away.
     (knows c.args.pass c.state.result.now c.enter-turn.result.state c.enter-turn.ensures.state.its_last c.state.ensures.value)
     (ap (λ p. p.last) c.leave.ensures) (ap (λ p. p.number) c.leave.ensures ∙ ap (λ p. p.number) c.enter-turn.ensures.pass)
     other (take_beside c.state.result.now c.take-value.new.self c.args.spot c.number-number.result c.take-value.result c.take-value.ensures.taken c.take-value.ensures.none other away)
+
+pub returns-clause-spots : goal.returns-clause-spots
+returns-clause-spots g c =
+    as_many c.args.pass c.leave.result c.state.result.now c.take-value.new.self
+    (knows c.args.pass c.state.result.now c.enter-turn.result.state c.enter-turn.ensures.state.its_last c.state.ensures.value)
+    (ap (λ p. p.last) c.leave.ensures)
+    (take_many c.state.result.now c.take-value.new.self c.args.spot c.number-number.result c.take-value.result c.take-value.ensures.taken c.take-value.ensures.none)
