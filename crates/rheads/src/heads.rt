@@ -27,7 +27,7 @@ pub struct Heads {
     pub now: Vec<Head>,
     /// Of each seat, those of the writes whose least claim is its own, with others maybe.
     pub behind: Vec<ResourceSet>,
-    /// That of the write that the last event took away, as it was before; of no seat, where it took none.
+    /// That of the write that an event took away, as it was before, by the last `lose`; of no seat, where that event took none.
     pub lost: Head,
     /// The seats of the writes that have another head since by a look-up: each of them had the one that is lost.
     pub moved: ResourceSet,
@@ -69,6 +69,10 @@ fn new_sets(alloc: Global) -> Result<Vec<ResourceSet>, AllocError>
 
 impl Heads {
     /// Heads that are not told, with all room for them: for each seat the head of no line, which is not satisfied.
+    ///
+    /// # Errors
+    ///
+    /// Want of memory.
     pub fn new(alloc: Global) -> Result<Heads, AllocError>
         ensures room { IfOk result (λ made. HasPlaces made) }
         ensures told { IfOk result (λ made. TellsNow made []) }
@@ -98,6 +102,8 @@ impl Heads {
         ensures told { TellsNow self.new moment.now }
         ensures writes { TellsWrites self.new moment.now }
         ensures stays { brought ≡ true → self.new.told ≡ self.old.told }
+        ensures forgotten { brought ≡ false → self.new ≡ record self.old { told = false } }
+        ensures as_it_was { brought ≡ true → self.old.told ≡ false → self.new ≡ self.old }
         ensures rest { self.new ≡ record self.old { now = self.new.now; behind = self.new.behind; writers = self.new.writers; shares = self.new.shares; told = self.new.told } }
     {
         if !brought {
@@ -130,6 +136,7 @@ impl Heads {
         ensures room { HasPlaces self.new }
         ensures told { IsTold self.new.now.items self.new.behind.items moment.now }
         ensures writes { TellWrites self.new.writers self.new.shares moment.now }
+        ensures still { self.old.told ≡ true → self.new ≡ self.old }
         ensures rest { self.new ≡ record self.old { now = self.new.now; behind = self.new.behind; writers = self.new.writers; shares = self.new.shares; told = true } }
     {
         if !self.told {
