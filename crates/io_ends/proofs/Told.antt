@@ -63,14 +63,14 @@ counts_told told answer said due before after is same counted =
     subst (λ (r : Result ℕ ErrorKind). IsCounted r before after) (sym (is ∙ ap (λ (b : Bool). told_of b answer) same)) counted
 
 -- what is counted at an answer, at an interruption and at a fault
-pub quiet_counts : (told : Result ℕ ErrorKind) (before after : Tries) → IsCounted told before after → OnOk told ((after.faults ≡ before.faults) × (after.interruptions ≡ before.interruptions))
+pub quiet_counts : (told : Result ℕ ErrorKind) (before after : Tries) → IsCounted told before after → OnOk told ((after.faults ≡ before.faults) × (after.interruptions ≡ before.interruptions) × (after.answers ≡ one_more before.answers))
 quiet_counts (Ok n) before after counted = counted
 quiet_counts (Err kind) before after counted = tt
 
-pub interruption_counts : (told : Result ℕ ErrorKind) (before after : Tries) → IsCounted told before after → IfErr told (λ kind. kind ≡ Interrupted → (after.faults ≡ before.faults) × (after.interruptions ≡ one_more before.interruptions))
+pub interruption_counts : (told : Result ℕ ErrorKind) (before after : Tries) → IsCounted told before after → IfErr told (λ kind. kind ≡ Interrupted → (after.faults ≡ before.faults) × (after.interruptions ≡ one_more before.interruptions) × (after.answers ≡ before.answers))
 interruption_counts (Ok n) before after counted = tt
 interruption_counts (Err kind) before after counted = counted.0
 
-pub fault_counts : (told : Result ℕ ErrorKind) (before after : Tries) → IsCounted told before after → IfErr told (λ kind. kind ≢ Interrupted → (after.faults ≡ one_more before.faults) × (after.interruptions ≡ before.interruptions))
+pub fault_counts : (told : Result ℕ ErrorKind) (before after : Tries) → IsCounted told before after → IfErr told (λ kind. kind ≢ Interrupted → (after.faults ≡ one_more before.faults) × (after.interruptions ≡ before.interruptions) × (after.answers ≡ before.answers))
 fault_counts (Ok n) before after counted = tt
 fault_counts (Err kind) before after counted = counted.1

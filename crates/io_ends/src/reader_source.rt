@@ -11,7 +11,7 @@ use std::io::{ErrorKind, Read};
 use std::marker::Model;
 use std::rt::Stdin;
 
-/// A reader as a source. A call that was interrupted is made again. As a source it tells no bytes. A contract sees the reader, and what it told of faults.
+/// A reader as a source. A call that was interrupted is made again. As a source it tells no bytes. A contract sees the reader, and how often it told a fault, an interruption, and neither.
 #[derive(Drop)]
 pub struct ReaderSource<R: Read> {
     reader: Tried<R>,
@@ -19,11 +19,11 @@ pub struct ReaderSource<R: Read> {
 
 impl<R: Read> Model for ReaderSource<R> {
     ghost use Rattle.std.specs.Prelude.{◌<◌, ◌^◌};
-    ghost use Rattle.io_ends.specs.Tries.{TriedDevice};
+    ghost use Rattle.io_ends.specs.Tries.{TriedDevice, tries_of};
 
     ghost Value = { TriedDevice R };
 
-    ghost view = { λ s. record { device = s.reader.device; tries = record { faults = s.reader.faults; interruptions = s.reader.interruptions } } };
+    ghost view = { λ s. record { device = s.reader.device; tries = tries_of s.reader } };
 
     ghost invariant = { λ s. (s.reader.faults < 2 ^ 64) × (s.reader.interruptions < 2 ^ 64) };
 }
@@ -68,9 +68,9 @@ impl<R: Read> Tried<R> {
     fn read_once(&mut self, buf: &mut [u8]) -> Result<usize, ErrorKind>
         ensures bound { IfOk result (λ n. n ≤ length buf.old) }
         ensures bytes { ReadConsumes (R.remaining self.old.device) (R.remaining self.new.device) result buf.new }
-        ensures quiet { OnOk result ((self.new.faults ≡ self.old.faults) × (self.new.interruptions ≡ self.old.interruptions)) }
-        ensures interrupted { IfErr result (λ kind. kind ≡ ErrorKind.Interrupted → (self.new.faults ≡ self.old.faults) × (self.new.interruptions ≡ one_more self.old.interruptions)) }
-        ensures fault { IfErr result (λ kind. kind ≢ ErrorKind.Interrupted → (self.new.faults ≡ one_more self.old.faults) × (self.new.interruptions ≡ self.old.interruptions)) }
+        ensures quiet { OnOk result ((self.new.faults ≡ self.old.faults) × (self.new.interruptions ≡ self.old.interruptions) × (self.new.answers ≡ one_more self.old.answers)) }
+        ensures interrupted { IfErr result (λ kind. kind ≡ ErrorKind.Interrupted → (self.new.faults ≡ self.old.faults) × (self.new.interruptions ≡ one_more self.old.interruptions) × (self.new.answers ≡ self.old.answers)) }
+        ensures fault { IfErr result (λ kind. kind ≢ ErrorKind.Interrupted → (self.new.faults ≡ one_more self.old.faults) × (self.new.interruptions ≡ self.old.interruptions) × (self.new.answers ≡ self.old.answers)) }
     {
         match self.call_read(buf) {
             Ok(n) => Ok(n),
@@ -88,6 +88,8 @@ impl<R: Read> Tried<R> {
         ensures quiet { OnOk result ((self.new.faults ≡ self.old.faults) × (self.new.interruptions < 2 ^ 64 - 1)) }
         ensures failed { OnErr result (((self.new.faults ≡ one_more self.old.faults) × (self.new.interruptions < 2 ^ 64 - 1))
             ⊎ (self.new.interruptions ≡ 2 ^ 64 - 1)) }
+        ensures once { OnOk result (self.new.answers ≡ one_more self.old.answers) }
+        ensures unanswered { OnErr result (self.new.answers ≡ self.old.answers) }
         ensures more { self.old.interruptions ≤ self.new.interruptions }
         ensures counts { (self.new.faults < 2 ^ 64) × (self.new.interruptions < 2 ^ 64) }
     {

@@ -2,23 +2,24 @@
 //
 // The device and the counts are private to this file: no code but `call_read` and `call_write` calls the device, and each
 // call is counted by what it answers. So the clauses on the counts tell of the calls that try again that they hide no fault
-// behind a later answer, and that they take no interruption for a fault and no fault for an interruption. That what is
-// answered is the device's own, no clause can say.
+// behind a later answer, that they take no interruption for a fault and no fault for an interruption, and that they make no
+// call behind one that was answered. That what is answered is the device's own, no clause can say.
 ghost use Rattle.std.specs.Prelude.{◌≡◌, ◌==◌, true, length};
 ghost use Rattle.std.specs.Io.{ReadsAtMost, WritesAtMost};
 ghost use Rattle.std.specs.Io.KnownBytes.{ReadConsumes, WriteAppends};
-ghost use Rattle.io_ends.specs.Tries.{IsCounted, told_of};
+ghost use Rattle.io_ends.specs.Tries.{IsCounted, told_of, tries_of};
 
 use std::io;
 use std::io::{ErrorKind, Read, Write};
 
-// A device, how often it told a fault, and how often it told that a call was interrupted. A count stays at 2^64 - 1,
-// and a device that was interrupted so often is not tried any more.
+// A device, how often it told a fault, how often it told that a call was interrupted, and how often it answered with
+// neither. A count stays at 2^64 - 1, and a device that was interrupted so often is not tried any more.
 #[derive(Drop)]
 pub(crate) struct Tried<D> {
     device: D,
     faults: u64,
     interruptions: u64,
+    answers: u64,
 }
 
 // What an answer tells. That no bytes went is an error, unless it may be so.
@@ -39,12 +40,13 @@ pub(crate) fn told_of(may_be_none: bool, answer: io::Result<usize>) -> Result<us
 
 impl<D> Tried<D> {
     pub(crate) fn new(device: D) -> Tried<D>
-        ensures { result ≡ record { device = device; faults = 0; interruptions = 0 } }
+        ensures { result ≡ record { device = device; faults = 0; interruptions = 0; answers = 0 } }
     {
         Tried {
             device,
             faults: 0,
             interruptions: 0,
+            answers: 0,
         }
     }
 
@@ -57,12 +59,13 @@ impl<D> Tried<D> {
     // Counts what the device told.
     fn count(&mut self, told: Result<usize, ErrorKind>)
         ensures device { self.new.device ≡ self.old.device }
-        ensures counted { IsCounted told
-            (record { faults = self.old.faults; interruptions = self.old.interruptions })
-            (record { faults = self.new.faults; interruptions = self.new.interruptions }) }
+        ensures counted { IsCounted told (tries_of self.old) (tries_of self.new) }
     {
         let kind = match told {
-            Ok(_) => return,
+            Ok(_) => {
+                self.answers = self.answers.saturating_add(1);
+                return;
+            }
             Err(kind) => kind,
         };
         if kind == ErrorKind::Interrupted {
@@ -78,9 +81,7 @@ impl<R: Read> Tried<R> {
     pub(crate) fn call_read(&mut self, buf: &mut [u8]) -> io::Result<usize>
         ensures bound { ReadsAtMost result buf.new }
         ensures bytes { ReadConsumes (R.remaining self.old.device) (R.remaining self.new.device) result buf.new }
-        ensures counted { IsCounted (told_of true result)
-            (record { faults = self.old.faults; interruptions = self.old.interruptions })
-            (record { faults = self.new.faults; interruptions = self.new.interruptions }) }
+        ensures counted { IsCounted (told_of true result) (tries_of self.old) (tries_of self.new) }
     {
         let answer = self.device.read(buf);
         self.count(told_of(true, answer));
@@ -93,9 +94,7 @@ impl<W: Write> Tried<W> {
     pub(crate) fn call_write(&mut self, piece: &[u8]) -> io::Result<usize>
         ensures bound { WritesAtMost result piece.now }
         ensures bytes { WriteAppends (W.contents self.old.device) (W.contents self.new.device) result piece.now }
-        ensures counted { IsCounted (told_of (length piece.now == 0) result)
-            (record { faults = self.old.faults; interruptions = self.old.interruptions })
-            (record { faults = self.new.faults; interruptions = self.new.interruptions }) }
+        ensures counted { IsCounted (told_of (length piece.now == 0) result) (tries_of self.old) (tries_of self.new) }
     {
         let answer = self.device.write(piece);
         self.count(told_of(piece.is_empty(), answer));

@@ -12,8 +12,8 @@ use std::marker::Model;
 use std::rt::Stdout;
 
 /// A writer as a sink. A call that was interrupted is made again, and to take nothing of a piece that is not empty is a
-/// fault. As a sink it tells no bytes. A contract sees the writer, and what it told of faults. Nothing is buffered here:
-/// what `write` took was handed to the writer.
+/// fault. As a sink it tells no bytes. A contract sees the writer, and how often it told a fault, an interruption, and
+/// neither. Nothing is buffered here: what `write` took was handed to the writer.
 #[derive(Drop)]
 pub struct WriterSink<W: Write> {
     writer: Tried<W>,
@@ -21,11 +21,11 @@ pub struct WriterSink<W: Write> {
 
 impl<W: Write> Model for WriterSink<W> {
     ghost use Rattle.std.specs.Prelude.{◌<◌, ◌^◌};
-    ghost use Rattle.io_ends.specs.Tries.{TriedDevice};
+    ghost use Rattle.io_ends.specs.Tries.{TriedDevice, tries_of};
 
     ghost Value = { TriedDevice W };
 
-    ghost view = { λ s. record { device = s.writer.device; tries = record { faults = s.writer.faults; interruptions = s.writer.interruptions } } };
+    ghost view = { λ s. record { device = s.writer.device; tries = tries_of s.writer } };
 
     ghost invariant = { λ s. (s.writer.faults < 2 ^ 64) × (s.writer.interruptions < 2 ^ 64) };
 }
@@ -70,9 +70,9 @@ impl<W: Write> Tried<W> {
         ensures bound { IfOk result (λ n. n ≤ length piece.now) }
         ensures some { IfOk result (λ n. 0 < length piece.now → 1 ≤ n) }
         ensures bytes { WriteAppends (W.contents self.old.device) (W.contents self.new.device) result piece.now }
-        ensures quiet { OnOk result ((self.new.faults ≡ self.old.faults) × (self.new.interruptions ≡ self.old.interruptions)) }
-        ensures interrupted { IfErr result (λ kind. kind ≡ ErrorKind.Interrupted → (self.new.faults ≡ self.old.faults) × (self.new.interruptions ≡ one_more self.old.interruptions)) }
-        ensures fault { IfErr result (λ kind. kind ≢ ErrorKind.Interrupted → (self.new.faults ≡ one_more self.old.faults) × (self.new.interruptions ≡ self.old.interruptions)) }
+        ensures quiet { OnOk result ((self.new.faults ≡ self.old.faults) × (self.new.interruptions ≡ self.old.interruptions) × (self.new.answers ≡ one_more self.old.answers)) }
+        ensures interrupted { IfErr result (λ kind. kind ≡ ErrorKind.Interrupted → (self.new.faults ≡ self.old.faults) × (self.new.interruptions ≡ one_more self.old.interruptions) × (self.new.answers ≡ self.old.answers)) }
+        ensures fault { IfErr result (λ kind. kind ≢ ErrorKind.Interrupted → (self.new.faults ≡ one_more self.old.faults) × (self.new.interruptions ≡ self.old.interruptions) × (self.new.answers ≡ self.old.answers)) }
     {
         told_of(piece.is_empty(), self.call_write(piece))
     }
@@ -87,6 +87,8 @@ impl<W: Write> Tried<W> {
         ensures quiet { OnOk result ((self.new.faults ≡ self.old.faults) × (self.new.interruptions < 2 ^ 64 - 1)) }
         ensures failed { OnErr result (((self.new.faults ≡ one_more self.old.faults) × (self.new.interruptions < 2 ^ 64 - 1))
             ⊎ (self.new.interruptions ≡ 2 ^ 64 - 1)) }
+        ensures once { OnOk result (self.new.answers ≡ one_more self.old.answers) }
+        ensures unanswered { OnErr result (self.new.answers ≡ self.old.answers) }
         ensures more { self.old.interruptions ≤ self.new.interruptions }
         ensures counts { (self.new.faults < 2 ^ 64) × (self.new.interruptions < 2 ^ 64) }
     {

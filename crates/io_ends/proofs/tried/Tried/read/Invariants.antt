@@ -7,6 +7,7 @@ invariant-loop-self g l = record {
   same_room : length l.buf ≡ length l.initial.buf;
   kept : Keeps (g.R.Read.remaining l.initial.self.device) (g.R.Read.remaining l.self.device);
   quiet : l.self.faults ≡ l.initial.self.faults;
+  unanswered : l.self.answers ≡ l.initial.self.answers;
   last : l.self.interruptions < 2 ^ 64;
   more : l.initial.self.interruptions ≤ l.self.interruptions;
 }

@@ -6,6 +6,7 @@ abbrev pub invariant-loop-self : goal.invariant-loop-self
 invariant-loop-self g l = record {
   kept : Keeps (g.W.Write.contents l.initial.self.device) (g.W.Write.contents l.self.device);
   quiet : l.self.faults ≡ l.initial.self.faults;
+  unanswered : l.self.answers ≡ l.initial.self.answers;
   last : l.self.interruptions < 2 ^ 64;
   more : l.initial.self.interruptions ≤ l.self.interruptions;
 }
