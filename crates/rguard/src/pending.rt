@@ -105,11 +105,10 @@ impl<'a, T: Editable, M: Machine> Pending<'a, T, M> {
         }
     }
 
-    /// Rests between two looks: lets another thread have this processor, if one waits for it.
-    pub fn rest<R: Wait>(self, rt: &R) -> Pending<'a, T, M>
+    /// Rests between two looks: lets another thread have this processor, if one waits for it, and returns.
+    pub fn rest(self) -> Pending<'a, T, M>
         ensures { result ≡ self.entry }
     {
-        let _ = rt;
         // Whoever holds what is waited for may need this processor.
         thread::yield_now();
         self
