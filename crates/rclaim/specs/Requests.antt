@@ -87,7 +87,7 @@ pub record IsNormal (r : RequestFields) : Type 0 where
   pub len : r.len ≤ LENGTH_LIMIT
   pub later : FitsLater r.kind r.later
 
--- the number of a refusal, as users are told it
+-- the number of a refusal
 abbrev pub refusal_number : RequestErr → ℕ
 refusal_number EmptyRequest = 1
 refusal_number Undeclared = 2

@@ -9,7 +9,7 @@ pub enum Status {
     Waiting,
     /// It waits, and what it asks for comes to it next.
     Entitled,
-    /// It holds what it asks for.
+    /// It holds all that it asks for, and so it stays.
     Satisfied,
 }
 

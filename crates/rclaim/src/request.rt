@@ -39,7 +39,7 @@ pub enum RequestErr {
 }
 
 impl RequestErr {
-    /// The number that users are told.
+    /// Its number, from 1 to 3, in the order in which refusals are told.
     pub fn number(self) -> u8
         ensures { result ≡ refusal_number self }
     {

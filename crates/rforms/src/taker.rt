@@ -17,19 +17,19 @@ pub trait Records {
     /// What may be wrong with a record.
     type Code: Copy;
 
-    // what is wrong with a record behind others, if anything is
+    /// What is wrong with a record behind others, if anything is.
     ghost code: { List Row → Row → Option Self.Code };
 
-    // whether a text may end behind these records
+    /// Whether a text may end behind these records.
     ghost is_done: { List Row → Bool };
 
-    // what is wrong with a text that ends where it may not
+    /// What is wrong with a text that ends where it may not.
     ghost no_end: { Self.Code };
 
-    // it knows that these records were taken
+    /// It knows that these records were taken.
     ghost knows: { Self → List Row → Type 0 };
 
-    // how a record that is refused leaves it, against how it was before
+    /// How a record that is refused leaves it, against how it was before.
     ghost stays: { Self → Self → Type 0 } = { λ _ _. Unit {0} };
 
     /// Takes the next record.

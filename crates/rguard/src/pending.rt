@@ -19,7 +19,7 @@ use std::marker::Model;
 use std::sync::Wait;
 use std::thread;
 
-/// A request that was issued, or asks for more, and for which its seat waits. It must be spent.
+/// A request that was issued, has risen, or asks for more, and for which its seat waits. It must be spent.
 pub struct Pending<'a, T: Editable, M: Machine> {
     pub(crate) section: Section<'a, T, M>,
     pub(crate) awaited: Awaited<T>,

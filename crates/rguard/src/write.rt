@@ -2,5 +2,5 @@
 use crate::kinds::Writing;
 use crate::section_guard::SectionGuard;
 
-/// The guard of a write or a mixed request. It must be spent.
+/// The guard of a write, of a mixed request, or of an upgrade that has risen. It must be spent.
 pub type WriteGuard<'a, T, M> = SectionGuard<'a, T, M, Writing>;

@@ -9,7 +9,7 @@ use Rattle.rheads.specs.declared.heads.Heads.{Heads}
 use Rattle.rheads.specs.Lines.{IsTold, no_head}
 use Rattle.rheads.specs.Shares.{TellWrites, no_share}
 
--- heads have a place for each seat, and all room is what was made at first: no call takes memory
+-- heads have a place for each seat, and the room of both lists is what was made at first
 pub record HasPlaces (h : Heads) : Type 0 where
   pub now : length h.now.items ≡ SEATS
   pub behind : length h.behind.items ≡ SEATS

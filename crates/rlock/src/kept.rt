@@ -11,20 +11,21 @@ pub trait Kept {
     /// One line of the history that the state keeps.
     type Entry;
 
+    /// How the state began, which no turn changes.
     ghost opening: { Self → Self.Opening };
 
-    // The history, the earliest entry first.
+    /// The history, the earliest entry first.
     ghost entries: { Self → List Self.Entry };
 
-    // The number of the pass that made an entry.
+    /// The number of the pass that made an entry.
     ghost number: { Self.Entry → ℕ };
 
-    // What the turns of others may do to the state, as the pass with this number sees it: `stays n before after`.
+    /// What the turns of others may do to the state, as the pass with this number sees it: `stays n before after`.
     ghost stays: { ℕ → Self → Self → Type 0 };
 
-    // They may do nothing.
+    /// They may do nothing.
     ghost stays_refl: { (n : ℕ) (state : Self) → stays n state state };
 
-    // What two turns may do one after the other is something that turns may do.
+    /// What two turns may do one after the other is something that turns may do.
     ghost stays_trans: { (n : ℕ) (before between after : Self) → stays n before between → stays n between after → stays n before after };
 }

@@ -88,7 +88,7 @@ conflicts_on c asker part = meets c.writes part || touches c (intersection part 
 abbrev pub share_place : Claim → Claim → Bool
 share_place a b = meets a.places b.places
 
--- a status is that of a claim that holds what it asks for
+-- a status is that of a satisfied claim
 abbrev pub satisfied_by : Status → Bool
 satisfied_by Waiting = false
 satisfied_by Entitled = false

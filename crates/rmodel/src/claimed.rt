@@ -10,9 +10,13 @@ use rset::ResourceSet;
 /// A claim, its status, and for a nested request what it asks for and what it was granted.
 #[derive(Clone, Copy)]
 pub struct Claimed {
+    /// What the request claims.
     pub claim: Claim,
+    /// Whether it waits, is next, or holds.
     pub status: Status,
+    /// What its request asks for and was not granted yet; empty where that is not nested.
     pub asked: ResourceSet,
+    /// What its request was granted so far; empty where that is not nested.
     pub granted: ResourceSet,
 }
 
@@ -48,7 +52,7 @@ impl Claimed {
         }
     }
 
-    /// Whether it holds what it asks for.
+    /// Whether it is satisfied.
     pub fn is_satisfied(&self) -> bool
         ensures { result ≡ is_satisfied self.now }
     {

@@ -23,8 +23,9 @@ pub fn l3()
     ensures step { WritesAreExclusive }
 {}
 
-/// *Somebody holds*: where there are claims, some claim is satisfied once they are settled. After any list of accepted
-/// events some claim is satisfied while a request is incomplete, and the seat of each satisfied claim holds something.
+/// *Somebody holds*: where there are well-formed claims, some claim is satisfied once they are settled. After any list of
+/// accepted events some claim is satisfied while a request is incomplete, and the seat of each satisfied claim holds
+/// something, with no ask pending.
 pub fn l4()
     ensures any { SomebodyHolds }
     ensures step { SomebodyHoldsAStep }

@@ -53,7 +53,7 @@ pub record IsKept (a : Inside) : Type 0 where
   pub cap : a.cap ≤ SEATS
   pub some_seats : 1 ≤ a.seats
   pub seats : a.seats ≤ SEATS
-  -- all room is what was made at first: a step takes no memory
+  -- all room is what was made at first
   pub claims_room : vec_capacity a.claims ≡ STATUS_ROOM + 2
   pub before_room : vec_capacity a.before ≡ STATUS_ROOM + 2
 

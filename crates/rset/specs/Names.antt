@@ -36,7 +36,7 @@ unfoldable pub all_differ : List (List ℕ) → Bool
 all_differ [] = true
 all_differ (x ∷ xs) = not (knows xs x) && all_differ xs
 
--- a table has different names, and no more than this many
+-- a table has different names, each of them a name, and no more than this many
 unfoldable pub is_table : ℕ → List (List ℕ) → Bool
 is_table limit names = list_all is_name names && all_differ names && nat_le (length names) limit
 

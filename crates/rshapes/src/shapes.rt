@@ -136,7 +136,7 @@ impl Shapes {
     }
 
     /// The bound of a wait of the requests of a shape, where no more than `cap` requests may be incomplete. All claims that the
-    /// shapes make are looked through for it: where many bounds are wanted, `needs` makes a table of all.
+    /// shapes make are looked through for it: where many bounds are wanted, make a table of what `needs` gives.
     ///
     /// # Errors
     ///

@@ -49,7 +49,7 @@ IsTaken ls m t = (c : Claim) → c.reads ≡ t.reads → c.writes ≡ t.writes �
 abbrev pub HaveLengths : (Claim → ℕ) → List Section → Type 0
 HaveLengths len ss = AllByRecursion (λ s. s.len ≡ len s.claim) ss
 
--- a run has its room, and its sections have their lengths
+-- a run has its room: as many places of each sort as there are seats
 pub record HasRoom (r : Run) : Type 0 where
   pub reads : vec_capacity r.reads ≡ SEATS
   pub writes : vec_capacity r.writes ≡ SEATS

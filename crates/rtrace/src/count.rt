@@ -24,10 +24,15 @@ use std::alloc::Global;
 /// Takes the records of a report, counts its events and its waits, and keeps what it tells of bounds.
 #[derive(Drop)]
 pub struct Counting {
+    /// Where the memory comes from that it takes.
     pub alloc: Global,
+    /// What the records said, line by line.
     pub reading: Reading,
+    /// What they told of bounds.
     pub bounds: BoundsKept,
+    /// How many events they told.
     pub events: u64,
+    /// How many waits they told.
     pub waits: u64,
     // What the latest record told.
     taken: Taken,

@@ -9,7 +9,7 @@ use Rattle.rvalue.specs.declared.TheConstants.{BALANCE_LIMIT, EDITS_LIMIT}
 abbrev pub opening_ledger : Ledger
 opening_ledger = record { balance = 0; edits = 0 }
 
--- the edit leaves a balance within the limits: what is put in or set stays below the upper one, what is taken out is there
+-- the edit leaves a balance within the limits: what is put in or set leaves at most the upper one, what is taken out is there
 abbrev pub is_within : ℕ → Edit → Bool
 is_within balance (Add amount) = nat_le (balance + amount) BALANCE_LIMIT
 is_within balance (Take amount) = nat_le amount balance

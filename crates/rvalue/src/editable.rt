@@ -8,13 +8,13 @@ pub trait Editable: Drop {
     /// A change of the value.
     type Edit: Drop;
 
-    // the value after an edit
+    /// The value after an edit.
     ghost after: { Self → Self.Edit → Self };
 
-    // whether the value takes the edit
+    /// Whether the value takes the edit.
     ghost taken: { Self → Self.Edit → Bool };
 
-    // the number that a show of the value tells
+    /// The number that a show of the value tells.
     ghost number: { Self → ℕ };
 
     /// Edits the value, and answers whether the edit was taken. An edit that is not taken leaves the value. No memory is taken.
@@ -34,6 +34,6 @@ pub trait Editable: Drop {
     fn shown(&self) -> u64
         ensures { result ≡ number self.now };
 
-    // an edit that is not taken leaves the value
+    /// An edit that is not taken leaves the value.
     ghost untaken: { (value : Self) (edit : Self.Edit) → taken value edit ≡ false → after value edit ≡ value };
 }

@@ -5,24 +5,24 @@ ghost use Rattle.rclaim.specs.declared.event.Event.{Event};
 
 /// What a history is judged by: the lock whose events it has, and what is told of the opening values. It is for contracts alone.
 pub trait Rules<V> {
-    // what the lock is in between two events
+    /// What the lock is in between two events.
     ghost lock: { Type 0 };
 
-    // the event is accepted in the state
+    /// The event is accepted in the state.
     ghost comes: { lock → Event → Type 0 };
 
-    // the state that an accepted event leads to
+    /// The state that an accepted event leads to.
     ghost next: { lock → Event → lock };
 
-    // what a seat holds for reading
+    /// What a seat holds for reading.
     ghost reads: { lock → ℕ → Set };
 
-    // what a seat holds for writing
+    /// What a seat holds for writing.
     ghost writes: { lock → ℕ → Set };
 
-    // the state as the history begins
+    /// The state as the history begins.
     ghost first: { lock };
 
-    // what is told of the value of a resource as the history begins
+    /// What is told of the value of a resource as the history begins.
     ghost opens_at: { ℕ → V → Type 0 };
 }

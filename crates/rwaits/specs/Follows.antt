@@ -21,7 +21,7 @@ use Rattle.rstretch.specs.declared.run.Run.{Run}
 abbrev pub IsEmpty : Run → Type 0
 IsEmpty r = kept_in r ≡ no_sections
 
--- a follower has its room: all of it is what was made at first, so that a step takes no memory
+-- a follower has its room: all of it is what was made at first
 pub record HaveRoom (a : Following) : Type 0 where
   pub last : vec_capacity a.last ≡ 2 * SEATS
   pub seats : length a.runs.items ≡ SEATS

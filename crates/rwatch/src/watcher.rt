@@ -7,7 +7,7 @@ use rclaim::{Changes, Event};
 
 /// What is told each step of a lock. It may be dropped at any time.
 pub trait Watcher: Drop {
-    // what it counts, how much it counted, how much room it has for events, and those it keeps
+    /// What it counts, how much it counted, how much room it has for events, and those it keeps.
     ghost seen: { Self → Seen };
 
     /// What it counts.
@@ -29,7 +29,7 @@ pub trait Watcher: Drop {
 
 /// All that are told the steps of a lock together.
 pub trait Audience {
-    // what each of them has been told, in order
+    /// What each of them has been told, in order.
     ghost all: { Self → List Seen };
 
     /// Tells each of them a step, in order. No memory is taken.
