@@ -1,5 +1,5 @@
 // An event list and its report, made in one pass.
-ghost use Rattle.std.specs.Prelude.{◌≡◌, ◌≤◌, ◌++◌, ◌∷◌, [], ◌<◌, ◌^◌, ℕ, List, false, true, length, OnOk, IfOk, IsSome, Some, None};
+ghost use Rattle.std.specs.Prelude.{◌≡◌, ◌≤◌, ◌++◌, ◌∷◌, [], ◌<◌, ◌^◌, ℕ, List, false, true, length, OnOk, OnErr, IfOk, IsSome, Some, None};
 ghost use Rattle.csv.specs.Records.{fields_of};
 ghost use Rattle.rexpand.specs.Groups.{ReadGroups};
 ghost use Rattle.rforms.specs.Faults.{is_ended};
@@ -65,7 +65,7 @@ pub struct Replaying {
     pub reading: Reading,
     telling: Option<Telling>,
     history: OpenText,
-    /// What the latest record told.
+    /// What the latest record told: nothing, where it was refused or memory was wanting.
     pub taken: Taken,
 }
 
@@ -92,8 +92,8 @@ impl Replaying {
     ///
     /// # Errors
     ///
-    /// The first code of the record, or want of memory. Where the record is wrong, what was due to the reader is due still,
-    /// and the text and what tells events are as they were.
+    /// The first code of the record, or want of memory. The record has told nothing then. Where it is wrong, what was due to
+    /// the reader is due still, and the text and what tells events are as they were.
     pub fn take_record(&mut self, fields: &ByteRecord) -> Result<(), RowErr>
         requires { (s : SoFar) × KnowsReplay self.old s × (length (entries_in s) < 2 ^ 62) }
         ensures taken { OnOk result ((s : SoFar) → KnowsReplay self.old s → (code_of false s (fields_of fields.now) ≡ None) × KnowsReplay self.new (with_row false s (fields_of fields.now))) }
@@ -101,8 +101,10 @@ impl Replaying {
         ensures bad { (code : Code) → result ≡ Err (RowErr.Bad code) → (s : SoFar) → KnowsReplay self.old s → code_of false s (fields_of fields.now) ≡ Some code }
         ensures still { (code : Code) → result ≡ Err (RowErr.Bad code)
             → (self.new ≡ record self.old { reading = self.new.reading; taken = self.new.taken }) × StillDue self.old.reading self.new.reading }
+        ensures untaken { OnErr result (self.new.taken ≡ Taken.Other) }
     {
         if let Err(e) = take(&mut self.reading, self.alloc, fields, &mut self.taken) {
+            self.taken = Taken::Other;
             return Err(e);
         }
         match &self.taken {
@@ -116,7 +118,10 @@ impl Replaying {
                 );
                 match told {
                     Ok(()) => Ok(()),
-                    Err(_) => Err(RowErr::Memory),
+                    Err(_) => {
+                        self.taken = Taken::Other;
+                        Err(RowErr::Memory)
+                    }
                 }
             }
             Taken::Act(_) => Ok(()),
