@@ -61,7 +61,7 @@ impl Reading {
     /// # Errors
     ///
     /// Its refusal, or want of memory at the first event. Where it is refused, what was due is due still, and no name was
-    /// declared.
+    /// declared. Where memory is wanting, nothing changes.
     pub fn happen(&mut self, alloc: Global, event: &Event) -> Result<(), RowErr>
         requires ready { IsReady self.old }
         requires placed { IsPlaced self.old }
@@ -70,6 +70,7 @@ impl Reading {
         ensures bad { (code : Code) → result ≡ Err (RowErr.Bad code) → Refuses self.old (Happens event.now) code }
         ensures still { (code : Code) → result ≡ Err (RowErr.Bad code) → StillDue self.old self.new }
         ensures names { (code : Code) → result ≡ Err (RowErr.Bad code) → (self.new.resources ≡ self.old.resources) × (self.new.tasks ≡ self.old.tasks) }
+        ensures memory { result ≡ Err RowErr.Memory → self.new ≡ self.old }
     {
         let Ok(()) = self.make_machine(alloc) else {
             return Err(RowErr::Memory);
@@ -97,7 +98,9 @@ impl Reading {
         requires placed { IsPlaced self.old }
         ensures made { OnOk result (IsSome self.new.machine × ((whole : Bool) (s : SoFar) → Knows whole self.old s → (state_in s self.new.machine ≡ lock_in s) × (changes_in self.new.machine ≡ changes_in self.old.machine))) }
         ensures followed { OnOk result ((whole : Bool) (s : SoFar) → Knows whole self.old s → IfSome self.new.following (λ f. Follows f (past_in s))) }
+        ensures there { OnOk result (IsSome self.new.following) }
         ensures others { self.new ≡ record self.old { machine = self.new.machine; following = self.new.following } }
+        ensures err { OnErr result (self.new ≡ self.old) }
     {
         if self.machine.is_none() {
             self.make_first(alloc)
@@ -115,7 +118,9 @@ impl Reading {
         requires none { self.old.machine ≡ None }
         ensures made { OnOk result (IsSome self.new.machine × ((whole : Bool) (s : SoFar) → Knows whole self.old s → (state_in s self.new.machine ≡ lock_in s) × (changes_in self.new.machine ≡ changes_in self.old.machine))) }
         ensures followed { OnOk result ((whole : Bool) (s : SoFar) → Knows whole self.old s → IfSome self.new.following (λ f. Follows f (past_in s))) }
+        ensures there { OnOk result (IsSome self.new.following) }
         ensures others { self.new ≡ record self.old { machine = self.new.machine; following = self.new.following } }
+        ensures err { OnErr result (self.new ≡ self.old) }
     {
         let Some(groups) = &self.groups else {
             return Ok(());
