@@ -25,7 +25,7 @@ use Rattle.rdue.specs.Due.{due_list}
 use Rattle.rlines.specs.Knows.{Knows, known_groups, state_in, due_left, changes_in, ended_at, past_in, StandBehind}
 use Rattle.rlines.proofs.Steps.{none_behind}
 use Rattle.rexpand.specs.Groups.{ReadGroups}
-use Rattle.rlines.specs.Takes.{place_code, AreMade}
+use Rattle.rlines.specs.Takes.{place_code, AreMade, groups_over}
 use Rattle.rlines.proofs.Codes.{plain_causes, place_code_is, placed, no_plain_code, follows_both}
 
 -- ---- what stands behind the head
@@ -51,6 +51,11 @@ groups_made whole old s q new h low same made = at (nat_lt s.last at_groups) ref
         let some = h.some_resource low in
         m (omega (arith, same, some)) ∙ (λ i. Some (record { q = same i; groups = sym (h.no_groups (omega (arith, early))) i }))
     at false e m = m
+
+-- the groups that are there, or none over all resources, are those that are made
+pub over_made : (q : ℕ) (old : Option ReadGroups) → AreMade q old (Some (groups_over q old))
+over_made q (Some old) = refl
+over_made q None = λ _. refl
 
 -- ---- inside the head nothing has happened
 

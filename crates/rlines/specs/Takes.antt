@@ -1,8 +1,8 @@
 -- What it is to take a line, and to tell what is wrong with it.
-use Rattle.std.specs.Prelude.{◌≡◌, ◌<◌, ◌^◌, ℕ, Bool, true, ◌&&◌, nat_le, ◌==◌, List, [], ◌∷◌, ◌++◌, length, Option, Some, None, IsSome, IfSome, IsTrue, if◌then◌else◌}
+use Rattle.std.specs.Prelude.{◌≡◌, ◌⊎◌, ◌<◌, ◌^◌, ℕ, Bool, true, ◌&&◌, nat_le, ◌==◌, List, [], ◌∷◌, ◌++◌, length, Option, Some, None, IsSome, IfSome, IsTrue, if◌then◌else◌}
 use Rattle.std.specs.FinSet.{union, empty}
 use Rattle.rset.specs.Sets.{Set, all_below}
-use Rattle.rexpand.specs.Groups.{ReadGroups}
+use Rattle.rexpand.specs.Groups.{ReadGroups, no_groups}
 use Rattle.rclaim.specs.Requests.{IsNormal}
 use Rattle.rclaim.specs.declared.event.Event.{Event}
 use Rattle.rclaim.specs.declared.event.Event.TheVariants.{Issue, Finish, Rise, Ask}
@@ -60,6 +60,14 @@ pub record StillDue (old new : Reading) : Type 0 where
   pub there : IsSome old.following → IsSome new.following
   pub followed : (whole : Bool) (s : SoFar) → Knows whole old s → IfSome new.following (λ f. Follows f (past_in s))
 
+-- a reader is as it was, but for the room for ledgers
+abbrev pub IsAsBefore : Reading → Reading → Type 0
+IsAsBefore old new = (new ≡ record old { ledgers = new.ledgers }) × (new.ledgers.items ≡ old.ledgers.items)
+
+-- a refused name may stand behind the others all the same, and no other name came in
+abbrev pub MayStand : List (List ℕ) → List (List ℕ) → List ℕ → Type 0
+MayStand old new name = (new ≡ old) ⊎ (new ≡ old ++ name ∷ [])
+
 -- a reader knows what was said, and stamps are left
 abbrev pub IsReady : Reading → Type 0
 IsReady reading = (whole : Bool) × (s : SoFar) × Knows whole reading s × (length (entries_in s) < 2 ^ 62)
@@ -115,3 +123,12 @@ ledgers_told reading = if reading.last == at_ledgers then reading.told else 0
 abbrev pub AreMade : ℕ → Option ReadGroups → Option ReadGroups → Type 0
 AreMade q (Some old) new = new ≡ Some old
 AreMade q None new = 0 < q → new ≡ Some (record { q = q; groups = [] })
+
+-- the groups that are there, or else none over q resources
+abbrev pub groups_over : ℕ → Option ReadGroups → ReadGroups
+groups_over q (Some old) = old
+groups_over q None = no_groups q
+
+-- these groups, and one more behind them
+abbrev pub with_group : ReadGroups → Set → ReadGroups
+with_group groups set = record groups { groups = groups.groups ++ set ∷ [] }

@@ -1,5 +1,6 @@
 // The lines of the head.
-ghost use Rattle.std.specs.Prelude.{◌≡◌, ◌<◌, ◌≤◌, ◌++◌, ◌∷◌, [], length, Some, true, false, Bool, OnOk, OnErr, IfErr, IsTrue};
+ghost use Rattle.std.specs.Prelude.{◌≡◌, ◌<◌, ◌≤◌, ◌++◌, ◌∷◌, [], length, Some, true, false, Bool, OnOk, OnErr, IfOk, IfErr, IsTrue};
+ghost use Rattle.std.specs.Option.{option_or};
 ghost use Rattle.rset.specs.Sets.{all_below};
 ghost use Rattle.rset.specs.declared.TheConstants.{RESOURCES, SEATS};
 ghost use Rattle.rexpand.specs.declared.TheConstants.{GROUPS};
@@ -8,7 +9,7 @@ ghost use Rattle.rforms.specs.Lines.{Opens, HasResource, HasGroup, HasTask, HasC
 ghost use Rattle.rforms.specs.SoFar.{SoFar};
 ghost use Rattle.rforms.specs.declared.fault.Code.{Code};
 ghost use Rattle.rlines.specs.Knows.{Knows};
-ghost use Rattle.rlines.specs.Takes.{Takes, Refuses, StillDue, AreMade};
+ghost use Rattle.rlines.specs.Takes.{Takes, Refuses, StillDue, IsAsBefore, MayStand, AreMade, groups_over, with_group};
 
 use crate::place::{AT_CAP, AT_GROUPS, AT_RESOURCES, AT_START, AT_TASKS, AT_VERSION};
 use crate::reading::Reading;
@@ -40,22 +41,28 @@ impl Reading {
     ///
     /// # Errors
     ///
-    /// What is wrong with it there, or want of memory. Where it is wrong, what was due is due still.
+    /// What is wrong with it there, or want of memory. Where it is wrong, what was due is due still, and no name but this one
+    /// was declared. Where memory is wanting, nothing changes but the room for ledgers.
     pub fn resource(&mut self, name: &[u8]) -> Result<(), RowErr>
         ensures taken { OnOk result (Takes self.old self.new (HasResource name.now)) }
         ensures bad { (code : Code) → result ≡ Err (RowErr.Bad code) → Refuses self.old (HasResource name.now) code }
         ensures still { (code : Code) → result ≡ Err (RowErr.Bad code) → StillDue self.old self.new }
+        ensures names { (code : Code) → result ≡ Err (RowErr.Bad code)
+            → IsAsBefore (record self.old { resources = self.new.resources }) self.new × MayStand self.old.resources self.new.resources name.now }
+        ensures memory { result ≡ Err RowErr.Memory → IsAsBefore self.old self.new }
     {
         let misplaced = self.misplaced(AT_VERSION, AT_RESOURCES);
+        // Room first: behind it nothing but the name takes memory.
+        let Ok(()) = self.ledgers.reserve(1) else {
+            return Err(RowErr::Memory);
+        };
         if let Err(e) = declare(&mut self.resources, name) {
             return Err(e);
         }
         if let Some(code) = misplaced {
             return Err(RowErr::Bad(code));
         }
-        let Ok(()) = self.ledgers.push(Ledger::new()) else {
-            return Err(RowErr::Memory);
-        };
+        self.ledgers.push_reserved(Ledger::new());
         self.last = AT_RESOURCES;
         Ok(())
     }
@@ -64,22 +71,28 @@ impl Reading {
     ///
     /// # Errors
     ///
-    /// What is wrong with it there, or want of memory. Where it is wrong, what was due is due still.
+    /// What is wrong with it there, or want of memory. Where it is wrong, what was due is due still, and no name but this one
+    /// was declared. Where memory is wanting, nothing changes.
     pub fn task(&mut self, alloc: Global, name: &[u8]) -> Result<(), RowErr>
         ensures taken { OnOk result (Takes self.old self.new (HasTask name.now)) }
         ensures bad { (code : Code) → result ≡ Err (RowErr.Bad code) → Refuses self.old (HasTask name.now) code }
         ensures still { (code : Code) → result ≡ Err (RowErr.Bad code) → StillDue self.old self.new }
+        ensures names { (code : Code) → result ≡ Err (RowErr.Bad code)
+            → (self.new ≡ record self.old { tasks = self.new.tasks }) × MayStand self.old.tasks self.new.tasks name.now }
+        ensures memory { result ≡ Err RowErr.Memory → self.new ≡ self.old }
     {
         let misplaced = self.misplaced(AT_RESOURCES, AT_TASKS);
+        // The groups first: behind them nothing but the name takes memory.
+        let Ok(first) = first_groups(alloc, &self.groups, self.resources.len()) else {
+            return Err(RowErr::Memory);
+        };
         if let Err(e) = declare(&mut self.tasks, name) {
             return Err(e);
         }
         if let Some(code) = misplaced {
             return Err(RowErr::Bad(code));
         }
-        let Ok(()) = make_groups(alloc, &mut self.groups, self.resources.len()) else {
-            return Err(RowErr::Memory);
-        };
+        keep_first(&mut self.groups, first);
         self.last = AT_TASKS;
         Ok(())
     }
@@ -88,7 +101,7 @@ impl Reading {
     ///
     /// # Errors
     ///
-    /// What is wrong with it there, or want of memory. Where it is wrong, what was due is due still.
+    /// What is wrong with it there, or want of memory. Nothing changes then.
     pub fn group(&mut self, alloc: Global, set: ResourceSet) -> Result<(), RowErr>
         requires known { (whole : Bool) × (s : SoFar) × Knows whole self.old s }
         requires room { (whole : Bool) (s : SoFar) → Knows whole self.old s → length s.groups < GROUPS }
@@ -96,6 +109,7 @@ impl Reading {
         ensures taken { OnOk result (Takes self.old self.new (HasGroup set)) }
         ensures bad { (code : Code) → result ≡ Err (RowErr.Bad code) → Refuses self.old (HasGroup set) code }
         ensures still { (code : Code) → result ≡ Err (RowErr.Bad code) → StillDue self.old self.new }
+        ensures unchanged { OnErr result (self.new ≡ self.old) }
     {
         if set.is_empty() {
             return Err(RowErr::Bad(Code::BadField));
@@ -103,13 +117,7 @@ impl Reading {
         if let Some(code) = self.misplaced(AT_RESOURCES, AT_GROUPS) {
             return Err(RowErr::Bad(code));
         }
-        let Ok(()) = make_groups(alloc, &mut self.groups, self.resources.len()) else {
-            return Err(RowErr::Memory);
-        };
-        let Some(groups) = &mut self.groups else {
-            return Err(RowErr::Memory);
-        };
-        let Ok(()) = groups.declare(set) else {
+        let Ok(()) = add_group(alloc, &mut self.groups, self.resources.len(), set) else {
             return Err(RowErr::Memory);
         };
         self.last = AT_GROUPS;
@@ -136,15 +144,48 @@ impl Reading {
     }
 }
 
-// Makes the groups over so many resources, if they are not there.
-fn make_groups(alloc: Global, groups: &mut Option<Groups>, q: u8) -> Result<(), AllocError>
+// The groups over so many resources, where there are resources and no groups yet.
+fn first_groups(alloc: Global, groups: &Option<Groups>, q: u8) -> Result<Option<Groups>, AllocError>
     requires { q ≤ RESOURCES }
-    ensures { OnOk result (AreMade q groups.old groups.new) }
+    ensures { IfOk result (λ first. AreMade q groups.now (option_or first groups.now)) }
 {
-    if groups.is_none() && q > 0 {
-        *groups = Some(Groups::new(alloc, q)?);
+    if groups.is_some() || q == 0 {
+        return Ok(None);
     }
-    Ok(())
+    Ok(Some(Groups::new(alloc, q)?))
+}
+
+// Keeps the first groups, if there are any.
+fn keep_first(groups: &mut Option<Groups>, first: Option<Groups>)
+    ensures { groups.new ≡ option_or first groups.old }
+{
+    if first.is_some() {
+        *groups = first;
+    }
+}
+
+// Adds a group behind the others. Where there are none yet, they are made over so many resources.
+fn add_group(
+    alloc: Global,
+    groups: &mut Option<Groups>,
+    q: u8,
+    set: ResourceSet,
+) -> Result<(), GroupErr>
+    requires some { 1 ≤ q }
+    requires few { q ≤ RESOURCES }
+    requires below { IsTrue (all_below (groups_over q groups.old).q set) }
+    ensures ok { OnOk result (groups.new ≡ Some (with_group (groups_over q groups.old) set)) }
+    ensures err { OnErr result (groups.new ≡ groups.old) }
+{
+    match groups {
+        Some(groups) => groups.declare(set),
+        None => {
+            let mut first = Groups::new(alloc, q)?;
+            first.declare(set)?;
+            *groups = Some(first);
+            Ok(())
+        }
+    }
 }
 
 // Adds a declared name to its table.

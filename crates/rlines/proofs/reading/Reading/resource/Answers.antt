@@ -1,6 +1,5 @@
-use Rattle.std.proofs.Common.{false, ◌++◌, ◌∷◌, [], Some, sym, ap, ◌∙◌, refl}
+use Rattle.std.proofs.Common.{false, inl, inr, ◌++◌, ◌∷◌, [], Some, sym, ap, ◌∙◌, refl}
 use Rattle.rset.specs.declared.TheConstants.{RESOURCES}
-use Rattle.rvalue.specs.declared.ledger.Ledger.{Ledger}
 use Rattle.rforms.specs.Heads.{is_bad_name}
 use Rattle.rforms.specs.Lines.{HasResource}
 use Rattle.rlines.proofs.Results.{same_bad}
@@ -15,22 +14,31 @@ returns-in-Err-clause-bad c = λ code is whole s h.
 
 pub returns-in-Some-clause-bad : goal.returns-in-Some-clause-bad
 returns-in-Some-clause-bad c = λ code is whole s h.
-    head_misplaced whole s 1 2 (HasResource c.args.name.now) c.in-Some.code (resource_is whole s c.args.name.now false (ap (λ xs. is_bad_name RESOURCES xs c.args.name.now) (sym h.resources) ∙ c.in_default.ensures.ok.0))
+    head_misplaced whole s 1 2 (HasResource c.args.name.now) c.in-Some.code (resource_is whole s c.args.name.now false (ap (λ xs. is_bad_name RESOURCES xs c.args.name.now) (sym h.resources) ∙ c.in_default-declare.ensures.ok.0))
     (sym (c.misplaced-misplaced.ensures whole s h) ∙ c.in-Some.is) ∙ ap Some (same_bad is)
 
 pub returns-clause-taken : goal.returns-clause-taken
 returns-clause-taken c = λ whole s h.
-    let told = c.in_default.ensures.ok in
-    resource_taken whole c.args.self.now s h c.args.name.now (record c.args.self.now { last = 2; resources = c.declare.new.table; ledgers = c.push.new.self })
-    (sym (c.misplaced-misplaced.ensures whole s h) ∙ c.in_default-misplaced.is) told.0 (λ i. record c.args.self.now { last = 2; resources = sym told.1 i; ledgers = c.push.new.self })
-    (c.in-Ok.ensures.items ∙ ap (λ (x : Ledger). c.args.self.now.ledgers.items ++ x ∷ []) c.new.ensures)
+    let told = c.in_default-declare.ensures.ok in
+    resource_taken whole c.args.self.now s h c.args.name.now (record c.args.self.now { last = 2; resources = c.declare.new.table; ledgers = c.push_reserved.new.self })
+    (sym (c.misplaced-misplaced.ensures whole s h) ∙ c.in_default-misplaced.is) told.0 (λ i. record c.args.self.now { last = 2; resources = sym told.1 i; ledgers = c.push_reserved.new.self })
+    (c.push_reserved.ensures.items ∙ (λ i. c.reserve.ensures.items i ++ c.new.ensures i ∷ []))
 
 pub returns-in-Err-clause-still : goal.returns-in-Err-clause-still
 returns-in-Err-clause-still c = λ code is.
     let now = c.args.self.now in
-    due_still now _ refl (first_same now.resources c.declare.new.table c.in-Err.ensures.still) (first_same now.tasks now.tasks refl) refl refl refl refl refl refl refl
+    due_still now _ refl (first_same now.resources c.declare.new.table c.in-Err.ensures.still) (first_same now.tasks now.tasks refl) refl refl refl refl refl refl c.reserve.ensures.items
 
 pub returns-in-Some-clause-still : goal.returns-in-Some-clause-still
 returns-in-Some-clause-still c = λ code is.
     let now = c.args.self.now in
-    due_still now _ refl (c.args.name.now ∷ [], c.in_default.ensures.ok.1) (first_same now.tasks now.tasks refl) refl refl refl refl refl refl refl
+    due_still now _ refl (c.args.name.now ∷ [], c.in_default-declare.ensures.ok.1) (first_same now.tasks now.tasks refl) refl refl refl refl refl refl c.reserve.ensures.items
+
+pub returns-in-Err-clause-names : goal.returns-in-Err-clause-names
+returns-in-Err-clause-names c = λ code is. ((refl, c.reserve.ensures.items), inl c.in-Err.ensures.still)
+
+pub returns-in-Some-clause-names : goal.returns-in-Some-clause-names
+returns-in-Some-clause-names c = λ code is. ((refl, c.reserve.ensures.items), inr c.in_default-declare.ensures.ok.1)
+
+pub returns-in-Err-clause-memory : goal.returns-in-Err-clause-memory
+returns-in-Err-clause-memory c = λ is. ((λ i. record c.args.self.now { resources = c.in-Err.ensures.still i; ledgers = c.reserve.new.self }), c.reserve.ensures.items)
