@@ -1,3 +1,4 @@
 pub mod Results
 pub mod OtherWords
 pub mod RowSteps
+pub mod Names

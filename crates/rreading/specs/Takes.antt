@@ -3,6 +3,10 @@ use Rattle.std.specs.Prelude.{◌≡◌, Bool, ◌∷◌, Option, Some, None, Is
 use Rattle.rclaim.specs.declared.event.Event.{Event}
 use Rattle.rclaim.specs.declared.request.RequestErr.{RequestErr}
 use Rattle.rforms.specs.Records.{Row}
+use Rattle.rforms.specs.Decided.{field_of}
+use Rattle.rforms.specs.Words.{word_in}
+use Rattle.rforms.specs.declared.word.Word.{Word}
+use Rattle.rforms.specs.declared.word.Word.TheVariants as word
 use Rattle.rbound.specs.Bounds.{Numbers, numbers_in}
 use Rattle.rforms.specs.WrongBounds.{bound_said}
 use Rattle.rforms.specs.SoFar.{SoFar, names_in, entries_in, bare, with_act, with_row}
@@ -14,6 +18,7 @@ use Rattle.rlines.specs.declared.reading.Reading.{Reading}
 use Rattle.rreading.specs.declared.taken.Taken.{Taken}
 use Rattle.rreading.specs.declared.taken.Taken.TheVariants as taken
 use Rattle.rlines.specs.Knows.{Knows, waits_due}
+use Rattle.rlines.specs.Takes.{MayStand}
 
 -- what was taken adds this to the entries; a wait is the first of those that are due, and due no more
 abbrev pub Adds : Taken → SoFar → SoFar → Type 0
@@ -30,6 +35,16 @@ TakesRow old new row what =
 -- whatever was said, this is wrong with the record behind it
 abbrev pub RefusesRow : Reading → Row → Code → Type 0
 RefusesRow old row code = (whole : Bool) (s : SoFar) → Knows whole old s → code_of whole s row ≡ Some code
+
+-- behind a refused record of this word no name came in but its own: that of a resource or of a task may stand behind the others all the same
+abbrev pub NamesBehind : Option Word → Reading → Reading → Row → Type 0
+NamesBehind (Some word.Resource) old new row = MayStand old.resources new.resources (field_of row 1) × (new.tasks ≡ old.tasks)
+NamesBehind (Some word.Task) old new row = (new.resources ≡ old.resources) × MayStand old.tasks new.tasks (field_of row 1)
+NamesBehind _ old new row = (new.resources ≡ old.resources) × (new.tasks ≡ old.tasks)
+
+-- a refused record declares no name but its own: so one of an event, of an act or of a group, and one that is none of any word, declares nothing
+abbrev pub NamesStay : Reading → Reading → Row → Type 0
+NamesStay old new row = NamesBehind (word_in old.whole row) old new row
 
 -- the bound that what was taken tells, if it tells a wait
 abbrev pub bound_of : Taken → Option Numbers

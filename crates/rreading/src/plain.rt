@@ -1,5 +1,5 @@
 // The records that tell nothing of the history: those of the head, of changes, of ledgers, and the end.
-ghost use Rattle.std.specs.Prelude.{◌≡◌, ◌<◌, ◌==◌, false, Bool, true, length, Some, OnOk};
+ghost use Rattle.std.specs.Prelude.{◌≡◌, ◌<◌, ◌==◌, false, Bool, true, length, Some, OnOk, OnErr};
 ghost use Rattle.csv.specs.Records.{fields_of};
 ghost use Rattle.rexpand.specs.declared.TheConstants.{GROUPS};
 ghost use Rattle.rforms.specs.SoFar.{SoFar};
@@ -7,8 +7,8 @@ ghost use Rattle.rforms.specs.Words.{word_in};
 ghost use Rattle.rforms.specs.declared.fault.Code.{Code};
 ghost use Rattle.rrecords.specs.Told.{is_event, is_act, is_status, is_wait};
 ghost use Rattle.rlines.specs.Knows.{Knows};
-ghost use Rattle.rreading.specs.Takes.{TakesRow, RefusesRow, TellsBound};
-ghost use Rattle.rlines.specs.Takes.{StillDue, IsReady};
+ghost use Rattle.rreading.specs.Takes.{TakesRow, RefusesRow, TellsBound, NamesStay};
+ghost use Rattle.rlines.specs.Takes.{StillDue, IsReady, IsAsBefore};
 
 use crate::taken::Taken;
 use csv::ByteRecord;
@@ -23,7 +23,8 @@ use std::alloc::Global;
 /// # Errors
 ///
 /// The first thing that is wrong with it, or want of memory in the head. Nothing is said then of `taken`. Where it is wrong,
-/// what was due is due still.
+/// what was due is due still, and no name but its own was declared. Where memory is wanting, nothing changes in the reader but
+/// the room for ledgers.
 pub fn take_plain(
     reading: &mut Reading,
     alloc: Global,
@@ -40,6 +41,8 @@ pub fn take_plain(
     ensures bound { OnOk result (TellsBound reading.old (fields_of fields.now) taken.new) }
     ensures bad { (code : Code) → result ≡ Err (RowErr.Bad code) → RefusesRow reading.old (fields_of fields.now) code }
     ensures still { (code : Code) → result ≡ Err (RowErr.Bad code) → StillDue reading.old reading.new }
+    ensures names { (code : Code) → result ≡ Err (RowErr.Bad code) → NamesStay reading.old reading.new (fields_of fields.now) }
+    ensures memory { result ≡ Err RowErr.Memory → IsAsBefore reading.old reading.new }
 {
     match take_other(reading, alloc, word, fields) {
         Ok(()) => {
@@ -65,6 +68,8 @@ fn take_other(
     ensures taken { OnOk result (TakesRow reading.old reading.new (fields_of fields.now) Taken.Other) }
     ensures bad { (code : Code) → result ≡ Err (RowErr.Bad code) → RefusesRow reading.old (fields_of fields.now) code }
     ensures still { (code : Code) → result ≡ Err (RowErr.Bad code) → StillDue reading.old reading.new }
+    ensures names { (code : Code) → result ≡ Err (RowErr.Bad code) → NamesStay reading.old reading.new (fields_of fields.now) }
+    ensures memory { result ≡ Err RowErr.Memory → IsAsBefore reading.old reading.new }
 {
     match word {
         Word::Entitled { .. } | Word::Satisfied { .. } => take_status(reading, word, fields),
@@ -89,6 +94,7 @@ fn take_status(reading: &mut Reading, word: Word, fields: &ByteRecord) -> Result
     ensures taken { OnOk result (TakesRow reading.old reading.new (fields_of fields.now) Taken.Other) }
     ensures bad { (code : Code) → result ≡ Err (RowErr.Bad code) → RefusesRow reading.old (fields_of fields.now) code }
     ensures still { (code : Code) → result ≡ Err (RowErr.Bad code) → StillDue reading.old reading.new }
+    ensures unchanged { OnErr result (reading.new ≡ reading.old) }
 {
     match change_of(&reading.resources, &reading.tasks, word, fields) {
         Ok(change) => match reading.status(change) {
@@ -105,6 +111,7 @@ fn take_grant(reading: &mut Reading, fields: &ByteRecord) -> Result<(), RowErr>
     ensures taken { OnOk result (TakesRow reading.old reading.new (fields_of fields.now) Taken.Other) }
     ensures bad { (code : Code) → result ≡ Err (RowErr.Bad code) → RefusesRow reading.old (fields_of fields.now) code }
     ensures still { (code : Code) → result ≡ Err (RowErr.Bad code) → StillDue reading.old reading.new }
+    ensures unchanged { OnErr result (reading.new ≡ reading.old) }
 {
     match grant_of(&reading.resources, &reading.tasks, fields) {
         Ok(told) => match reading.grant(told.seat, told.set) {
@@ -121,6 +128,7 @@ fn take_ledger(reading: &mut Reading, fields: &ByteRecord) -> Result<(), RowErr>
     ensures taken { OnOk result (TakesRow reading.old reading.new (fields_of fields.now) Taken.Other) }
     ensures bad { (code : Code) → result ≡ Err (RowErr.Bad code) → RefusesRow reading.old (fields_of fields.now) code }
     ensures still { (code : Code) → result ≡ Err (RowErr.Bad code) → StillDue reading.old reading.new }
+    ensures unchanged { OnErr result (reading.new ≡ reading.old) }
 {
     match ledger_of(&reading.resources, &reading.tasks, fields) {
         Ok((place, ledger)) => match reading.leave(place, ledger) {
@@ -138,6 +146,7 @@ fn take_group(reading: &mut Reading, alloc: Global, fields: &ByteRecord) -> Resu
     ensures taken { OnOk result (TakesRow reading.old reading.new (fields_of fields.now) Taken.Other) }
     ensures bad { (code : Code) → result ≡ Err (RowErr.Bad code) → RefusesRow reading.old (fields_of fields.now) code }
     ensures still { (code : Code) → result ≡ Err (RowErr.Bad code) → StillDue reading.old reading.new }
+    ensures unchanged { OnErr result (reading.new ≡ reading.old) }
 {
     if has_all_groups(reading) {
         return Err(RowErr::Bad(Code::BadField));
@@ -157,6 +166,7 @@ fn take_version(reading: &mut Reading, fields: &ByteRecord) -> Result<(), RowErr
     ensures taken { OnOk result (TakesRow reading.old reading.new (fields_of fields.now) Taken.Other) }
     ensures bad { (code : Code) → result ≡ Err (RowErr.Bad code) → RefusesRow reading.old (fields_of fields.now) code }
     ensures still { (code : Code) → result ≡ Err (RowErr.Bad code) → StillDue reading.old reading.new }
+    ensures unchanged { OnErr result (reading.new ≡ reading.old) }
 {
     match reading.open() {
         Ok(()) => Ok(()),
@@ -170,6 +180,8 @@ fn take_resource(reading: &mut Reading, fields: &ByteRecord) -> Result<(), RowEr
     ensures taken { OnOk result (TakesRow reading.old reading.new (fields_of fields.now) Taken.Other) }
     ensures bad { (code : Code) → result ≡ Err (RowErr.Bad code) → RefusesRow reading.old (fields_of fields.now) code }
     ensures still { (code : Code) → result ≡ Err (RowErr.Bad code) → StillDue reading.old reading.new }
+    ensures names { (code : Code) → result ≡ Err (RowErr.Bad code) → NamesStay reading.old reading.new (fields_of fields.now) }
+    ensures memory { result ≡ Err RowErr.Memory → IsAsBefore reading.old reading.new }
 {
     match reading.resource(field_of(fields, 1)) {
         Ok(()) => Ok(()),
@@ -183,6 +195,8 @@ fn take_task(reading: &mut Reading, alloc: Global, fields: &ByteRecord) -> Resul
     ensures taken { OnOk result (TakesRow reading.old reading.new (fields_of fields.now) Taken.Other) }
     ensures bad { (code : Code) → result ≡ Err (RowErr.Bad code) → RefusesRow reading.old (fields_of fields.now) code }
     ensures still { (code : Code) → result ≡ Err (RowErr.Bad code) → StillDue reading.old reading.new }
+    ensures names { (code : Code) → result ≡ Err (RowErr.Bad code) → NamesStay reading.old reading.new (fields_of fields.now) }
+    ensures memory { result ≡ Err RowErr.Memory → reading.new ≡ reading.old }
 {
     match reading.task(alloc, field_of(fields, 1)) {
         Ok(()) => Ok(()),
@@ -196,6 +210,7 @@ fn take_cap(reading: &mut Reading, fields: &ByteRecord) -> Result<(), RowErr>
     ensures taken { OnOk result (TakesRow reading.old reading.new (fields_of fields.now) Taken.Other) }
     ensures bad { (code : Code) → result ≡ Err (RowErr.Bad code) → RefusesRow reading.old (fields_of fields.now) code }
     ensures still { (code : Code) → result ≡ Err (RowErr.Bad code) → StillDue reading.old reading.new }
+    ensures unchanged { OnErr result (reading.new ≡ reading.old) }
 {
     match cap_of(field_of(fields, 1)) {
         Some(cap) => match reading.limit(cap) {
@@ -212,6 +227,7 @@ fn take_end(reading: &mut Reading, fields: &ByteRecord) -> Result<(), RowErr>
     ensures taken { OnOk result (TakesRow reading.old reading.new (fields_of fields.now) Taken.Other) }
     ensures bad { (code : Code) → result ≡ Err (RowErr.Bad code) → RefusesRow reading.old (fields_of fields.now) code }
     ensures still { (code : Code) → result ≡ Err (RowErr.Bad code) → StillDue reading.old reading.new }
+    ensures unchanged { OnErr result (reading.new ≡ reading.old) }
 {
     match reading.end() {
         Ok(()) => Ok(()),

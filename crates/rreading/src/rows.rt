@@ -6,8 +6,8 @@ ghost use Rattle.rforms.specs.Lines.{Happens};
 ghost use Rattle.rforms.specs.Words.{word_in};
 ghost use Rattle.rforms.specs.declared.fault.Code.{Code};
 ghost use Rattle.rrecords.specs.Told.{IsOf, Says, IsWrong, names_by, is_event, is_act};
-ghost use Rattle.rreading.specs.Takes.{TakesRow, RefusesRow, TellsBound, IsKept};
-ghost use Rattle.rlines.specs.Takes.{StillDue, IsReady};
+ghost use Rattle.rreading.specs.Takes.{TakesRow, RefusesRow, TellsBound, NamesStay, IsKept};
+ghost use Rattle.rlines.specs.Takes.{StillDue, IsReady, IsAsBefore};
 
 use crate::plain::take_plain;
 use crate::taken::{BoundTold, Taken};
@@ -23,7 +23,8 @@ use std::alloc::Global;
 /// # Errors
 ///
 /// The first thing that is wrong with it, or want of memory: that may come in the head, and at the first event. Nothing
-/// is said then of `taken`. Where a record is wrong, what was due is due still.
+/// is said then of `taken`. Where a record is wrong, what was due is due still, and no name but its own was declared. Where
+/// memory is wanting, nothing changes in the reader but the room for ledgers.
 pub fn take(
     reading: &mut Reading,
     alloc: Global,
@@ -35,6 +36,8 @@ pub fn take(
     ensures bound { OnOk result (TellsBound reading.old (fields_of fields.now) taken.new) }
     ensures bad { (code : Code) → result ≡ Err (RowErr.Bad code) → RefusesRow reading.old (fields_of fields.now) code }
     ensures still { (code : Code) → result ≡ Err (RowErr.Bad code) → StillDue reading.old reading.new }
+    ensures names { (code : Code) → result ≡ Err (RowErr.Bad code) → NamesStay reading.old reading.new (fields_of fields.now) }
+    ensures memory { result ≡ Err RowErr.Memory → IsAsBefore reading.old reading.new }
 {
     let Some(word) = word_in(reading.whole, fields) else {
         return Err(RowErr::Bad(Code::BadField));
@@ -75,6 +78,8 @@ fn take_event(
     ensures bound { OnOk result (TellsBound reading.old (fields_of fields.now) taken.new) }
     ensures bad { (code : Code) → result ≡ Err (RowErr.Bad code) → RefusesRow reading.old (fields_of fields.now) code }
     ensures still { (code : Code) → result ≡ Err (RowErr.Bad code) → StillDue reading.old reading.new }
+    ensures names { (code : Code) → result ≡ Err (RowErr.Bad code) → (reading.new.resources ≡ reading.old.resources) × (reading.new.tasks ≡ reading.old.tasks) }
+    ensures memory { result ≡ Err RowErr.Memory → reading.new ≡ reading.old }
 {
     let refused = match keep_event(reading, word, fields, taken) {
         Ok(refused) => refused,
@@ -140,6 +145,7 @@ fn take_act(
     ensures bound { OnOk result (TellsBound reading.old (fields_of fields.now) taken.new) }
     ensures bad { (code : Code) → result ≡ Err (RowErr.Bad code) → RefusesRow reading.old (fields_of fields.now) code }
     ensures still { (code : Code) → result ≡ Err (RowErr.Bad code) → StillDue reading.old reading.new }
+    ensures unchanged { OnErr result (reading.new ≡ reading.old) }
 {
     match act_of(&reading.resources, &reading.tasks, word, fields) {
         Ok(act) => match reading.act(&act) {
@@ -165,6 +171,7 @@ fn take_wait(
     ensures bound { OnOk result (TellsBound reading.old (fields_of fields.now) taken.new) }
     ensures bad { (code : Code) → result ≡ Err (RowErr.Bad code) → RefusesRow reading.old (fields_of fields.now) code }
     ensures still { (code : Code) → result ≡ Err (RowErr.Bad code) → StillDue reading.old reading.new }
+    ensures unchanged { OnErr result (reading.new ≡ reading.old) }
 {
     match wait_of(&reading.resources, &reading.tasks, stage, fields) {
         Ok(told) => match reading.wait(&told) {

@@ -1,0 +1,20 @@
+-- The names behind a refused record that declares one.
+use Rattle.std.proofs.Common.{◌≡◌, ℕ, List, Option, Some, sym, ap, subst}
+use Rattle.rforms.specs.Decided.{field_of}
+use Rattle.rforms.specs.Records.{Row}
+use Rattle.rforms.specs.Words.{word_in}
+use Rattle.rforms.specs.declared.word.Word.{Word}
+use Rattle.rforms.specs.declared.word.Word.TheVariants as word
+use Rattle.rlines.specs.declared.reading.Reading.{Reading}
+use Rattle.rlines.specs.Takes.{IsAsBefore, MayStand}
+use Rattle.rreading.specs.Takes.{NamesBehind, NamesStay}
+
+pub resource_names : (old new : Reading) (row : Row) (name : List ℕ) → word_in old.whole row ≡ Some word.Resource → name ≡ field_of row 1
+    → IsAsBefore (record old { resources = new.resources }) new × MayStand old.resources new.resources name → NamesStay old new row
+resource_names old new row name is at h =
+    subst (λ (o : Option Word). NamesBehind o old new row) (sym is) (subst (λ n. MayStand old.resources new.resources n) at h.1, ap (λ (r : Reading). r.tasks) h.0.0)
+
+pub task_names : (old new : Reading) (row : Row) (name : List ℕ) → word_in old.whole row ≡ Some word.Task → name ≡ field_of row 1
+    → (new ≡ record old { tasks = new.tasks }) × MayStand old.tasks new.tasks name → NamesStay old new row
+task_names old new row name is at h =
+    subst (λ (o : Option Word). NamesBehind o old new row) (sym is) (ap (λ (r : Reading). r.resources) h.0, subst (λ n. MayStand old.tasks new.tasks n) at h.1)
