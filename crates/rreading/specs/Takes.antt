@@ -1,5 +1,5 @@
 -- What it is to take a record, and to tell what is wrong with it.
-use Rattle.std.specs.Prelude.{◌≡◌, Bool, ◌∷◌, Option, Some, None, IsSome, option_map}
+use Rattle.std.specs.Prelude.{◌≡◌, ◌⊎◌, ℕ, Bool, List, ◌∷◌, Option, Some, None, IsSome, option_map}
 use Rattle.rclaim.specs.declared.event.Event.{Event}
 use Rattle.rclaim.specs.declared.request.RequestErr.{RequestErr}
 use Rattle.rforms.specs.Records.{Row}
@@ -45,6 +45,11 @@ NamesBehind _ old new row = (new.resources ≡ old.resources) × (new.tasks ≡ 
 -- a refused record declares no name but its own: so one of an event, of an act or of a group, and one that is none of any word, declares nothing
 abbrev pub NamesStay : Reading → Reading → Row → Type 0
 NamesStay old new row = NamesBehind (word_in old.whole row) old new row
+
+-- at most one name came in, in one of the two tables
+abbrev pub OneMoreAtMost : Reading → Reading → Type 0
+OneMoreAtMost old new =
+    (name : List ℕ) × ((MayStand old.resources new.resources name × (new.tasks ≡ old.tasks)) ⊎ ((new.resources ≡ old.resources) × MayStand old.tasks new.tasks name))
 
 -- the bound that what was taken tells, if it tells a wait
 abbrev pub bound_of : Taken → Option Numbers

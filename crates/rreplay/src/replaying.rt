@@ -22,7 +22,7 @@ ghost use Rattle.rcover.specs.declared.wait_end.WaitEnd.{WaitEnd};
 ghost use Rattle.rwaits.specs.Past.{Past, start_of, with_event, begun};
 ghost use Rattle.rlines.specs.Knows.{changes_in};
 ghost use Rattle.rlines.specs.Takes.{StillDue};
-ghost use Rattle.rreading.specs.Takes.{Adds};
+ghost use Rattle.rreading.specs.Takes.{Adds, NamesStay};
 ghost use Rattle.rreplay.specs.Followed.{AreFollowed, IsTold};
 ghost use Rattle.rreplay.specs.Names.{names_read};
 ghost use Rattle.rreplay.specs.Parts.{ArePartsOf};
@@ -93,7 +93,8 @@ impl Replaying {
     /// # Errors
     ///
     /// The first code of the record, or want of memory. The record has told nothing then. Where it is wrong, what was due to
-    /// the reader is due still, and the text and what tells events are as they were.
+    /// the reader is due still, it knows no name more but the record's own, and the text and what tells events are as they
+    /// were.
     pub fn take_record(&mut self, fields: &ByteRecord) -> Result<(), RowErr>
         requires { (s : SoFar) × KnowsReplay self.old s × (length (entries_in s) < 2 ^ 62) }
         ensures taken { OnOk result ((s : SoFar) → KnowsReplay self.old s → (code_of false s (fields_of fields.now) ≡ None) × KnowsReplay self.new (with_row false s (fields_of fields.now))) }
@@ -101,6 +102,7 @@ impl Replaying {
         ensures bad { (code : Code) → result ≡ Err (RowErr.Bad code) → (s : SoFar) → KnowsReplay self.old s → code_of false s (fields_of fields.now) ≡ Some code }
         ensures still { (code : Code) → result ≡ Err (RowErr.Bad code)
             → (self.new ≡ record self.old { reading = self.new.reading; taken = self.new.taken }) × StillDue self.old.reading self.new.reading }
+        ensures names { (code : Code) → result ≡ Err (RowErr.Bad code) → NamesStay self.old.reading self.new.reading (fields_of fields.now) }
         ensures untaken { OnErr result (self.new.taken ≡ Taken.Other) }
     {
         if let Err(e) = take(&mut self.reading, self.alloc, fields, &mut self.taken) {
@@ -261,6 +263,7 @@ impl Records for Replaying {
     ghost use Rattle.rforms.specs.Takers.{list_code, is_list_done, KnowsSaid};
     ghost use Rattle.rforms.specs.declared.fault.Code.TheVariants.{NoEnd};
     ghost use Rattle.rlines.specs.Takes.{StillDue};
+    ghost use Rattle.rreading.specs.Takes.{OneMoreAtMost};
     ghost use Rattle.rreplay.specs.Replaying.{KnowsReplay};
 
     type Code = Code;
@@ -273,7 +276,7 @@ impl Records for Replaying {
 
     ghost knows = { KnowsSaid false KnowsReplay };
 
-    ghost stays = { λ was taker. StillDue was.reading taker.reading };
+    ghost stays = { λ was taker. StillDue was.reading taker.reading × OneMoreAtMost was.reading taker.reading };
 
     fn take(&mut self, fields: &ByteRecord) -> Result<(), RowErr> {
         self.take_record(fields)

@@ -12,6 +12,7 @@ use Rattle.rreport.specs.Report.{ReportFields}
 use Rattle.rtrace.specs.declared.collect.Collecting.{Collecting}
 use Rattle.rtrace.specs.declared.lists.ReportTaker.{ReportTaker}
 use Rattle.rtrace.specs.declared.count.Counting.{Counting}
+use Rattle.rreading.specs.Takes.{OneMoreAtMost}
 use Rattle.rreading.specs.declared.taken.Taken.{Taken}
 use Rattle.rreading.specs.declared.taken.Taken.TheVariants as taken
 
@@ -59,9 +60,10 @@ pub record KnowsCount (taker : Counting) (rows : List Row) : Type 0 where
   pub events : taker.events ≡ length (entries_in (read_all true rows))
   pub waits : taker.waits ≡ waits_told rows
 
--- a record was refused: what was due to the reader is due still, and what was counted and kept of bounds is as it was
+-- a record was refused: what was due to the reader is due still, it knows at most one name more, and what was counted and kept of bounds is as it was
 abbrev pub CountStays : Counting → Counting → Type 0
-CountStays was taker = StillDue was.reading taker.reading × (taker.bounds ≡ was.bounds) × (taker.events ≡ was.events) × (taker.waits ≡ was.waits)
+CountStays was taker =
+    StillDue was.reading taker.reading × OneMoreAtMost was.reading taker.reading × (taker.bounds ≡ was.bounds) × (taker.events ≡ was.events) × (taker.waits ≡ was.waits)
 
 -- a report is made of what is kept, the latest entry being kept too
 pub record IsFinished (taker : Collecting) (r : ReportFields) : Type 0 where

@@ -100,3 +100,6 @@ returns-in-Wait-clause-told c = λ s k. (c.in_default.ensures.taken false s k.re
 
 pub returns-in-Other-clause-told : goal.returns-in-Other-clause-told
 returns-in-Other-clause-told c = λ s k. (c.in_default.ensures.taken false s k.reading).2
+
+pub returns-in-Err-clause-names : goal.returns-in-Err-clause-names
+returns-in-Err-clause-names c = λ code e. c.in-Err.ensures.names code (ap Err (one_err e))

@@ -1,6 +1,8 @@
 use Rattle.std.proofs.Common.{false, arith}
+use Rattle.csv.specs.Records.{fields_of}
 use Rattle.rforms.specs.Faults.{read_all}
 use Rattle.rforms.proofs.texts.Lists.{entries_few}
+use Rattle.rreading.proofs.Names.{one_more}
 use Rattle.rreplay.proofs.replaying.ReplayingRecords.take.Goals as goal
 
 pub take_record-requires : goal.take_record-requires
@@ -14,4 +16,5 @@ pub returns-clause-bad : goal.returns-clause-bad
 returns-clause-bad c = λ cause e rows k. c.take_record.ensures.bad cause e (read_all false rows) k
 
 pub returns-clause-still : goal.returns-clause-still
-returns-clause-still c = λ cause e. (c.take_record.ensures.still cause e).1
+returns-clause-still c = λ cause e.
+    ((c.take_record.ensures.still cause e).1, one_more c.args.self.now.reading c.take_record.new.self.reading (fields_of c.args.fields.now) (c.take_record.ensures.names cause e))

@@ -2,6 +2,7 @@ use Rattle.std.proofs.Common.{◌+◌, true, refl, arith}
 use Rattle.csv.specs.Records.{fields_of}
 use Rattle.rforms.specs.Faults.{read_all}
 use Rattle.rforms.proofs.texts.Lists.{entries_few}
+use Rattle.rreading.proofs.Names.{one_more}
 use Rattle.rreading.proofs.Results.{same_err}
 use Rattle.rtrace.proofs.BoundSteps.{count_on, waits_few}
 use Rattle.rtrace.proofs.count.CountingRecords.take.Goals as goal
@@ -51,4 +52,10 @@ returns-clause-taken c = λ rows h.
     rows row c.take.new.taken h c.in_default.ensures.taken c.in_default.ensures.bound bounds (omega (arith, e)) (omega (arith, n))
 
 pub returns-in-Err-clause-still : goal.returns-in-Err-clause-still
-returns-in-Err-clause-still c = λ cause is. (c.in-Err.ensures.still cause (same_err is), refl, refl, refl)
+returns-in-Err-clause-still c = λ cause is. (
+  c.in-Err.ensures.still cause (same_err is),
+  one_more c.args.self.now.reading c.take.new.reading (fields_of c.args.fields.now) (c.in-Err.ensures.names cause (same_err is)),
+  refl,
+  refl,
+  refl,
+)
