@@ -1,11 +1,14 @@
 //! Threads that make sections at one runtime.
-ghost use Rattle.std.specs.Prelude.{◌≡◌, ℕ, ◌<◌, ◌≤◌, [], length, All, IsTrue, IsSomeAnd, IfOk, slice_index_or};
+ghost use Rattle.std.specs.Prelude.{◌≡◌, ℕ, ◌%◌, ◌^◌, ◌<◌, ◌≤◌, length, map, sum_by, All, IsTrue, IsSomeAnd, IfOk, IfSome, slice_index_or};
+ghost use Rattle.std.specs.Arc.{arc_value};
 ghost use Rattle.rset.specs.declared.TheConstants.{SEATS, RESOURCES};
+ghost use Rattle.rset.specs.Sets.{rising};
 ghost use Rattle.rexpand.specs.Groups.{no_groups};
 ghost use Rattle.rguard.specs.Seats.{SeatOf};
 ghost use Rattle.rvalue.specs.declared.ledger.Ledger.{Ledger};
 ghost use Rattle.rvalue.specs.declared.ledger.Edit.{Edit};
 ghost use Rattle.rguard.specs.Resting.{Rests};
+ghost use Rattle.bench_sections.specs.Measure.{records_from, first_record, ones_asked, IsNew, HasMade, HasRun, HasMadeAll, IsSumLeft};
 
 use crate::section::add_in;
 use crate::words::Asked;
@@ -18,7 +21,7 @@ use rset::{RESOURCES, ResourceSet};
 use rstate::State;
 use rvalue::Ledger;
 use std::alloc::{AllocError, Global};
-use std::sync::Wait;
+use std::sync::{Arc, Wait};
 use std::thread;
 use std::thread::Threads;
 
@@ -32,7 +35,7 @@ struct Job<S: Kept> {
 
 type Task<M> = Job<State<Ledger, M>>;
 
-// A runtime over a ledger for each resource, and its seats.
+// A runtime over a ledger for each resource, and its seats, none of which has done anything.
 fn opened(
     alloc: Global,
     seats: u8,
@@ -41,6 +44,7 @@ fn opened(
     requires few { seats ≤ SEATS }
     ensures count { IfOk result (λ r. r.0.passes ≡ seats) }
     ensures seats { IfOk result (λ r. All (Rests (no_groups RESOURCES) r.0) r.1.items) }
+    ensures new { IfOk result (λ r. All IsNew r.1.items) }
 {
     let groups = Groups::new(alloc, RESOURCES as u8)?;
     let machine = Plain::new(alloc, groups, seats, seats)?;
@@ -50,10 +54,12 @@ fn opened(
 }
 
 // So many resources from this one on, as far as there are any.
-fn resources_from(first: u64, count: u8) -> ResourceSet {
+fn resources_from(first: u32, count: u8) -> ResourceSet
+    ensures { rising result ≡ records_from first count }
+{
     let mut set = ResourceSet::empty();
     for k in 0..count {
-        let l = first.wrapping_add(u64::from(k));
+        let l = u64::from(first) + u64::from(k);
         if l < u64::from(RESOURCES) {
             set = set.with(l as u8);
         }
@@ -66,15 +72,15 @@ fn run_job<R: Wait, M: Machine>(
     rt: &R,
     alloc: Global,
     lock: &Rnlp<Ledger, M>,
-    sections: u32,
+    asked: &Asked,
     job: &mut Task<M>,
 )
-    requires { IsSomeAnd job.old.seat (Rests (no_groups RESOURCES) lock.now) }
-    ensures { IsSomeAnd job.new.seat (Rests (no_groups RESOURCES) lock.now) }
+    requires { IsSomeAnd job.old.seat (HasMade asked.now lock.now job.old.set 0) }
+    ensures { IsSomeAnd job.new.seat (HasRun asked.now lock.now job.new.done) }
 {
     let mut seat = job.seat.take().unwrap();
     let mut done = true;
-    for _ in 0..sections {
+    for _made in 0..asked.sections {
         let (next, added) = add_in(rt, alloc, lock, seat, job.set);
         seat = next;
         done = done && added;
@@ -88,11 +94,11 @@ fn run_all<R: Threads + Wait + Sync, M: Machine>(
     rt: &R,
     alloc: Global,
     lock: &Rnlp<Ledger, M>,
-    sections: u32,
+    asked: &Asked,
     mut jobs: Vec<Task<M>>,
 ) -> Vec<Task<M>>
-    requires { All (λ j. IsSomeAnd j.seat (Rests (no_groups RESOURCES) lock.now)) jobs.items }
-    ensures { All (λ j. IsSomeAnd j.seat (Rests (no_groups RESOURCES) lock.now)) result.items }
+    requires { All (λ j. IsSomeAnd j.seat (HasMade asked.now lock.now j.set 0)) jobs.items }
+    ensures { All (λ j. IsSomeAnd j.seat (HasRun asked.now lock.now j.done)) result.items }
 {
     if jobs.is_empty() {
         return jobs;
@@ -103,31 +109,39 @@ fn run_all<R: Threads + Wait + Sync, M: Machine>(
         jobs.as_mut_slice(),
         threads,
         &|_task: usize, job: &mut Task<M>|
-            requires { IsSomeAnd job.now.seat (Rests (no_groups RESOURCES) lock.now) }
-            ensures { IsSomeAnd job.exit.now.seat (Rests (no_groups RESOURCES) lock.entry.now) }
-        { run_job(rt, alloc, lock, sections, job) },
+            requires { IsSomeAnd job.now.seat (HasMade asked.now lock.now job.now.set 0) }
+            ensures { IsSomeAnd job.exit.now.seat (HasRun asked.entry.now lock.entry.now job.exit.now.done) }
+        { run_job(rt, alloc, lock, asked, job) },
     );
     jobs
 }
 
-// What each thread is to do.
+// The first record of a thread.
+fn first_of(asked: &Asked, thread: u8) -> u32
+    ensures { result ≡ first_record asked.now thread }
+{
+    if asked.apart {
+        u32::from(thread) * u32::from(asked.resources)
+    } else {
+        0
+    }
+}
+
+// What each thread is to do. Its seat has made no section yet.
 fn jobs_for<M: Machine>(
     alloc: Global,
     lock: &Rnlp<Ledger, M>,
     seats: Vec<Seat<Ledger, M>>,
     asked: &Asked,
 ) -> Result<Vec<Task<M>>, AllocError>
-    requires { All (Rests (no_groups RESOURCES) lock.now) seats.items }
-    ensures { IfOk result (λ v. All (λ j. IsSomeAnd j.seat (Rests (no_groups RESOURCES) lock.now)) v.items) }
+    requires rest { All (Rests (no_groups RESOURCES) lock.now) seats.items }
+    requires new { All IsNew seats.items }
+    ensures { IfOk result (λ v. All (λ j. IsSomeAnd j.seat (HasMade asked.now lock.now j.set 0)) v.items) }
 {
     let _ = lock;
     let mut jobs = Vec::new(alloc);
     for seat in seats {
-        let first = if asked.apart {
-            u64::from(seat.number()) * u64::from(asked.resources)
-        } else {
-            0
-        };
+        let first = first_of(asked, seat.number());
         jobs.push(Job {
             seat: Some(seat),
             set: resources_from(first, asked.resources),
@@ -138,7 +152,9 @@ fn jobs_for<M: Machine>(
 }
 
 // Whether all sections of all threads did all.
-fn are_done<M: Machine>(jobs: &[Task<M>]) -> bool {
+fn are_done<M: Machine>(jobs: &[Task<M>]) -> bool
+    ensures { IsTrue result → All (λ j. IsTrue j.done) jobs.now }
+{
     for job in jobs {
         if !job.done {
             return false;
@@ -147,16 +163,18 @@ fn are_done<M: Machine>(jobs: &[Task<M>]) -> bool {
     true
 }
 
-// The seats of the threads.
+// The seats of the threads, each of which made all of its sections.
 fn seats_of(
     alloc: Global,
     lock: &Rnlp<Ledger, Plain>,
+    asked: &Asked,
     jobs: Vec<Task<Plain>>,
 ) -> Result<Vec<Seat<Ledger, Plain>>, AllocError>
-    requires { All (λ j. IsSomeAnd j.seat (Rests (no_groups RESOURCES) lock.now)) jobs.items }
-    ensures { IfOk result (λ v. All (Rests (no_groups RESOURCES) lock.now) v.items) }
+    requires { All (λ j. IsSomeAnd j.seat (HasMadeAll asked.now lock.now)) jobs.items }
+    ensures { IfOk result (λ v. All (HasMadeAll asked.now lock.now) v.items) }
 {
     let _ = lock;
+    let _ = asked;
     let mut seats = Vec::new(alloc);
     for job in jobs {
         if let Some(seat) = job.seat {
@@ -178,7 +196,18 @@ fn are_in_order<M: Machine>(seats: &[Seat<Ledger, M>]) -> bool
     true
 }
 
-// Closes the runtime, and adds up what is in the ledgers. None if a seat is not there.
+// What is in these ledgers together, as sums of 64 bits go.
+fn sum_of(ledgers: &[Arc<Ledger, Global>]) -> u64
+    ensures { result ≡ sum_by (λ ledger. ledger.balance) (map arc_value ledgers.now) % 2 ^ 64 }
+{
+    let mut sum = 0u64;
+    for ledger in ledgers {
+        sum = sum.wrapping_add(ledger.balance);
+    }
+    sum
+}
+
+// Closes the runtime: what is in all ledgers together. None if a seat is not there.
 fn sum_left<M: Machine>(
     lock: Rnlp<Ledger, M>,
     seats: Vec<Seat<Ledger, M>>,
@@ -186,6 +215,7 @@ fn sum_left<M: Machine>(
 ) -> Option<u64>
     requires rest { All (Rests (no_groups RESOURCES) lock) seats.items }
     requires count { lock.passes ≡ count }
+    ensures { IfSome result (IsSumLeft seats.items count) }
 {
     if seats.len() != usize::from(count) {
         return None;
@@ -194,22 +224,24 @@ fn sum_left<M: Machine>(
         return None;
     }
     let (_, values, _) = lock.close(seats);
-    let mut sum = 0u64;
-    for value in &values {
-        sum = sum.wrapping_add(value.balance);
-    }
-    Some(sum)
+    Some(sum_of(values.as_slice()))
 }
 
-/// What is in all ledgers once each thread has made its sections. None if a section found no memory.
+/// What is in all ledgers together once each thread has made its sections: just the 1s that they were asked to add. None if a section was
+/// not done, or if there was no memory.
 pub fn measured<R: Threads + Wait + Sync>(rt: &R, alloc: Global, asked: &Asked) -> Option<u64>
     requires some { 0 < asked.now.threads }
     requires few { asked.now.threads ≤ SEATS }
+    ensures { IfSome result (λ sum. sum ≡ ones_asked asked.now) }
 {
+    // Read here, since the sum is to be known to fit 64 bits.
+    let _sections = asked.sections;
     let (lock, seats) = opened(alloc, asked.threads).ok()?;
     let jobs = jobs_for(alloc, &lock, seats, asked).ok()?;
-    let jobs = run_all(rt, alloc, &lock, asked.sections, jobs);
-    let done = are_done(jobs.as_slice());
-    let seats = seats_of(alloc, &lock, jobs).ok()?;
-    sum_left(lock, seats, asked.threads).filter(|_| done)
+    let jobs = run_all(rt, alloc, &lock, asked, jobs);
+    if !are_done(jobs.as_slice()) {
+        return None;
+    }
+    let seats = seats_of(alloc, &lock, asked, jobs).ok()?;
+    sum_left(lock, seats, asked.threads)
 }

@@ -13,7 +13,7 @@ use rvalue::{Edit, Ledger};
 use std::alloc::Global;
 use std::sync::Wait;
 
-// A guard to write these resources; or the seat, where there was no memory.
+// A guard to write these resources; or the seat, where there was no memory or the set is empty.
 fn to_write<'a, R: Wait, M: Machine>(
     rt: &R,
     alloc: Global,

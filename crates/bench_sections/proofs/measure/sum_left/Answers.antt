@@ -1,16 +1,24 @@
-use Rattle.std.proofs.Common.{rules, ◌≡◌, ◌<◌, List, length, get_or, true, None, [], sym, ap, ◌∙◌, subst}
-use Rattle.std.proofs.lemmas.List.{get_or_default}
-use Rattle.rguard.specs.Seats.{SeatOf}
+use Rattle.std.proofs.Common.{rules, ◌≡◌, ◌%◌, ◌^◌, map, length, true, ◌∙◌}
+use Rattle.std.specs.Arc.{arc_value}
+use Rattle.std.specs.Prelude.{sum_by}
 use Rattle.rvalue.specs.declared.ledger.Ledger.{Ledger}
-use Rattle.rvalue.specs.declared.ledger.Edit.{Edit}
+use Rattle.bench_sections.proofs.Seats.{each_numbered}
 use Rattle.bench_sections.proofs.measure.sum_left.Goals as goal
 
 pub close-values-requires-clause-all : goal.close-values-requires-clause-all
-close-values-requires-clause-all g c κs within = λ n low. let d : SeatOf Ledger Edit = record { gate = c.args.lock.gate; number = 0; opening = None; seen = []; mine = []; last = None; turns = 0 } in let seats = c.args.seats.items in let same = c.as_slice.ensures.value in
-    let inside : n < length seats = search rules in let yes : c.are_in_order.result ≡ true = search rules in (
-      n,
-      get_or seats n d,
-      inside,
-      get_or_default seats n (get_or seats n d) d inside,
-      ap (λ (l : List (SeatOf Ledger Edit)). (get_or l n d).number) (sym same) ∙ c.are_in_order.ensures yes n d (subst (λ (l : List (SeatOf Ledger Edit)). n < length l) (sym same) inside),
-    )
+close-values-requires-clause-all g c κs within =
+    let all : length c.args.seats.items ≡ c.args.lock.passes = search rules in
+    let yes : c.are_in_order.result ≡ true = search rules in
+    each_numbered c.args.lock.gate c.args.seats.items c.as_slice.result.now c.args.lock.passes c.as_slice.ensures.value all (c.are_in_order.ensures yes)
+
+pub returns : goal.returns
+returns g c =
+    let all : length c.args.seats.items ≡ c.args.count = search rules in
+    let yes : c.are_in_order.result ≡ true = search rules in
+    record {
+      entries = c.close-values.result.0.entries;
+      values = map arc_value c.close-values.result.1.items;
+      all = each_numbered c.args.lock.gate c.args.seats.items c.as_slice.result.now c.args.count c.as_slice.ensures.value all (c.are_in_order.ensures yes);
+      closed = c.close-values.ensures.seats;
+      total = c.sum_of.ensures ∙ (λ i. sum_by (λ (ledger : Ledger). ledger.balance) (map arc_value (c.as_slice-2.ensures.value i)) % 2 ^ 64);
+    }

@@ -1,0 +1,66 @@
+-- What the threads are asked to do, what their seats have done, and what is left in the ledgers.
+use Rattle.std.specs.Prelude.{◌≡◌, ℕ, ◌-◌, ◌*◌, ◌%◌, ◌^◌, ◌<◌, min, Bool, IsTrue, if◌then◌else◌, List, [], replicate, sum_by, All, Any}
+use Rattle.std.specs.List.{range_with_len}
+use Rattle.rset.specs.declared.TheConstants.{RESOURCES}
+use Rattle.rset.specs.Sets.{Set, rising}
+use Rattle.rexpand.specs.Groups.{no_groups}
+use Rattle.rlock.specs.Known.{Site}
+use Rattle.rvalue.specs.declared.ledger.Ledger.{Ledger}
+use Rattle.rvalue.specs.declared.ledger.Edit.{Edit}
+use Rattle.rvalue.specs.Ledgers.{opening_ledger, is_taken, value_after}
+use Rattle.rvalue.specs.Entries.{EntryFields}
+use Rattle.ropening.specs.Closing.{IsClosedBy}
+use Rattle.rguard.specs.Seats.{SeatOf}
+use Rattle.rguard.specs.Guards.{AsSeen}
+use Rattle.rguard.specs.Resting.{Rests}
+use Rattle.bench_sections.specs.Sections.{write_of, one_added, sections_of}
+use Rattle.bench_sections.specs.declared.words.Asked.{Asked}
+
+-- the numbers of the records from this one on: so many, as far as there are any
+abbrev pub records_from : ℕ → ℕ → List ℕ
+records_from first count = range_with_len first (min count (RESOURCES - first))
+
+-- the first record of the thread: the first of all, or, where the threads are apart, the one behind those of the threads before it
+abbrev pub first_record : Asked → ℕ → ℕ
+first_record asked n = if asked.apart then n * asked.resources else 0
+
+-- how many records the thread has: as many as are asked for, as far as there are any
+abbrev pub record_count : Asked → ℕ → ℕ
+record_count asked n = min asked.resources (RESOURCES - first_record asked n)
+
+-- how many 1s the sections add that are asked for: for each thread, the number of its sections times the number of its records
+abbrev pub ones_asked : Asked → ℕ
+ones_asked asked = sum_by (λ n. asked.sections * record_count asked n) (range_with_len 0 asked.threads)
+
+-- the lock of the seat began with an opening ledger for each resource
+abbrev pub OpensWithLedgers : SeatOf Ledger Edit → Type 0
+OpensWithLedgers seat = AsSeen seat (λ b. b.values ≡ replicate RESOURCES opening_ledger)
+
+-- and the seat has done nothing yet
+abbrev pub IsNew : SeatOf Ledger Edit → Type 0
+IsNew seat = (seat.mine ≡ []) × OpensWithLedgers seat
+
+-- a seat at rest that has made so many whole sections and nothing else, each of which added 1 to each of the records of its thread, the members of this set
+pub record HasMade (asked : Asked) (site : Site) (set : Set) (count : ℕ) (seat : SeatOf Ledger Edit) : Type 0 where
+  pub rests : Rests (no_groups RESOURCES) site seat
+  pub opens : OpensWithLedgers seat
+  pub records : rising set ≡ records_from (first_record asked seat.number) asked.resources
+  pub made : seat.mine ≡ sections_of seat.number (write_of set) (one_added set) count
+
+-- a seat that has made all sections that are asked for, each of which wrote this set
+pub record HasMadeAll (asked : Asked) (site : Site) (seat : SeatOf Ledger Edit) : Type 0 where
+  pub set : Set
+  pub sections : HasMade asked site set asked.sections seat
+
+-- a seat at rest, which has made all of them where all was done
+pub record HasRun (asked : Asked) (site : Site) (done : Bool) (seat : SeatOf Ledger Edit) : Type 0 where
+  pub rests : Rests (no_groups RESOURCES) site seat
+  pub made : IsTrue done → HasMadeAll asked site seat
+
+-- so much is in all ledgers of a lock that was closed by these seats, numbered below this number, as sums of 64 bits go
+pub record IsSumLeft (seats : List (SeatOf Ledger Edit)) (count sum : ℕ) : Type 0 where
+  pub entries : List (EntryFields Edit)
+  pub values : List Ledger
+  pub all : (n : ℕ) → n < count → Any (λ seat. seat.number ≡ n) seats
+  pub closed : All (λ seat. IsClosedBy value_after is_taken (λ ledger. ledger.balance) entries values seat) seats
+  pub total : sum ≡ sum_by (λ ledger. ledger.balance) values % 2 ^ 64
