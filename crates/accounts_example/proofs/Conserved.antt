@@ -1,31 +1,23 @@
 -- What is left in the four accounts of a runtime that was closed, whose seats have only moved amounts among them.
-use Rattle.std.proofs.Common.{◌≡◌, ℕ, ◌+◌, ◌<◌, ◌==◌, List, [], ◌∷◌, ◌++◌, map, length, take, replicate, Some, refl, sym, ap, subst, ◌∙◌, arith, append-nil, append_assoc}
+use Rattle.std.proofs.Common.{◌≡◌, ℕ, ◌+◌, ◌<◌, ◌==◌, List, [], ◌∷◌, ◌++◌, take, replicate, Some, refl, sym, ap, subst, ◌∙◌, arith, append-nil, append_assoc}
 use Rattle.std.proofs.lemmas.Bool.{eq-eqb}
-use Rattle.std.proofs.lemmas.List.{length-replicate}
 use Rattle.std.proofs.lemmas.List.Sums.{sum_by-cons}
 use Rattle.std.specs.List.{AllByRecursion, sum_by}
-use Rattle.std.specs.Prelude.{slice_get, slice_index_or, All, Any}
-use Rattle.std.proofs.lemmas.Option.{get_or_from_slice_get}
+use Rattle.std.specs.Prelude.{slice_get, All, Any}
 use Rattle.rset.specs.declared.TheConstants.{RESOURCES}
 use Rattle.rset.specs.Sets.{Set}
 use Rattle.rclaim.specs.Events.{seat_of}
-use Rattle.rclaim.specs.declared.event.Event.{Event}
-use Rattle.rclaim.specs.declared.event.Event.TheVariants as events
 use Rattle.rlock.specs.Known.{Site, entries_by}
-use Rattle.rmodel.specs.State.{LockState}
-use Rattle.rmodel.specs.Steps.{Fits}
 use Rattle.rmodel.proofs.ListFacts.{in_filter, all_at, all_from}
-use Rattle.rmodel.proofs.reaching.Histories.{sizes_after}
 use Rattle.rvalue.specs.InTurn.{AllInTurn}
 use Rattle.rvalue.specs.Entries.{EntryFields, is_finish}
 use Rattle.rvalue.specs.Histories.{value_of, EntryAnswersRightly}
-use Rattle.rvalue.specs.Lawful.{AreOpenings}
 use Rattle.rvalue.proofs.ValueLemmas.{value_of-longer}
-use Rattle.rstate.specs.Histories.{Beginning, IsListed, MayFollow, first_of, lock_after}
-use Rattle.rstate.proofs.histories.Following.{event_of, lock_is_after}
-use Rattle.rstate.proofs.homes.Lists.{same_item, get_there, get_replicate}
+use Rattle.rstate.specs.Histories.{Beginning, MayFollow}
+use Rattle.rstate.proofs.homes.Lists.{same_item}
 use Rattle.ropening.specs.Closing.{IsClosedBy, IsLeft}
 use Rattle.rguard.specs.Seats.{SeatOf}
+use Rattle.rguard.proofs.Closed.{each_opens, each_listed, seats_there}
 use Rattle.accounts_example.specs.Accounts.{balance_of, is_taken, account_after}
 use Rattle.accounts_example.specs.Moves.{opened_account, MovesAtMost, HasOnlyMoved}
 use Rattle.accounts_example.specs.declared.account.Account.{Account}
@@ -47,52 +39,16 @@ one_entry earlier entry right what whole =
 
 -- ---- entries of seats
 
-seat_there : (s : LockState) (e : Event) → Fits s e → seat_of e < s.seats
-seat_there s (events.Issue seat r) fits = fits.seat_there
-seat_there s (events.Finish seat) fits = fits
-seat_there s (events.Rise seat) fits = fits
-seat_there s (events.Ask seat part) fits = fits.0
-
 module _ (b : Beginning Account) (values_are : b.values ≡ replicate RESOURCES opened_account) where
-  each_opens : AreOpenings (IsListed b.values) (λ l. opened_account)
-  each_opens l value listed = sym (get_replicate RESOURCES l opened_account value (ap (λ (vs : List Account). slice_get vs l) (sym values_are) ∙ listed))
-
-  pub each_listed : (l : ℕ) → l < RESOURCES → slice_get b.values l ≡ Some opened_account
-  each_listed l less =
-      let there = get_there (replicate RESOURCES opened_account) l (subst (λ n. l < n) (sym (length-replicate RESOURCES opened_account)) less) in
-      ap (λ (vs : List Account). slice_get vs l) values_are ∙ there.1 ∙ ap Some (get_replicate RESOURCES l opened_account there.0 there.1)
-
   -- moves that may follow one another leave the accounts whole
   pub conserved : (earlier entries : List (EntryFields Transfer)) → AllInTurn (MayFollow account_after is_taken (λ (account : Account). account.put_in) b) earlier entries → AllByRecursion MovesAtMost entries
       → AreWhole (accounts_after earlier) → AreWhole (accounts_after (earlier ++ entries))
   conserved earlier [] turns moves whole = subst (λ (es : List (EntryFields Transfer)). AreWhole (accounts_after es)) (sym (append-nil earlier)) whole
   conserved earlier (entry ∷ entries) turns moves whole =
       subst (λ (es : List (EntryFields Transfer)). AreWhole (accounts_after es)) (append_assoc earlier (entry ∷ []) entries)
-      (conserved (earlier ++ entry ∷ []) entries turns.1 moves.1 (one_entry earlier entry (turns.0.answers (λ l. opened_account) each_opens) moves.0 whole))
-
-  -- each entry is of a seat that there is
-  pub seats_there : (earlier entries : List (EntryFields Transfer)) → AllInTurn (MayFollow account_after is_taken (λ (account : Account). account.put_in) b) earlier entries
-      → AllByRecursion (λ (entry : EntryFields Transfer). seat_of entry.event < b.seats) entries
-  seats_there earlier [] turns = tt
-  seats_there earlier (entry ∷ entries) turns = (
-    subst (λ n. seat_of entry.event < n) (ap (λ (s : LockState). s.seats) (lock_is_after b earlier) ∙ (sizes_after (first_of b) (map event_of earlier)).seats) (seat_there (lock_after b earlier) entry.event turns.0.comes.fits),
-    seats_there (earlier ++ entry ∷ []) entries turns.1,
-  )
+      (conserved (earlier ++ entry ∷ []) entries turns.1 moves.1 (one_entry earlier entry (turns.0.answers (λ l. opened_account) (each_opens RESOURCES opened_account b values_are)) moves.0 whole))
 
 -- ---- the end
-
--- seats that are numbered in their order are there for each number
-pub all_there : (seats now : List (SeatOf Account Transfer)) → now ≡ seats → ((k : ℕ) (d : SeatOf Account Transfer) → k < length now → (slice_index_or now k d).number ≡ k) → (n : ℕ) → n < length seats
-    → Any (λ seat. seat.number ≡ n) seats
-all_there seats now same order n inside =
-    let there = get_there seats n inside in
-    let is = get_or_from_slice_get seats n there.0 there.0 there.1 in (
-      n,
-      there.0,
-      inside,
-      is,
-      ap (λ (s : SeatOf Account Transfer). s.number) (sym is) ∙ ap (λ (l : List (SeatOf Account Transfer)). (slice_index_or l n there.0).number) (sym same) ∙ order n there.0 (subst (λ (l : List (SeatOf Account Transfer)). n < length l) (sym same) inside),
-    )
 
 module _ (group : Set) (site : Site) (seats : List (SeatOf Account Transfer)) (rest : All (HasOnlyMoved group site) seats) (all : (n : ℕ) → n < site.passes → Any (λ seat. seat.number ≡ n) seats) (some : 0 < site.passes)
     (entries : List (EntryFields Transfer)) (values : List Account) (closed : All (λ seat. IsClosedBy account_after is_taken (λ (account : Account). account.put_in) entries values seat) seats) where
@@ -133,7 +89,7 @@ module _ (group : Set) (site : Site) (seats : List (SeatOf Account Transfer)) (r
   all_move : AllByRecursion MovesAtMost entries
   all_move = all_from MovesAtMost entries (λ entry there.
       let n = seat_of entry.event in
-      let less : n < began.seats = all_at (λ (e : EntryFields Transfer). seat_of e.event < began.seats) entries entry (seats_there began (first.moving.opens began opening) [] entries left.lawful) there in
+      let less : n < began.seats = all_at (λ (e : EntryFields Transfer). seat_of e.event < began.seats) entries entry (seats_there account_after is_taken (λ (account : Account). account.put_in) began [] entries left.lawful) there in
       all_at MovesAtMost (entries_by (λ (e : EntryFields Transfer). seat_of e.event) n entries) entry (by_seat n (subst (λ m. n < m) first.moving.rests.at.of.all less))
       (in_filter (λ (e : EntryFields Transfer). seat_of e.event == n) entries entry there (eq-eqb n n refl)))
 
@@ -141,7 +97,7 @@ module _ (group : Set) (site : Site) (seats : List (SeatOf Account Transfer)) (r
   whole = conserved began (first.moving.opens began opening) [] entries left.lawful all_move opened_whole
 
   value_at : (l : ℕ) → l < RESOURCES → slice_get values l ≡ Some (accounts_after entries l)
-  value_at l less = left.each l opened_account (each_listed began (first.moving.opens began opening) l less)
+  value_at l less = left.each l opened_account (each_listed RESOURCES opened_account began (first.moving.opens began opening) l less)
 
   -- the first four have 4,000 together
   pub four_together : sum_by balance_of (take 4 values) ≡ 4000

@@ -1,35 +1,22 @@
 -- What is known of a seat goes on with what it does.
-use Rattle.std.proofs.Common.{◌≡◌, ◌<◌, ℕ, Bool, true, false, List, [], ◌∷◌, length, Option, Some, None, replicate, refl, sym, ap, subst, ◌∙◌, inl, inr}
+use Rattle.std.proofs.Common.{◌≡◌, ℕ, Bool, true, false, List, [], ◌∷◌, Option, Some, None, refl, sym, subst, ◌∙◌, inl, inr}
 use Rattle.std.specs.List.{AllByRecursion}
-use Rattle.std.specs.Prelude.{slice_get, All, IfSome, IsNone}
-use Rattle.std.proofs.lemmas.Option.{get_or_from_slice_get}
-use Rattle.rset.specs.declared.TheConstants.{RESOURCES}
+use Rattle.std.specs.Prelude.{All, IfSome, IsNone}
 use Rattle.rset.specs.Sets.{Set}
 use Rattle.rclaim.specs.Requests.{RequestFields}
 use Rattle.rclaim.specs.declared.event.Event.TheVariants.{Issue, Finish}
-use Rattle.rlock.specs.Known.{Site, GateId, newcomer}
+use Rattle.rlock.specs.Known.{Site}
 use Rattle.rmodel.proofs.ListFacts.{all_append}
 use Rattle.rvalue.specs.declared.act.Act.{Act}
 use Rattle.rvalue.specs.Entries.{EntryFields}
-use Rattle.rstate.specs.Contents.{Contents}
-use Rattle.rstate.specs.Histories.{Beginning}
-use Rattle.rstate.proofs.homes.Lists.{same_item}
 use Rattle.rguard.specs.Seats.{SeatOf, Goes, bare}
 use Rattle.rguard.specs.Resting.{Rests, all_with}
 use Rattle.rguard.proofs.Going.{goes_on}
-use Rattle.accounts_example.specs.Moves.{opened_account, IsNew, IsMove, MovesAtMost, HasOnlyMoved}
-use Rattle.accounts_example.specs.Sections.{read_of, MadeSection, MadeNothing, HasRead}
+use Rattle.accounts_example.specs.Moves.{IsNew, IsMove, MovesAtMost, HasOnlyMoved}
+use Rattle.rguard.specs.Sections.{read_of, MadeSection, MadeNothing}
+use Rattle.accounts_example.specs.Sections.{HasRead}
 use Rattle.accounts_example.specs.declared.account.Account.{Account}
 use Rattle.accounts_example.specs.declared.account.Transfer.{Transfer}
-
--- the seats of a new runtime have done nothing
-pub new_seats : (gate : GateId) (seats : List (SeatOf Account Transfer)) (n : ℕ) (began : Beginning Account) (state : Contents Account Transfer) → length seats ≡ n
-    → ((k : ℕ) → k < n → slice_get seats k ≡ Some (newcomer gate k began state)) → began.values ≡ replicate RESOURCES opened_account → All IsNew seats
-new_seats gate seats n began state count each values k d less =
-    let is = get_or_from_slice_get seats k (newcomer gate k began state) d (each k (subst (λ m. k < m) count less)) in (
-      ap (λ (s : SeatOf Account Transfer). s.mine) is,
-      λ b opens. ap (λ (x : Beginning Account). x.values) (same_item b began (sym opens ∙ ap (λ (s : SeatOf Account Transfer). s.opening) is)) ∙ values,
-    )
 
 module _ (group : Set) (site : Site) where
   -- and so they have only moved amounts

@@ -1,46 +1,18 @@
--- What a section of the example does: the one request that its seat issues, the acts that its finish tells, and what its guard sees.
-use Rattle.std.specs.Prelude.{◌≡◌, ◌⊎◌, ℕ, ◌%◌, ◌^◌, Bool, true, List, [], ◌∷◌, ◌++◌, map}
+-- What a section of the example does: the acts that its finish tells, and what its guard sees.
+use Rattle.std.specs.Prelude.{◌≡◌, ℕ, ◌%◌, ◌^◌, Bool, true, List, [], ◌++◌, map}
 use Rattle.std.specs.List.{AllByRecursion, sum_by}
-use Rattle.std.specs.FinSet.{empty, contains}
+use Rattle.std.specs.FinSet.{contains}
 use Rattle.rset.specs.Sets.{Set, rising}
-use Rattle.rclaim.specs.Requests.{RequestFields}
-use Rattle.rclaim.specs.declared.request.Kind.TheVariants.{Read, Write}
-use Rattle.rclaim.specs.declared.event.Event.TheVariants.{Issue, Finish}
 use Rattle.rvalue.specs.declared.act.Act.{Act}
 use Rattle.rvalue.specs.declared.act.Act.TheVariants.{Edited}
-use Rattle.rguard.specs.Seats.{SeatOf, Goes, bare}
+use Rattle.rguard.specs.Seats.{SeatOf}
 use Rattle.rguard.specs.Guards.{GuardFields, AsSeen, HasValue}
 use Rattle.rguard.specs.Resting.{HoldsAll}
+use Rattle.rguard.specs.Sections.{read_of, HasEntered, HasFinished}
 use Rattle.accounts_example.specs.Accounts.{account_after, balance_of}
 use Rattle.accounts_example.specs.declared.account.Account.{Account}
 use Rattle.accounts_example.specs.declared.account.Transfer.{Transfer}
 use Rattle.accounts_example.specs.declared.account.Transfer.TheVariants.{Deposit, Withdraw}
-
--- the request to write these resources, in a section of length 1
-abbrev pub write_of : Set → RequestFields
-write_of set = record { kind = Write; reads = empty; writes = set; first = empty; len = 1; later = 0 }
-
--- the request to read these
-abbrev pub read_of : Set → RequestFields
-read_of set = record { kind = Read; reads = set; writes = empty; first = empty; len = 1; later = 0 }
-
-module _ {V E : Type 0} where
-  -- the seat entered a section: it issued this one request, and the guard of that has done nothing yet
-  pub record HasEntered (request : RequestFields) (seat : SeatOf V E) (guard : GuardFields V E) : Type 0 where
-    pub issued : Goes seat (bare (Issue seat.number request) ∷ []) guard.seat
-    pub fresh : guard.acts ≡ []
-
-  -- the section of the guard ended: its seat finished it with these acts
-  abbrev pub HasFinished : List (Act E) → GuardFields V E → SeatOf V E → Type 0
-  HasFinished acts guard later = Goes guard.seat (record { event = Finish guard.seat.number; acts = acts } ∷ []) later
-
-  -- the seat made one whole section: it issued this request, finished with these acts, and did nothing else
-  abbrev pub MadeSection : RequestFields → List (Act E) → SeatOf V E → SeatOf V E → Type 0
-  MadeSection request acts seat later = Goes seat (bare (Issue seat.number request) ∷ record { event = Finish seat.number; acts = acts } ∷ []) later
-
-  -- the seat changed nothing: it issued no request, or this one and finished without acts
-  abbrev pub MadeNothing : RequestFields → SeatOf V E → SeatOf V E → Type 0
-  MadeNothing request seat later = Goes seat [] later ⊎ MadeSection request [] seat later
 
 -- a transfer on each of these accounts, by rising number, each of which was taken
 abbrev pub taken_by_each : Set → Transfer → List (Act Transfer)

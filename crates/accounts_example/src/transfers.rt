@@ -5,7 +5,8 @@ ghost use Rattle.rset.specs.declared.TheConstants.{SEATS, RESOURCES};
 ghost use Rattle.rguard.specs.Seats.{Goes};
 ghost use Rattle.rguard.specs.Resting.{IsAt, Rests, HoldsAll, MayWriteAll, all_with};
 ghost use Rattle.accounts_example.specs.Moves.{opened_account, IsNew};
-ghost use Rattle.accounts_example.specs.Sections.{write_of, read_of, GoesOnByEdits, HasEntered, HasFinished, MadeSection, MadeNothing, taken_by_each, move_acts, IsSumSeen, HasRead};
+ghost use Rattle.rguard.specs.Sections.{write_of, read_of, HasEntered, HasFinished, MadeSection, MadeNothing};
+ghost use Rattle.accounts_example.specs.Sections.{GoesOnByEdits, taken_by_each, move_acts, IsSumSeen, HasRead};
 
 use crate::account::{Account, Transfer};
 use rclaim::{Kind, Request};

@@ -1,8 +1,6 @@
-pub mod Acts
 pub mod Ones
 pub mod Records
 pub mod Seats
-pub mod Sections
 pub mod Sums
 pub mod Taking
 pub mod Telling

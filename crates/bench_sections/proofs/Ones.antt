@@ -19,7 +19,7 @@ use Rattle.rvalue.specs.Entries.{EntryFields, is_finish, edits_of}
 use Rattle.rvalue.specs.Histories.{edits_on, value_of, EntryAnswersRightly}
 use Rattle.rvalue.proofs.ValueLemmas.{value_within-append, value_of-longer}
 use Rattle.rguard.specs.Seats.{bare}
-use Rattle.bench_sections.specs.Sections.{sections_of}
+use Rattle.rguard.specs.Sections.{sections_of}
 use Rattle.bench_sections.proofs.Sums.{sum_of_none, sum_of_both, sum_at_one}
 
 -- the act adds 1 to the ledger of a resource, which takes it

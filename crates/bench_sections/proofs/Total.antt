@@ -2,23 +2,18 @@
 use Rattle.std.proofs.Common.{◌≡◌, ℕ, ◌+◌, ◌-◌, ◌*◌, ◌%◌, ◌^◌, ◌<◌, ◌≤◌, ◌==◌, length-append, List, [], ◌∷◌, ◌++◌, map, length, get_or, replicate, Some, true, refl, sym, ap, subst, ◌∙◌, arith, append-nil, append_assoc}
 use Rattle.std.proofs.Math.Nat.{min-le_right, mul-le-mul_left, mul-le-mul_right}
 use Rattle.std.proofs.lemmas.Bool.{eq-eqb}
-use Rattle.std.proofs.lemmas.List.{length-replicate, length-map}
+use Rattle.std.proofs.lemmas.List.{length-map}
 use Rattle.std.proofs.lemmas.List.Sums.{sum_by-le}
 use Rattle.std.proofs.lemmas.List.FromFn.{fill_by_all, length-range_with_len}
 use Rattle.std.proofs.lemmas.Option.{get_or_from_slice_get}
 use Rattle.std.specs.List.{AllByRecursion, range_with_len, sum_by}
-use Rattle.std.specs.Prelude.{slice_get, All}
+use Rattle.std.specs.Prelude.{All}
 use Rattle.rset.specs.declared.TheConstants.{SEATS, RESOURCES}
 use Rattle.rset.specs.Sets.{rising}
 use Rattle.rexpand.specs.Groups.{ReadGroups}
 use Rattle.rclaim.specs.Events.{seat_of}
-use Rattle.rclaim.specs.declared.event.Event.{Event}
-use Rattle.rclaim.specs.declared.event.Event.TheVariants as events
 use Rattle.rlock.specs.Known.{Site, entries_by}
-use Rattle.rmodel.specs.State.{LockState}
-use Rattle.rmodel.specs.Steps.{Fits}
 use Rattle.rmodel.proofs.ListFacts.{in_filter, all_at, all_from}
-use Rattle.rmodel.proofs.reaching.Histories.{sizes_after}
 use Rattle.rvalue.specs.InTurn.{AllInTurn}
 use Rattle.rvalue.specs.declared.act.Act.TheVariants.{Edited}
 use Rattle.rvalue.specs.declared.ledger.Ledger.{Ledger}
@@ -27,13 +22,12 @@ use Rattle.rvalue.specs.declared.ledger.Edit.TheVariants.{Add}
 use Rattle.rvalue.specs.Ledgers.{opening_ledger, is_taken, value_after}
 use Rattle.rvalue.specs.Entries.{EntryFields, edits_of}
 use Rattle.rvalue.specs.Histories.{edits_on}
-use Rattle.rvalue.specs.Lawful.{AreOpenings}
-use Rattle.rstate.specs.Histories.{Beginning, IsListed, MayFollow, first_of, lock_after}
-use Rattle.rstate.proofs.histories.Following.{event_of, lock_is_after}
-use Rattle.rstate.proofs.homes.Lists.{get_there, get_replicate}
+use Rattle.rstate.specs.Histories.{Beginning, MayFollow}
 use Rattle.ropening.specs.Closing.{IsClosedBy, IsLeft}
 use Rattle.rguard.specs.Seats.{SeatOf}
-use Rattle.bench_sections.specs.Sections.{write_of, one_added, sections_of}
+use Rattle.rguard.proofs.Closed.{each_opens, each_listed, seats_there}
+use Rattle.rguard.specs.Sections.{write_of, sections_of}
+use Rattle.bench_sections.specs.Sections.{one_added}
 use Rattle.bench_sections.specs.Measure.{first_record, record_count, ones_asked, HasMadeAll, IsSumLeft}
 use Rattle.bench_sections.specs.declared.words.Asked.{Asked}
 use Rattle.bench_sections.proofs.Sums.{sum_alike, sum_of_map, sum_by_number}
@@ -44,21 +38,7 @@ balance ledger = ledger.balance
 
 -- ---- the history
 
-seat_there : (s : LockState) (e : Event) → Fits s e → seat_of e < s.seats
-seat_there s (events.Issue seat r) fits = fits.seat_there
-seat_there s (events.Finish seat) fits = fits
-seat_there s (events.Rise seat) fits = fits
-seat_there s (events.Ask seat part) fits = fits.0
-
 module _ (b : Beginning Ledger) (values_are : b.values ≡ replicate RESOURCES opening_ledger) where
-  each_opens : AreOpenings (IsListed b.values) (λ l. opening_ledger)
-  each_opens l value listed = sym (get_replicate RESOURCES l opening_ledger value (ap (λ (vs : List Ledger). slice_get vs l) (sym values_are) ∙ listed))
-
-  each_listed : (l : ℕ) → l < RESOURCES → slice_get b.values l ≡ Some opening_ledger
-  each_listed l less =
-      let there = get_there (replicate RESOURCES opening_ledger) l (subst (λ n. l < n) (sym (length-replicate RESOURCES opening_ledger)) less) in
-      ap (λ (vs : List Ledger). slice_get vs l) values_are ∙ there.1 ∙ ap Some (get_replicate RESOURCES l opening_ledger there.0 there.1)
-
   -- entries that may follow one another and only add 1s: each ledger has one for each edit of it
   grows_by_all : (earlier entries : List (EntryFields Edit)) → AllInTurn (MayFollow value_after is_taken balance b) earlier entries → AllByRecursion AddsOnes entries → (l : ℕ)
       → (ledger_after (earlier ++ entries) l).balance ≡ (ledger_after earlier l).balance + length (edits_on entries l)
@@ -66,19 +46,11 @@ module _ (b : Beginning Ledger) (values_are : b.values ≡ replicate RESOURCES o
   grows_by_all earlier (entry ∷ entries) turns adds l =
       ap (λ (es : List (EntryFields Edit)). (ledger_after es l).balance) (sym (append_assoc earlier (entry ∷ []) entries))
       ∙ grows_by_all (earlier ++ entry ∷ []) entries turns.1 adds.1 l
-      ∙ ap (λ n. n + length (edits_on entries l)) (grows_by_one earlier entry (turns.0.answers (λ k. opening_ledger) each_opens) adds.0 l)
+      ∙ ap (λ n. n + length (edits_on entries l)) (grows_by_one earlier entry (turns.0.answers (λ k. opening_ledger) (each_opens RESOURCES opening_ledger b values_are)) adds.0 l)
       ∙ together (ledger_after earlier l).balance (length (edits_of entry l)) (length (edits_on entries l)) (length-append (edits_of entry l) (edits_on entries l))
     where
       together : (a n m : ℕ) {all : ℕ} → all ≡ n + m → a + n + m ≡ a + all
       together a n m is = omega arith
-
-  -- each entry is of a seat that there is
-  seats_there : (earlier entries : List (EntryFields Edit)) → AllInTurn (MayFollow value_after is_taken balance b) earlier entries → AllByRecursion (λ (entry : EntryFields Edit). seat_of entry.event < b.seats) entries
-  seats_there earlier [] turns = tt
-  seats_there earlier (entry ∷ entries) turns = (
-    subst (λ n. seat_of entry.event < n) (ap (λ (s : LockState). s.seats) (lock_is_after b earlier) ∙ (sizes_after (first_of b) (map event_of earlier)).seats) (seat_there (lock_after b earlier) entry.event turns.0.comes.fits),
-    seats_there (earlier ++ entry ∷ []) entries turns.1,
-  )
 
 -- ---- the end
 
@@ -155,7 +127,7 @@ module _ (asked : Asked) (site : Site) (seats : List (SeatOf Ledger Edit)) (made
   left = first.closes.left began opening
 
   there : AllByRecursion (λ (entry : EntryFields Edit). seat_of entry.event < asked.threads) end.entries
-  there = subst (λ n. AllByRecursion (λ (entry : EntryFields Edit). seat_of entry.event < n) end.entries) (first.all.sections.rests.at.of.all ∙ passes) (seats_there began opens [] end.entries left.lawful)
+  there = subst (λ n. AllByRecursion (λ (entry : EntryFields Edit). seat_of entry.event < n) end.entries) (first.all.sections.rests.at.of.all ∙ passes) (seats_there value_after is_taken balance began [] end.entries left.lawful)
 
   all_add : AllByRecursion AddsOnes end.entries
   all_add = all_from AddsOnes end.entries (λ entry here.
@@ -170,7 +142,7 @@ module _ (asked : Asked) (site : Site) (seats : List (SeatOf Ledger Edit)) (made
   values_are : end.values ≡ map (ledger_after end.entries) (range_with_len 0 RESOURCES)
   values_are = fill_by_all (ledger_after end.entries) end.values RESOURCES opening_ledger
       (left.count ∙ ap (λ (g : ReadGroups). g.q) (first.all.sections.rests.at.over began opening))
-      (λ l less. get_or_from_slice_get end.values l (ledger_after end.entries l) opening_ledger (left.each l opening_ledger (each_listed began opens l less)))
+      (λ l less. get_or_from_slice_get end.values l (ledger_after end.entries l) opening_ledger (left.each l opening_ledger (each_listed RESOURCES opening_ledger began opens l less)))
 
   -- together they have just what was asked for
   together : sum_by balance end.values ≡ ones_asked asked

@@ -13,7 +13,8 @@ use Rattle.ropening.specs.Closing.{IsClosedBy}
 use Rattle.rguard.specs.Seats.{SeatOf}
 use Rattle.rguard.specs.Guards.{AsSeen}
 use Rattle.rguard.specs.Resting.{Rests}
-use Rattle.bench_sections.specs.Sections.{write_of, one_added, sections_of}
+use Rattle.rguard.specs.Sections.{write_of, sections_of}
+use Rattle.bench_sections.specs.Sections.{one_added}
 use Rattle.bench_sections.specs.declared.words.Asked.{Asked}
 
 -- the numbers of the records from this one on: so many, as far as there are any

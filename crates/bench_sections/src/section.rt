@@ -3,7 +3,8 @@ ghost use Rattle.std.specs.Prelude.{◌≡◌, ◌++◌, IsTrue, IfOk, IfErr};
 ghost use Rattle.rset.specs.declared.TheConstants.{RESOURCES};
 ghost use Rattle.rexpand.specs.Groups.{no_groups};
 ghost use Rattle.rguard.specs.Resting.{IsAt, Rests, MayWriteAll};
-ghost use Rattle.bench_sections.specs.Sections.{write_of, one_added, HasEntered, MadeSection};
+ghost use Rattle.rguard.specs.Sections.{write_of, HasEntered, MadeSection};
+ghost use Rattle.bench_sections.specs.Sections.{one_added};
 
 use rclaim::{Kind, Request};
 use rguard::{Guard, Rnlp, Seat, WriteGuard};

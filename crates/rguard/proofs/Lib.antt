@@ -4,3 +4,6 @@ pub mod Having
 pub mod Raising
 pub mod Held
 pub mod Resting
+pub mod Acts
+pub mod Closed
+pub mod Sections

@@ -3,3 +3,4 @@ pub mod Guards
 pub mod Awaiting
 pub mod Looks
 pub mod Resting
+pub mod Sections

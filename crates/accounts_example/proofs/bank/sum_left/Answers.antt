@@ -3,7 +3,8 @@ use Rattle.std.proofs.lemmas.Option.{IfSome_then}
 use Rattle.std.specs.Arc.{arc_value}
 use Rattle.std.specs.List.{sum_by}
 use Rattle.accounts_example.specs.Accounts.{balance_of}
-use Rattle.accounts_example.proofs.Conserved.{all_there, four_together}
+use Rattle.rguard.proofs.Closed.{all_there}
+use Rattle.accounts_example.proofs.Conserved.{four_together}
 use Rattle.accounts_example.proofs.bank.sum_left.Goals as goal
 
 pub close-values-requires-clause-of : goal.close-values-requires-clause-of

@@ -1,5 +1,6 @@
 use Rattle.std.specs.FinSet.{union}
-use Rattle.accounts_example.specs.Sections.{write_of, move_acts}
+use Rattle.rguard.specs.Sections.{write_of}
+use Rattle.accounts_example.specs.Sections.{move_acts}
 use Rattle.accounts_example.proofs.Moving.{after_move, after_look}
 use Rattle.accounts_example.proofs.bank.turn.Goals as goal
 

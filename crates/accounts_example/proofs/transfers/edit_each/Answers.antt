@@ -6,7 +6,8 @@ use Rattle.rguard.specs.Seats.{SeatOf}
 use Rattle.accounts_example.specs.declared.account.Account.{Account}
 use Rattle.accounts_example.specs.declared.account.Transfer.{Transfer}
 use Rattle.rguard.proofs.Resting.{each_rising}
-use Rattle.accounts_example.proofs.Acts.{each_taken, one_more, all_made, goes_nowhere, goes_on}
+use Rattle.rguard.proofs.Acts.{each_taken, one_more, all_made}
+use Rattle.accounts_example.proofs.Acts.{goes_nowhere, goes_on}
 use Rattle.accounts_example.proofs.transfers.edit_each.Goals as goal
 
 pub loop-l-init : goal.loop-l-init

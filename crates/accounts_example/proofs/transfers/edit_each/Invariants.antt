@@ -3,7 +3,7 @@ use Rattle.std.specs.List.{AllByRecursion}
 use Rattle.rset.specs.Sets.{rising}
 use Rattle.rguard.specs.Guards.{HoldingToWrite}
 use Rattle.accounts_example.specs.Sections.{GoesOnByEdits}
-use Rattle.accounts_example.proofs.Acts.{each_taken}
+use Rattle.rguard.proofs.Acts.{each_taken}
 use Rattle.accounts_example.proofs.transfers.edit_each.Given as goal
 
 abbrev pub invariant-loop-l : goal.invariant-loop-l

@@ -6,7 +6,7 @@ use Rattle.accounts_example.specs.declared.account.Transfer.{Transfer}
 use Rattle.rset.specs.Sets.{Set}
 use Rattle.rguard.specs.Resting.{MayWriteAll}
 use Rattle.rguard.proofs.Resting.{write_left, write_right}
-use Rattle.accounts_example.specs.Sections.{write_of, HasEntered}
+use Rattle.rguard.specs.Sections.{write_of, HasEntered}
 use Rattle.accounts_example.proofs.Sections.{moved, unmoved}
 use Rattle.accounts_example.proofs.transfers.move_in.Goals.{then-taken, else-taken}
 use Rattle.accounts_example.proofs.transfers.move_in.Goals as goal

@@ -1,6 +1,6 @@
 use Rattle.std.proofs.Common.{List, subst}
 use Rattle.rvalue.specs.declared.act.Act.{Act}
-use Rattle.accounts_example.specs.Sections.{HasFinished}
+use Rattle.rguard.specs.Sections.{HasFinished}
 use Rattle.accounts_example.specs.declared.account.Transfer.{Transfer}
 use Rattle.accounts_example.proofs.transfers.read_in.Goals as goal
 

@@ -8,8 +8,8 @@ use Rattle.accounts_example.specs.declared.account.Account.{Account}
 use Rattle.accounts_example.specs.Accounts.{account_after, is_taken}
 use Rattle.rguard.specs.Resting.{all_with}
 use Rattle.rguard.proofs.Resting.{suits_to_read, is_inside_itself}
-use Rattle.accounts_example.specs.Sections.{read_of}
-use Rattle.accounts_example.proofs.Sections.{entered_to_read}
+use Rattle.rguard.specs.Sections.{read_of}
+use Rattle.rguard.proofs.Sections.{entered_to_read}
 use Rattle.accounts_example.proofs.transfers.to_read.Goals as goal
 
 pub acquire-requires-clause-suits : goal.acquire-requires-clause-suits

@@ -8,8 +8,8 @@ use Rattle.accounts_example.specs.declared.account.Account.{Account}
 use Rattle.accounts_example.specs.Accounts.{account_after, is_taken}
 use Rattle.rguard.specs.Resting.{all_with}
 use Rattle.rguard.proofs.Resting.{suits_to_write}
-use Rattle.accounts_example.specs.Sections.{write_of}
-use Rattle.accounts_example.proofs.Sections.{entered_to_write}
+use Rattle.rguard.specs.Sections.{write_of}
+use Rattle.rguard.proofs.Sections.{entered_to_write}
 use Rattle.accounts_example.proofs.transfers.to_write.Goals as goal
 
 pub acquire-requires-clause-suits : goal.acquire-requires-clause-suits

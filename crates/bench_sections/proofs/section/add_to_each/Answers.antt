@@ -8,7 +8,7 @@ use Rattle.rvalue.specs.declared.ledger.Edit.{Edit}
 use Rattle.rvalue.specs.declared.ledger.Edit.TheVariants.{Add}
 use Rattle.rguard.proofs.Resting.{each_rising}
 use Rattle.bench_sections.specs.Sections.{one_added}
-use Rattle.bench_sections.proofs.Acts.{one_more, all_made}
+use Rattle.rguard.proofs.Acts.{one_more, all_made}
 use Rattle.bench_sections.proofs.section.add_to_each.Goals as goal
 
 pub loop-l-init : goal.loop-l-init

@@ -4,7 +4,7 @@ use Rattle.rset.specs.Sets.{rising}
 use Rattle.rvalue.specs.declared.ledger.Edit.TheVariants.{Add}
 use Rattle.rguard.specs.Guards.{HoldingToWrite}
 use Rattle.bench_sections.specs.Sections.{one_added}
-use Rattle.bench_sections.proofs.Acts.{each_taken}
+use Rattle.rguard.proofs.Acts.{each_taken}
 use Rattle.bench_sections.proofs.section.add_to_each.Given as goal
 
 abbrev pub invariant-loop-l : goal.invariant-loop-l

@@ -9,8 +9,8 @@ use Rattle.rvalue.specs.Ledgers.{value_after, is_taken}
 use Rattle.rset.specs.declared.TheConstants.{RESOURCES}
 use Rattle.rexpand.specs.Groups.{no_groups}
 use Rattle.rguard.proofs.Resting.{suits_to_write}
-use Rattle.bench_sections.specs.Sections.{write_of}
-use Rattle.bench_sections.proofs.Sections.{entered_to_write}
+use Rattle.rguard.specs.Sections.{write_of}
+use Rattle.rguard.proofs.Sections.{entered_to_write}
 use Rattle.bench_sections.proofs.section.to_write.Goals as goal
 
 pub acquire-requires-clause-suits : goal.acquire-requires-clause-suits

@@ -1,4 +1,4 @@
--- Acts that a guard makes one after another.
+-- Edits that a guard makes one after another: for proofs above.
 use Rattle.std.proofs.Common.{◌≡◌, ℕ, Bool, true, List, [], ◌∷◌, ◌++◌, map, sym, ap, ◌∙◌, append_assoc, append-nil}
 use Rattle.rvalue.specs.declared.act.Act.{Act}
 use Rattle.rvalue.specs.declared.act.Act.TheVariants.{Edited}
