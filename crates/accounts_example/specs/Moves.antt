@@ -1,6 +1,6 @@
 -- What the seats of the example do to the four accounts.
-use Rattle.std.specs.Prelude.{◌≡◌, ◌⊎◌, ℕ, ◌<◌, List, [], replicate}
-use Rattle.std.specs.FinSet.{insert, empty}
+use Rattle.std.specs.Prelude.{◌≡◌, ◌⊎◌, ℕ, zero, suc, ◌<◌, List, [], replicate, Option, IsSomeAnd}
+use Rattle.std.specs.FinSet.{insert, empty, union}
 use Rattle.std.specs.List.{AllByRecursion}
 use Rattle.rset.specs.declared.TheConstants.{RESOURCES}
 use Rattle.rset.specs.Sets.{Set}
@@ -10,7 +10,8 @@ use Rattle.rvalue.specs.Entries.{EntryFields}
 use Rattle.rguard.specs.Seats.{SeatOf}
 use Rattle.rguard.specs.Guards.{AsSeen}
 use Rattle.rguard.specs.Resting.{Rests, all_with}
-use Rattle.accounts_example.specs.Sections.{move_acts}
+use Rattle.rguard.specs.Sections.{write_of, MadeSection}
+use Rattle.accounts_example.specs.Sections.{move_acts, HasRead}
 use Rattle.accounts_example.specs.declared.account.Account.{Account}
 use Rattle.accounts_example.specs.declared.account.Transfer.{Transfer}
 
@@ -43,3 +44,18 @@ pub record HasOnlyMoved (group : Set) (site : Site) (seat : SeatOf Account Trans
   pub rests : Rests (all_with group) site seat
   pub opens : OpensWithAccounts seat
   pub moves : AllByRecursion MovesAtMost seat.mine
+
+-- the seat moved 1 from one account to another, and then saw in all of them together what they had at first
+pub record HasTurned (group : Set) (from to : ℕ) (seat later : SeatOf Account Transfer) : Type 0 where
+  pub between : SeatOf Account Transfer
+  pub moved : MadeSection (write_of (union (insert empty from) (insert empty to))) (move_acts (insert empty from) (insert empty to)) seat between
+  pub looked : HasRead group 4000 between later
+
+-- it did so that often, and nothing else
+abbrev pub HasTurnedOften : Set → ℕ → ℕ → ℕ → SeatOf Account Transfer → SeatOf Account Transfer → Type 0
+HasTurnedOften group from to zero seat later = later ≡ seat
+HasTurnedOften group from to (suc n) seat later = (between : SeatOf Account Transfer) × HasTurnedOften group from to n seat between × HasTurned group from to between later
+
+-- so did a seat that was there, and that is there again
+abbrev pub HaveTurned : Set → ℕ → ℕ → ℕ → Option (SeatOf Account Transfer) → Option (SeatOf Account Transfer) → Type 0
+HaveTurned group from to n seat later = IsSomeAnd seat (λ was. IsSomeAnd later (HasTurnedOften group from to n was))

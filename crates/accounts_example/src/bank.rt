@@ -6,7 +6,7 @@ ghost use Rattle.rguard.specs.Seats.{SeatOf};
 ghost use Rattle.accounts_example.specs.declared.account.Account.{Account};
 ghost use Rattle.accounts_example.specs.declared.account.Transfer.{Transfer};
 ghost use Rattle.accounts_example.specs.Accounts.{balance_of};
-ghost use Rattle.accounts_example.specs.Moves.{HasOnlyMoved};
+ghost use Rattle.accounts_example.specs.Moves.{HasOnlyMoved, HasTurned, HaveTurned};
 
 use crate::account::Account;
 use crate::transfers::{OPENING, move_in, opened, read_in};
@@ -49,7 +49,8 @@ fn turn<R: Wait, M: Machine>(
     requires seat { HasOnlyMoved group lock.now seat }
     requires from { from < 4 }
     requires to { to < 4 }
-    ensures { HasOnlyMoved group lock.now result.0 }
+    ensures moves { HasOnlyMoved group lock.now result.0 }
+    ensures done { IsTrue result.1 → HasTurned group from to seat result.0 }
 {
     let giver = ResourceSet::one(from);
     let taker = ResourceSet::one(to);
@@ -69,7 +70,8 @@ fn run_job<R: Wait, M: Machine>(
 )
     requires seat { IsSomeAnd job.old.seat (HasOnlyMoved group lock.now) }
     requires four { (job.old.from < 4) × (job.old.to ≡ (job.old.from + 1) % 4) }
-    ensures { IsSomeAnd job.new.seat (HasOnlyMoved group lock.now) }
+    ensures moves { IsSomeAnd job.new.seat (HasOnlyMoved group lock.now) }
+    ensures done { IsTrue job.new.done → HaveTurned group job.old.from job.old.to times job.old.seat job.new.seat }
 {
     let mut seat = job.seat.take().unwrap();
     let mut done = true;
@@ -82,7 +84,7 @@ fn run_job<R: Wait, M: Machine>(
     job.done = done;
 }
 
-// The jobs, each on a thread of its own.
+// The jobs, on threads.
 fn run_all<R: Threads + Wait + Sync, M: Machine>(
     rt: &R,
     alloc: Global,
@@ -118,7 +120,8 @@ fn jobs_for(
     seats: Vec<Seat<Account, Plain>>,
 ) -> Result<Vec<Task<Plain>>, AllocError>
     requires { All (HasOnlyMoved group lock.now) seats.items }
-    ensures { IfOk result (λ v. All (λ j. IsSomeAnd j.seat (HasOnlyMoved group lock.now) × (j.from < 4) × (j.to ≡ (j.from + 1) % 4)) v.items) }
+    ensures moves { IfOk result (λ v. All (λ j. IsSomeAnd j.seat (HasOnlyMoved group lock.now) × (j.from < 4) × (j.to ≡ (j.from + 1) % 4)) v.items) }
+    ensures own { IfOk result (λ v. All (λ j. IsSomeAnd j.seat (λ seat. j.from ≡ seat.number % 4)) v.items) }
 {
     let _ = lock;
     let _ = group.len();
@@ -136,7 +139,9 @@ fn jobs_for(
 }
 
 // Whether all sections of all threads did all.
-fn are_done<M: Machine>(jobs: &[Task<M>]) -> bool {
+fn are_done<M: Machine>(jobs: &[Task<M>]) -> bool
+    ensures { IsTrue result → All (λ j. IsTrue j.done) jobs.now }
+{
     for job in jobs {
         if !job.done {
             return false;
@@ -217,7 +222,7 @@ fn sum_left<M: Machine>(
 }
 
 /// What is in the four accounts together once each thread has moved amounts so often: what was in them at first, whatever the threads did.
-/// None if a section found no memory, or a look another sum.
+/// None if a section found no memory, an account did not have the 1 that was to be taken, or a look saw another sum.
 pub fn moved<R: Threads + Wait + Sync>(rt: &R, alloc: Global, times: u32) -> Option<u64>
     ensures { IfSome result (λ sum. sum ≡ 4000) }
 {

@@ -4,8 +4,8 @@ use Rattle.accounts_example.specs.Sections.{move_acts}
 use Rattle.accounts_example.proofs.Moving.{after_move, after_look}
 use Rattle.accounts_example.proofs.bank.turn.Goals as goal
 
-pub returns : goal.returns
-returns g c =
+pub returns-clause-moves : goal.returns-clause-moves
+returns-clause-moves g c =
     let moving =
     after_move c.args.group c.args.lock.now c.args.seat c.move_in-between.result.0 c.requires.seat c.move_in-between.ensures.rests.0 c.move_in-between.result.1
     (write_of (union c.one-giver.result c.one-taker.result)) (move_acts c.one-giver.result c.one-taker.result)
