@@ -1,9 +1,9 @@
 -- Counts of faults, which never fall and stay at the last value of a `u64`.
-use Rattle.std.specs.Prelude.{◌≡◌, ◌<◌, ◌⊎◌, ◌+◌, ◌-◌, ◌^◌, min, ℕ}
+use Rattle.std.specs.Prelude.{◌≡◌, ◌⊎◌, ◌+◌, ◌-◌, ◌^◌, min, ℕ}
 
--- the count is greater after the call than before, or stands at its last value after it
+-- the count is one more after the call than before, or stands at its last value after it
 abbrev pub Rose : ℕ → ℕ → Type 0
-Rose before after = (before < after) ⊎ (after ≡ 2 ^ 64 - 1)
+Rose before after = (after ≡ before + 1) ⊎ (after ≡ 2 ^ 64 - 1)
 
 -- the count after one more, which stays at its last value
 abbrev pub one_more : ℕ → ℕ
