@@ -1,5 +1,7 @@
 // A source that tells a person how far it was read.
-ghost use Rattle.std.specs.Prelude.{◌≡◌, ◌+◌, ◌-◌, ◌^◌, min, if◌then◌else◌};
+ghost use Rattle.std.specs.Prelude.{◌≡◌, ◌≤◌, ◌+◌, ◌-◌, ◌^◌, ◌&&◌, min, IfOk, OnOk, OnErr, if◌then◌else◌};
+ghost use Rattle.io_ends.specs.Ends.{Gives};
+ghost use Rattle.io_ends.specs.Faults.{Rose};
 ghost use Rattle.redge.specs.Progress.{is_due};
 
 use io_ends::{Failed, Source};
@@ -58,7 +60,19 @@ impl<'a, R: Eprint, S: Source + Drop> Source for Progress<'a, R, S> {
 
     ghost faults = { λ s. S.faults s.source };
 
-    fn read(&mut self, buf: &mut [u8]) -> Result<usize, Failed> {
+    fn read(&mut self, buf: &mut [u8]) -> Result<usize, Failed>
+        ensures given { IfOk result (Gives (S.left self.old.source) (S.left self.new.source) buf.old buf.new) }
+        ensures quiet { OnOk result (S.faults self.new.source ≡ S.faults self.old.source) }
+        ensures failed { OnErr result (Rose (S.faults self.old.source) (S.faults self.new.source)) }
+        ensures kept { OnErr result (S.left self.new.source ≡ S.left self.old.source) }
+        ensures counted { S.faults self.old.source ≤ S.faults self.new.source }
+
+        // On a terminal what is given is counted, and where it is due, a person was told of it.
+        ensures noted { IfOk result (λ n. self.new.read ≡ (if self.old.on_terminal then min (self.old.read + n) (2 ^ 64 - 1) else self.old.read)) }
+        ensures told { IfOk result (λ n. self.new.told ≡ (if self.old.on_terminal && is_due self.new.read self.old.told n then self.new.read else self.old.told)) }
+        ensures unnoted { OnErr result ((self.new.read ≡ self.old.read) × (self.new.told ≡ self.old.told)) }
+        ensures terminal { self.new.on_terminal ≡ self.old.on_terminal }
+    {
         let given = self.source.read(buf)?;
         if self.on_terminal {
             self.count(given);
