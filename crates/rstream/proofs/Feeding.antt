@@ -10,7 +10,7 @@ use Rattle.rforms.specs.declared.fault.Fault.{Fault}
 use Rattle.rforms.proofs.facts.Walks.{clean_none}
 use Rattle.rforms.proofs.texts.Place.{fault_behind, followed_all}
 use Rattle.rforms.proofs.texts.Records.{rows_exist}
-use Rattle.rstream.specs.Feeding.{IsFed}
+use Rattle.rstream.specs.Feeding.{IsFed, KnowsFront}
 use Rattle.rstream.specs.Windows.{HasNoQuote}
 use Rattle.rstream.proofs.Splits.{rows_joined}
 
@@ -93,6 +93,10 @@ module _ {C T : Type 0} (code : List Row → Row → Option C) (is_done : List R
   module _ (text held : List ℕ) (was : T) (line : ℕ) (f : IsFed code Knows text held was line) where
     all_rows : (rows : List Row) → AreRowsOf held rows → AreRowsOf text (f.rows ++ rows)
     all_rows rows are = subst (λ (bytes : List ℕ). AreRowsOf bytes (f.rows ++ rows)) (append-nil text) (f.joins [] rows (subst (λ (bytes : List ℕ). AreRowsOf bytes rows) (sym (append-nil held)) are))
+
+    -- a source that breaks off leaves the records before what is held
+    pub known_in_front : KnowsFront Knows text was
+    known_in_front = let later = rows_exist default_config st.StartRecord (strip_bom held) in (f.rows, later.0, all_rows later.0 later.1, f.knows)
 
     pub fault_in_rest : (fault : Fault C) → IsFaultBehind code is_done no_end f.rows held fault → IsFaultOf code is_done no_end text fault
     fault_in_rest fault p =

@@ -10,12 +10,12 @@ use Rattle.rforms.specs.Records.{Row}
 use Rattle.rstream.specs.Coming.{Came, HasEnded, CameWhole, CameOf, BreaksOff}
 use Rattle.rforms.specs.declared.fault.Fault.{Fault}
 use Rattle.rstream.specs.Errors.{error_of, StreamCameOf, StreamBreaksOff}
-use Rattle.rstream.specs.Feeding.{IsFed}
+use Rattle.rstream.specs.Feeding.{IsFed, KnowsFront}
 use Rattle.rstream.specs.declared.error.StreamErr.{StreamErr}
 use Rattle.rstream.specs.declared.error.StreamErr.TheVariants as stream
 use Rattle.rstream.specs.Windows.{held, IsSound, Gains}
 use Rattle.rstream.specs.declared.window.Window.{Window}
-use Rattle.rstream.proofs.Feeding.{fed_start, fed_more}
+use Rattle.rstream.proofs.Feeding.{fed_start, fed_more, known_in_front}
 use Rattle.rstream.proofs.Windows.{came_none, came_more}
 
 -- ---- a window that is filled
@@ -203,6 +203,11 @@ module _ {C T : Type 0} (code : List Row → Row → Option C) (is_done : List R
       let limit = f.limit in
       let low = f.sound.taken in
       took_most o p f.text w.limit f.came (omega arith)
+
+  -- a source broke off behind a piece more
+  pub feeding_broken : (o p : Option (List ℕ)) (w v : Window) (taker : T) (line : ℕ) (piece : List ℕ) → (f : IsFeeding code Knows o p w v taker line) → KnowsFront Knows (f.text ++ piece) taker
+  feeding_broken o p w v taker line piece f =
+      known_in_front code is_done no_end Knows (f.text ++ piece) (held v ++ piece) taker line (fed_more code is_done no_end Knows f.text (held v) piece taker line f.fed)
 
 -- all that was left came
 pub came_whole : (o p : Option (List ℕ)) (text : List ℕ) → Came o p text → HasEnded o p → CameWhole o p text

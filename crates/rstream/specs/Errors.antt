@@ -33,6 +33,13 @@ IsOfText stream.TooLong = ⊥
 IsOfText (stream.Bad fault) = Unit {0}
 IsOfText stream.Memory = Unit {0}
 
+-- the error is of the source
+abbrev pub IsOfSource : {C : Type 0} → StreamErr C → Type 0
+IsOfSource stream.ReadFault = Unit {0}
+IsOfSource stream.TooLong = Unit {0}
+IsOfSource (stream.Bad fault) = ⊥
+IsOfSource stream.Memory = ⊥
+
 -- so many bytes came where a limit holds: one more than the limit where the source had too many, and else no more than the limit
 abbrev pub StreamCameOf : {C : Type 0} → StreamErr C → ℕ → ℕ → Type 0
 StreamCameOf stream.TooLong taken limit = taken ≡ limit + 1

@@ -1,12 +1,12 @@
 // Feeding a taker from a source.
-ghost use Rattle.std.specs.Prelude.{◌≡◌, ◌≤◌, ◌<◌, ◌+◌, ◌++◌, [], ℕ, List, Some, length, IfOk, IfErr, OnOk, IsErrOf};
+ghost use Rattle.std.specs.Prelude.{◌≡◌, ◌≤◌, ◌<◌, ◌+◌, ◌++◌, [], ℕ, List, Some, length, IfOk, IfErr, OnOk, IsErrOf, ◌≢◌};
 ghost use Rattle.io_ends.specs.Faults.{Rose};
 ghost use Rattle.io_ends.specs.Ends.{Took, TookAtMost};
 ghost use Rattle.rforms.specs.Takers.{IsFaultOf, StandsAt, HasTaken};
 ghost use Rattle.rforms.specs.declared.fault.Fault.{Fault};
-ghost use Rattle.rstream.specs.Coming.{HasEnded, CameWhole};
-ghost use Rattle.rstream.specs.Errors.{IsBad, IsOfText, StreamBreaksOff};
-ghost use Rattle.rstream.specs.Feeding.{IsFed};
+ghost use Rattle.rstream.specs.Coming.{Came, HasEnded, CameWhole};
+ghost use Rattle.rstream.specs.Errors.{IsBad, IsOfSource, IsOfText, StreamBreaksOff};
+ghost use Rattle.rstream.specs.Feeding.{IsFed, StandsBrokenOff};
 ghost use Rattle.rstream.specs.Windows.{held, IsSound};
 
 use crate::error::{StreamErr, error_of, text_error_of};
@@ -24,8 +24,9 @@ use std::alloc::Global;
 ///
 /// # Errors
 ///
-/// The source failed; it had more than `limit` bytes; the first fault of a text that is none of the taker's kind, and then the
-/// taker stands where the faulty record would be due (`StandsAt`); or want of memory.
+/// The source failed, or had more than `limit` bytes: then the taker knows the records of a front of what came, or stands where
+/// one of them was refused. The first fault of a text that is none of the taker's kind, and then the taker stands where the
+/// faulty record would be due (`StandsAt`); or want of memory.
 pub fn take_source<S: Source, T: Records>(
     alloc: Global,
     source: &mut S,
@@ -38,6 +39,7 @@ pub fn take_source<S: Source, T: Records>(
         → (text : List ℕ) × CameWhole (S.left source.old) (S.left source.new) text × IsFaultOf T.code T.is_done T.no_end text fault }
     ensures still { (fault : Fault T.Code) → result ≡ Err (StreamErr.Bad fault)
         → (text : List ℕ) × CameWhole (S.left source.old) (S.left source.new) text × StandsAt T.knows T.stays text fault.line taker.new }
+    ensures broken { IfErr result (λ e. IsOfSource e → (text : List ℕ) × Came (S.left source.old) (S.left source.new) text × StandsBrokenOff T.knows T.stays text taker.new) }
 
     // A fault has its cause, and no fault goes untold. `TooLong` is answered exactly where one byte above the limit was taken.
     ensures fault { IsErrOf result StreamErr.ReadFault → Rose (S.faults source.old) (S.faults source.new) }
@@ -68,6 +70,7 @@ fn feed<S: Source, T: Records>(
         → (text : List ℕ) × CameWhole (S.left source.old) (S.left source.new) text × IsFaultOf T.code T.is_done T.no_end text fault }
     ensures still { (fault : Fault T.Code) → result ≡ Err (StreamErr.Bad fault)
         → (text : List ℕ) × CameWhole (S.left source.old) (S.left source.new) text × StandsAt T.knows T.stays text fault.line taker.new }
+    ensures broken { IfErr result (λ e. IsOfSource e → (text : List ℕ) × Came (S.left source.old) (S.left source.new) text × StandsBrokenOff T.knows T.stays text taker.new) }
     ensures fault { IsErrOf result StreamErr.ReadFault → Rose (S.faults source.old) (S.faults source.new) }
     ensures quiet { ¬ IsErrOf result StreamErr.ReadFault → S.faults source.new ≡ S.faults source.old }
     ensures too_long { IsErrOf result StreamErr.TooLong → Took (S.left source.old) (S.left source.new) (window.old.limit + 1) }
@@ -150,6 +153,7 @@ fn refused<S: Source, C: Copy>(window: &mut Window, source: &mut S, e: TextErr<C
     requires sound { IsSound window.old }
     requires room { 0 < length window.old.bytes.items }
     ensures bad { (fault : Fault C) → result ≡ StreamErr.Bad fault → e ≡ TextErr.Bad fault }
+    ensures memory { IsOfSource result → e ≢ TextErr.Memory }
     ensures ended { IsBad result → HasEnded (S.left source.old) (S.left source.new) }
     ensures came { StreamBreaksOff result (S.left source.old) (S.left source.new) window.old.taken window.old.limit }
     ensures fault { result ≡ StreamErr.ReadFault → Rose (S.faults source.old) (S.faults source.new) }

@@ -6,8 +6,9 @@ ghost use Rattle.rforms.specs.Takers.{IsFirstFault, HasTaken, StandsAt, list_cod
 ghost use Rattle.rforms.specs.declared.fault.Code.{Code};
 ghost use Rattle.rforms.specs.declared.fault.Code.TheVariants.{NoEnd, WrongBound};
 ghost use Rattle.rforms.specs.declared.fault.Fault.{Fault};
-ghost use Rattle.rstream.specs.Coming.{CameWhole};
-ghost use Rattle.rstream.specs.Errors.{IsOfText};
+ghost use Rattle.rstream.specs.Coming.{Came, CameWhole};
+ghost use Rattle.rstream.specs.Errors.{IsOfSource, IsOfText};
+ghost use Rattle.rstream.specs.Feeding.{StandsBrokenOff};
 ghost use Rattle.rtrace.specs.Collects.{KnowsCount, CountStays, one_if_told, one_if_event};
 ghost use Rattle.rtrace.specs.Counts.{IsCountOf};
 ghost use Rattle.rreading.specs.Takes.{bound_of};
@@ -157,7 +158,8 @@ pub fn audit_stream<S: Source>(
 
 /// The same, by a reader that has read nothing. Where the report is right, the reader knows in the end what all of it said,
 /// and so it does where only a bound is wrong. Where a record has a fault, the reader stands where that record would be due
-/// (`StandsAt`): so it can be told what was due.
+/// (`StandsAt`): so it can be told what was due. Where the source failed or had too much, the reader knows the records of a
+/// front of what came, or stands where one of them was refused.
 ///
 /// # Errors
 ///
@@ -172,6 +174,7 @@ pub fn count_stream<S: Source>(
     ensures right { IfOk result (λ counts. (text : List ℕ) × CameWhole (S.left source.old) (S.left source.new) text × IsCountOf text counts) }
     ensures knows { OnOk result ((text : List ℕ) × CameWhole (S.left source.old) (S.left source.new) text × HasTaken (list_code true) (is_list_done true) NoEnd KnowsCount text counting.new) }
     ensures still { (fault : Fault Code) → result ≡ Err (StreamErr.Bad fault) → fault.code ≢ WrongBound → (text : List ℕ) × CameWhole (S.left source.old) (S.left source.new) text × StandsAt KnowsCount CountStays text fault.line counting.new }
+    ensures broken { IfErr result (λ e. IsOfSource e → (text : List ℕ) × Came (S.left source.old) (S.left source.new) text × StandsBrokenOff KnowsCount CountStays text counting.new) }
     ensures judged { (fault : Fault Code) → result ≡ Err (StreamErr.Bad fault) → fault.code ≡ WrongBound
         → (text : List ℕ) × CameWhole (S.left source.old) (S.left source.new) text × HasTaken (list_code true) (is_list_done true) NoEnd KnowsCount text counting.new }
     ensures bad { (fault : Fault Code) → result ≡ Err (StreamErr.Bad fault) → (text : List ℕ) × CameWhole (S.left source.old) (S.left source.new) text × IsFirstFault true text fault }

@@ -1,10 +1,11 @@
-use Rattle.std.proofs.Common.{◌++◌, Err, sym, ap, subst, ◌∙◌}
+use Rattle.std.proofs.Common.{◌++◌, Err, inl, inr, sym, ap, subst, ◌∙◌}
 use Rattle.rforms.specs.Takers.{HasTaken}
 use Rattle.rforms.proofs.texts.Place.{err_is}
 use Rattle.rstream.specs.Errors.{error_of, IsBad}
 use Rattle.rstream.specs.declared.error.StreamErr.{StreamErr}
+use Rattle.rstream.proofs.Errors.{is_fault, none_of_source}
 use Rattle.rstream.proofs.Windows.{came_more}
-use Rattle.rstream.proofs.Gaining.{IsFeeding, feeding_more, feeding_lines, came_whole, within_limit, ended_more, to_stream, broken_off, on_ok}
+use Rattle.rstream.proofs.Gaining.{IsFeeding, feeding_more, feeding_lines, feeding_broken, came_whole, within_limit, ended_more, to_stream, broken_off, on_ok}
 use Rattle.rstream.proofs.feed.feed.Given.{Over}
 use Rattle.rstream.proofs.feed.feed.Goals as goal
 
@@ -126,4 +127,28 @@ returns-in-Err-take_lines-clause-still g c = λ fault is.
       f.text ++ b.0,
       came_whole o q (f.text ++ b.0) (came_more o p q f.text b.0 f.came b.1) ended,
       c.in-Err-take_lines.ensures.still f.text f.fed fault (ap Err (c.refused.ensures.bad fault (err_is is))) b.0,
+    )
+
+pub returns-in-Ok-true-clause-broken : goal.returns-in-Ok-true-clause-broken
+returns-in-Ok-true-clause-broken g c = none_of_source _ c.take_rest.result c.take_rest.ensures.of_text
+
+pub returns-in-Err-take_lines-clause-broken : goal.returns-in-Err-take_lines-clause-broken
+returns-in-Err-take_lines-clause-broken g c = λ is.
+    let got = c.in-Ok-false.ensures.gained in
+    let f = feeding_more g.T.Records.code g.T.Records.is_done g.T.Records.no_end g.T.Records.knows (g.S.Source.left c.args.source.now) (g.S.Source.left c.loop-window.source) (g.S.Source.left c.fill.new.source) c.args.window.now c.loop-window.window
+    c.fill.new.self c.loop-window.taker c.loop-window.line got.0 c.loop-window.invariant.0 got.1 got.2 in
+    let b = c.refused.ensures.came in
+    let told = is_fault c.in-Err-take_lines.e (c.refused.ensures.memory is) in (
+      f.text ++ b.0,
+      came_more (g.S.Source.left c.args.source.now) (g.S.Source.left c.fill.new.source) (g.S.Source.left c.refused.new.source) f.text b.0 f.came b.1,
+      inr (told.0.line, c.in-Err-take_lines.ensures.still f.text f.fed told.0 (ap Err told.1) b.0),
+    )
+
+pub returns-in-Err-clause-broken : goal.returns-in-Err-clause-broken
+returns-in-Err-clause-broken g c = λ is.
+    let at = c.loop-window.invariant.0 in
+    let b = c.in-Err.ensures.broken in (
+      at.text ++ b.0,
+      came_more (g.S.Source.left c.args.source.now) (g.S.Source.left c.loop-window.source) (g.S.Source.left c.fill.new.source) at.text b.0 at.came b.1,
+      inl (feeding_broken g.T.Records.code g.T.Records.is_done g.T.Records.no_end g.T.Records.knows (g.S.Source.left c.args.source.now) (g.S.Source.left c.loop-window.source) c.args.window.now c.loop-window.window c.loop-window.taker c.loop-window.line b.0 at),
     )

@@ -2,6 +2,7 @@ use Rattle.std.proofs.Common.{Err, true, ap}
 use Rattle.rforms.proofs.texts.Lists.{list_fault}
 use Rattle.rforms.proofs.texts.Place.{err_is}
 use Rattle.rreport.proofs.Writing.{always_on_ok}
+use Rattle.rstream.proofs.Errors.{none_of_source}
 use Rattle.rtrace.proofs.Results.{if_ok, no_read_fault, not_too_long}
 use Rattle.rtrace.proofs.Whole.{no_bound_refused}
 use Rattle.rtrace.proofs.count.count_stream.Goals as goal
@@ -42,3 +43,9 @@ pub returns-in-Err-clause-judged : goal.returns-in-Err-clause-judged
 returns-in-Err-clause-judged g c = λ fault is wrong.
     let h = c.in-Err.ensures.bad fault (ap Err (err_is is)) in
     absurd (no_bound_refused h.0 fault h.2 wrong)
+
+pub returns-in-Ok-clause-broken : goal.returns-in-Ok-clause-broken
+returns-in-Ok-clause-broken g c = none_of_source _ c.counted.result c.counted.ensures.text
+
+pub returns-in-Err-clause-broken : goal.returns-in-Err-clause-broken
+returns-in-Err-clause-broken g c = c.in-Err.ensures.broken
