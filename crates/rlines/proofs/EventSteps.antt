@@ -158,7 +158,7 @@ module _ (whole : Bool) (old : Reading) (s : SoFar) (h : Knows whole old s) (e :
   happen_refused cause is = code_by (Some cause) is ∙ refused_code (is_change_due s) (nat_le 4 s.last && nat_le s.last 7) false cause here
 
   pub happen_taken : (state : LockState) (shown edited : Set) (follower : Following) → Follows follower (with_event (past_in s) e) → state ≡ lock_in s → refusal_in state e ≡ None → AreActive (changes_between state (next state e)).statuses
-      → (whole ≡ true → Allows (record old { shown = shown; edited = edited }) e (holds_of state.claims (seat_of e)))
+      → (whole ≡ true → Allows shown edited e (holds_of state.claims (seat_of e)))
       → (line_code whole s (Happens e) ≡ None) × Knows whole (noted (record old { machine = Some (stepped state e); following = Some follower; shown = shown; edited = edited }) e) (with_line whole s (Happens e))
   happen_taken state shown edited follower follows is free active allows =
       let both = follows_both 4 s.last 7 at.1 in

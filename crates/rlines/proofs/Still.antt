@@ -25,8 +25,8 @@ first_same names all same = ([], same ∙ sym (append-nil names))
 module _ (old new : Reading) where
   -- what else may have changed has nothing to do with what is due
   pub due_still : new.whole ≡ old.whole → AreFirstOf old.resources new.resources → AreFirstOf old.tasks new.tasks → new.cap ≡ old.cap → new.groups ≡ old.groups → new.last ≡ old.last → new.told ≡ old.told
-      → new.machine ≡ old.machine → new.following ≡ old.following → new.ledgers.items ≡ old.ledgers.items → StillDue old new
-  due_still kind resources tasks cap groups last told machine following ledgers = record {
+      → new.machine ≡ old.machine → new.following ≡ old.following → new.ledgers.items ≡ old.ledgers.items → new.shown ≡ old.shown → new.edited ≡ old.edited → StillDue old new
+  due_still kind resources tasks cap groups last told machine following ledgers shown edited = record {
     kind = kind;
     resources = resources;
     tasks = tasks;
@@ -37,6 +37,8 @@ module _ (old new : Reading) where
     lock = λ whole s h. ap (state_in s) machine ∙ h.lock;
     changes = ap changes_in machine;
     ledgers = ledgers;
+    shown = shown;
+    edited = edited;
     there = λ some. ap (λ (o : Option Following). is_some o) following ∙ some;
     followed = λ whole s h. subst (λ (o : Option Following). IfSome o (λ f. Follows f (past_in s))) (sym following) (follows_if old.machine old.following s.latest (past_in s) h.stand);
   }
@@ -45,3 +47,4 @@ module _ (old new : Reading) where
   same_still same =
       due_still (ap (λ (r : Reading). r.whole) same) (first_same old.resources new.resources (ap (λ (r : Reading). r.resources) same)) (first_same old.tasks new.tasks (ap (λ (r : Reading). r.tasks) same))
       (ap (λ (r : Reading). r.cap) same) (ap (λ (r : Reading). r.groups) same) (ap (λ (r : Reading). r.last) same) (ap (λ (r : Reading). r.told) same) (ap (λ (r : Reading). r.machine) same) (ap (λ (r : Reading). r.following) same) (ap (λ (r : Reading). r.ledgers.items) same)
+      (ap (λ (r : Reading). r.shown) same) (ap (λ (r : Reading). r.edited) same)

@@ -45,7 +45,7 @@ IsFirstDue old line due = (whole : Bool) (s : SoFar) → Knows whole old s → w
 abbrev pub AreFirstOf : List (List ℕ) → List (List ℕ) → Type 0
 AreFirstOf names all = (more : List (List ℕ)) × (all ≡ names ++ more)
 
--- what is due is due still: nothing more was told, the cap, the groups, the changes and the ledgers are as they were, the names keep their numbers, and whatever was said, the lock stands as its events left it, and they are still followed
+-- what is due is due still: nothing more was told, the cap, the groups, the changes, the ledgers and which acts may follow are as they were, the names keep their numbers, and whatever was said, the lock stands as its events left it, and they are still followed
 pub record StillDue (old new : Reading) : Type 0 where
   pub kind : new.whole ≡ old.whole
   pub resources : AreFirstOf old.resources new.resources
@@ -57,6 +57,8 @@ pub record StillDue (old new : Reading) : Type 0 where
   pub lock : (whole : Bool) (s : SoFar) → Knows whole old s → state_in s new.machine ≡ lock_in s
   pub changes : changes_in new.machine ≡ changes_in old.machine
   pub ledgers : new.ledgers.items ≡ old.ledgers.items
+  pub shown : new.shown ≡ old.shown
+  pub edited : new.edited ≡ old.edited
   pub there : IsSome old.following → IsSome new.following
   pub followed : (whole : Bool) (s : SoFar) → Knows whole old s → IfSome new.following (λ f. Follows f (past_in s))
 
@@ -103,9 +105,9 @@ event_admitted groups _ = true
 abbrev pub IsPlaced : Reading → Type 0
 IsPlaced reading = (whole : Bool) (s : SoFar) → Knows whole reading s → place_code s at_tasks at_changes ≡ None
 
--- a reader lets acts be behind an event, whose seat held this before, just as they may be
-abbrev pub Allows : Reading → Event → Granted → Type 0
-Allows reading e held = (reading.shown ≡ shown_by held) × (reading.edited ≡ edited_by held e)
+-- acts behind an event, whose seat held this before, may show these and edit those
+abbrev pub Allows : Set → Set → Event → Granted → Type 0
+Allows shown edited e held = (shown ≡ shown_by held) × (edited ≡ edited_by held e)
 
 -- the reader behind an accepted event, of which nothing was told yet
 abbrev pub noted : Reading → Event → Reading

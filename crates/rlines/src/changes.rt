@@ -2,7 +2,7 @@
 ghost use Rattle.std.specs.Prelude.{◌≡◌, ◌<◌, ◌^◌, ◌+◌, ◌&&◌, Bool, is_some, OnOk, OnErr, IfOk, IfErr, IfSome, IsTrue};
 ghost use Rattle.rforms.specs.Lines.{Grants};
 ghost use Rattle.rforms.specs.Reports.{status_line};
-ghost use Rattle.rforms.specs.SoFar.{SoFar};
+ghost use Rattle.rforms.specs.SoFar.{SoFar, at_changes};
 ghost use Rattle.rforms.specs.Faults.{is_first, is_change_due};
 ghost use Rattle.rrecords.specs.Waits.{line_told};
 ghost use Rattle.rlines.specs.Knows.{Knows};
@@ -26,6 +26,7 @@ impl Reading {
     /// What is wrong with it there. Nothing changes then.
     pub fn status(&mut self, change: StatusChange) -> Result<(), Code>
         ensures taken { OnOk result (Takes self.old self.new (status_line change)) }
+        ensures counted { OnOk result (self.new ≡ record self.old { last = at_changes; told = self.old.told + 1 }) }
         ensures bad { IfErr result (λ code. Refuses self.old (status_line change) code) }
         ensures still { OnErr result (self.new ≡ self.old) }
     {
@@ -47,6 +48,7 @@ impl Reading {
     /// What is wrong with it there. Nothing changes then.
     pub fn grant(&mut self, seat: u8, set: ResourceSet) -> Result<(), Code>
         ensures taken { OnOk result (Takes self.old self.new (Grants seat set)) }
+        ensures counted { OnOk result (self.new ≡ record self.old { last = at_changes; told = self.old.told + 1 }) }
         ensures bad { IfErr result (λ code. Refuses self.old (Grants seat set) code) }
         ensures still { OnErr result (self.new ≡ self.old) }
     {
@@ -68,6 +70,7 @@ impl Reading {
     /// What is wrong with it there. Nothing changes then.
     pub fn wait(&mut self, wait: &WaitTold) -> Result<WaitEnd, Code>
         ensures taken { OnOk result (Takes self.old self.new (line_told wait.now)) }
+        ensures counted { OnOk result (self.new ≡ record self.old { last = at_changes; told = self.old.told + 1 }) }
         ensures first { IfOk result (λ due. IsFirstDue self.old (line_told wait.now) due) }
         ensures bad { IfErr result (λ code. Refuses self.old (line_told wait.now) code) }
         ensures still { OnErr result (self.new ≡ self.old) }

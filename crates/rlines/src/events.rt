@@ -1,5 +1,5 @@
 // The events: each is stepped once.
-ghost use Rattle.std.specs.Prelude.{◌≡◌, ◌<◌, ◌^◌, length, Bool, true, OnOk, OnErr, IfErr, IfSome, IsSome, Some, None};
+ghost use Rattle.std.specs.Prelude.{◌≡◌, ◌<◌, ◌^◌, length, Bool, true, false, OnOk, OnErr, IfErr, IfSome, IsSome, Some, None};
 ghost use Rattle.rclaim.specs.Events.{seat_of};
 ghost use Rattle.rmodel.specs.Changes.{AreActive};
 ghost use Rattle.rmodel.specs.Holds.{holds_of};
@@ -71,11 +71,12 @@ impl Reading {
         ensures still { (code : Code) → result ≡ Err (RowErr.Bad code) → StillDue self.old self.new }
         ensures names { (code : Code) → result ≡ Err (RowErr.Bad code) → (self.new.resources ≡ self.old.resources) × (self.new.tasks ≡ self.old.tasks) }
         ensures memory { result ≡ Err RowErr.Memory → self.new ≡ self.old }
+        ensures listed { self.old.whole ≡ false → (self.new.shown ≡ self.old.shown) × (self.new.edited ≡ self.old.edited) }
     {
         let Ok(()) = self.make_machine(alloc) else {
             return Err(RowErr::Memory);
         };
-        self.allow(event);
+        let (shown, edited) = self.allowed(event);
         let Some(machine) = &mut self.machine else {
             return Err(RowErr::Memory);
         };
@@ -86,6 +87,8 @@ impl Reading {
             Ok(()) => {
                 self.told = 0;
                 self.last = place_behind(event);
+                self.shown = shown;
+                self.edited = edited;
                 Ok(())
             }
             Err(cause) => Err(RowErr::Bad(Code::Refused(cause))),
@@ -134,20 +137,20 @@ impl Reading {
         Ok(())
     }
 
-    // Notes what acts may follow an event, where acts are told: by what its seat holds before it.
-    fn allow(&mut self, event: &Event)
-        ensures others { self.new ≡ record self.old { shown = self.new.shown; edited = self.new.edited } }
-        ensures allowed { self.old.whole ≡ true → IfSome self.old.machine (λ machine. Allows self.new event.now (holds_of machine.state.claims (seat_of event.now))) }
+    // What acts behind an event may show, and what they may edit, where acts are told: by what its seat holds before it. Where
+    // none are told, that stays as it is.
+    fn allowed(&self, event: &Event) -> (ResourceSet, ResourceSet)
+        ensures listed { self.now.whole ≡ false → result ≡ (self.now.shown, self.now.edited) }
+        ensures allowed { self.now.whole ≡ true → IfSome self.now.machine (λ machine. Allows result.0 result.1 event.now (holds_of machine.state.claims (seat_of event.now))) }
     {
         if !self.whole {
-            return;
+            return (self.shown, self.edited);
         }
         let Some(machine) = &self.machine else {
-            return;
+            return (self.shown, self.edited);
         };
         let held = machine.granted(event.seat());
-        self.shown = held.reads.union(held.writes);
-        self.edited = edited_by(held, event);
+        (held.reads.union(held.writes), edited_by(held, event))
     }
 }
 

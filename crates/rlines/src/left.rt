@@ -1,8 +1,8 @@
 // The ledgers at the end, and the end.
-ghost use Rattle.std.specs.Prelude.{◌≡◌, OnOk, OnErr, IfErr, true};
+ghost use Rattle.std.specs.Prelude.{◌≡◌, ◌+◌, OnOk, OnErr, IfErr, true};
 ghost use Rattle.rforms.specs.Lines.{Leaves, Ends};
 ghost use Rattle.rforms.specs.Faults.{is_same_line};
-ghost use Rattle.rforms.specs.SoFar.{at_end};
+ghost use Rattle.rforms.specs.SoFar.{at_end, at_ledgers};
 ghost use Rattle.rlines.specs.Takes.{Takes, Refuses, ledgers_told};
 
 use crate::place::{AT_END, AT_LEDGERS, AT_TASKS};
@@ -19,6 +19,7 @@ impl Reading {
     pub fn leave(&mut self, place: u8, ledger: Ledger) -> Result<(), Code>
         requires { self.old.whole ≡ true }
         ensures taken { OnOk result (Takes self.old self.new (Leaves place ledger)) }
+        ensures counted { OnOk result (self.new ≡ record self.old { last = at_ledgers; told = ledgers_told self.old + 1 }) }
         ensures bad { IfErr result (λ code. Refuses self.old (Leaves place ledger) code) }
         ensures still { OnErr result (self.new ≡ self.old) }
     {

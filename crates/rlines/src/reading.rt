@@ -33,7 +33,7 @@ pub struct Reading {
     pub following: Option<Following>,
     /// The ledger of each resource, after the acts so far.
     pub ledgers: Vec<Ledger>,
-    /// What acts behind the latest event may show.
+    /// What acts behind the latest event that was taken may show; nothing in an event list.
     pub shown: ResourceSet,
     /// What they may edit.
     pub edited: ResourceSet,

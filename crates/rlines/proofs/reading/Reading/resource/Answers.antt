@@ -27,12 +27,12 @@ returns-clause-taken c = λ whole s h.
 pub returns-in-Err-clause-still : goal.returns-in-Err-clause-still
 returns-in-Err-clause-still c = λ code is.
     let now = c.args.self.now in
-    due_still now _ refl (first_same now.resources c.declare.new.table c.in-Err.ensures.still) (first_same now.tasks now.tasks refl) refl refl refl refl refl refl c.reserve.ensures.items
+    due_still now _ refl (first_same now.resources c.declare.new.table c.in-Err.ensures.still) (first_same now.tasks now.tasks refl) refl refl refl refl refl refl c.reserve.ensures.items refl refl
 
 pub returns-in-Some-clause-still : goal.returns-in-Some-clause-still
 returns-in-Some-clause-still c = λ code is.
     let now = c.args.self.now in
-    due_still now _ refl (c.args.name.now ∷ [], c.in_default-declare.ensures.ok.1) (first_same now.tasks now.tasks refl) refl refl refl refl refl refl c.reserve.ensures.items
+    due_still now _ refl (c.args.name.now ∷ [], c.in_default-declare.ensures.ok.1) (first_same now.tasks now.tasks refl) refl refl refl refl refl refl c.reserve.ensures.items refl refl
 
 pub returns-in-Err-clause-names : goal.returns-in-Err-clause-names
 returns-in-Err-clause-names c = λ code is. ((refl, c.reserve.ensures.items), inl c.in-Err.ensures.still)

@@ -30,12 +30,12 @@ returns-clause-taken c = λ whole s h.
 pub returns-in-Err-clause-still : goal.returns-in-Err-clause-still
 returns-in-Err-clause-still c = λ code is.
     let now = c.args.self.now in
-    due_still now _ refl (first_same now.resources now.resources refl) (first_same now.tasks c.declare.new.table c.in-Err.ensures.still) refl refl refl refl refl refl refl
+    due_still now _ refl (first_same now.resources now.resources refl) (first_same now.tasks c.declare.new.table c.in-Err.ensures.still) refl refl refl refl refl refl refl refl refl
 
 pub returns-in-Some-clause-still : goal.returns-in-Some-clause-still
 returns-in-Some-clause-still c = λ code is.
     let now = c.args.self.now in
-    due_still now _ refl (first_same now.resources now.resources refl) (c.args.name.now ∷ [], c.in_default-declare.ensures.ok.1) refl refl refl refl refl refl refl
+    due_still now _ refl (first_same now.resources now.resources refl) (c.args.name.now ∷ [], c.in_default-declare.ensures.ok.1) refl refl refl refl refl refl refl refl refl
 
 pub returns-in-Err-clause-names : goal.returns-in-Err-clause-names
 returns-in-Err-clause-names c = λ code is. (refl, inl c.in-Err.ensures.still)
