@@ -128,6 +128,10 @@ keeps (suc n) few = keeps_next (drill_of n) (subst (λ k. k < 2 ^ 62) (sym (long
     less : (n : ℕ) → suc n < 2 ^ 62 → n < 2 ^ 62
     less n h = omega (arith, h)
 
+-- each of them is accepted
+pub all_accepted : (n : ℕ) → n < 2 ^ 62 → AreAccepted drill_opening (drill_events n)
+all_accepted n few = (keeps n few).accepted
+
 -- the next event comes to the state
 pub comes_next : (n : ℕ) → n < 2 ^ 62 → Comes (after drill_opening (drill_events n)) (drawn (drill_of n)).event
 comes_next n few = comes_drawn (drill_of n) (subst (λ k. k < 2 ^ 62) (sym (long n)) few) (keeps n few)

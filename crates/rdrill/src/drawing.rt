@@ -4,7 +4,7 @@ ghost use Rattle.rset.specs.Sets.{equals};
 ghost use Rattle.rclaim.specs.Events.{seat_of};
 ghost use Rattle.rmodel.specs.Changes.{changes_between};
 ghost use Rattle.rmodel.specs.Holds.{holds_of};
-ghost use Rattle.rmodel.specs.Steps.{Comes, next, after};
+ghost use Rattle.rmodel.specs.Steps.{AreAccepted, Comes, next, after};
 ghost use Rattle.rwatch.specs.Seen.{told, told_all};
 ghost use Rattle.rdrill.specs.Draws.{drill_opening};
 ghost use Rattle.rdrill.specs.Drill.{Drawn, IsAt, may_act, acting, either, drawn_issue, all_held, drawn_by, drawn_in, drawn, latest_after, at_seat, drill_of, drill_events, steps_of};
@@ -36,11 +36,12 @@ pub fn drill_machine<M: Machine>(alloc: Global) -> Result<M, AllocError>
     M::new(alloc, groups, DRILL_SEATS, DRILL_SEATS)
 }
 
-/// Draws so many events, one after another; the machine takes each, and the audience is told each step. No memory is taken.
+/// Draws so many events, one after another, each of which is accepted; the machine takes it, and the audience is told the step. No memory is taken.
 pub fn drill<M: Machine, A: Audience>(machine: &mut M, audience: &mut A, count: u32)
     requires opening { M.state machine.old ≡ drill_opening }
     requires few { count ≤ MOST_EVENTS }
     ensures state { M.state machine.new ≡ after drill_opening (drill_events count) }
+    ensures accepted { AreAccepted drill_opening (drill_events count) }
     ensures told { A.all audience.new ≡ map (told_all (steps_of drill_opening (drill_events count))) (A.all audience.old) }
 {
     let mut dice = Dice { x: 1 };

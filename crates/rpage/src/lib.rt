@@ -23,3 +23,5 @@ pub use wait::push_bound;
 
 /// The room that is made ahead of a line: no line is longer.
 pub const LINE_ROOM: usize = 4096;
+
+const _: () = prove!(LINE_ROOM == 4096);

@@ -3,7 +3,7 @@ use Rattle.rmodel.specs.Steps.{after}
 use Rattle.rwatch.specs.Seen.{told_all}
 use Rattle.rdrill.specs.Draws.{drill_opening}
 use Rattle.rdrill.specs.Drill.{drill_events, steps_of}
-use Rattle.rdrill.proofs.Running.{told_start, told_on}
+use Rattle.rdrill.proofs.Running.{all_accepted, told_start, told_on}
 use Rattle.rdrill.proofs.drawing.drill.Goals as goal
 
 pub loop-init : goal.loop-init
@@ -26,3 +26,6 @@ pub returns-clause-told : goal.returns-clause-told
 returns-clause-told g c =
     let all : c.loop.counter ≡ c.args.count = omega (arith, c.loop-test.false, c.loop.auto.counter-end) in
     c.loop.invariant.told_so ∙ ap (λ n. map (told_all (steps_of drill_opening (drill_events n))) (g.A.Audience.all c.args.audience.now)) all
+
+pub returns-clause-accepted : goal.returns-clause-accepted
+returns-clause-accepted g c = all_accepted c.args.count (omega (arith, c.requires.few))
