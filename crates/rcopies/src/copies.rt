@@ -109,7 +109,7 @@ fn replace_one<T: Drop>(lent: &mut Lent<T>, made: Made<T>)
     lent.replace(place, shares);
 }
 
-/// Copies the value of the resource that is lent, if there is no copy of it yet.
+/// Copies the value of the resource that is lent, if there is no copy of it yet; where there is one, nothing changes.
 ///
 /// # Errors
 ///
@@ -123,6 +123,7 @@ pub fn with_copy<T: Editable>(
     requires { IsSome (value_among own.old.items lent.now place) }
     ensures ok { OnOk result (own.new.items ≡ with_copy own.old.items lent.now place) }
     ensures err { OnErr result (own.new.items ≡ own.old.items) }
+    ensures still { IsSome (at_place own.old.items place) → own.new ≡ own.old }
 {
     if own_at(own, place).is_some() {
         return Ok(());

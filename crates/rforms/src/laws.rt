@@ -7,7 +7,7 @@ ghost use Rattle.rforms.specs.Lines.{Line, IsWritable, meaning, spelled};
 ghost use Rattle.rforms.specs.SoFar.{told_in};
 ghost use Rattle.rforms.specs.Faults.{read_all, first_record_fault};
 ghost use Rattle.rforms.specs.declared.fault.Code.TheVariants.{WrongBound};
-ghost use Rattle.rforms.specs.WrongBounds.{first_fault};
+ghost use Rattle.rforms.specs.WrongBounds.{first_fault, first_wrong_bound};
 ghost use Rattle.rbound.specs.Bounds.{Numbers};
 ghost use Rattle.rcover.specs.declared.wait_end.WaitEnd.{WaitEnd};
 ghost use Rattle.rforms.specs.Waits.{bound_in};
@@ -48,9 +48,10 @@ pub fn an_event_list_tells_no_bounds()
     ensures { (rows : List Row) → first_fault false rows ≡ first_record_fault false rows }
 {}
 
-/// A wrong bound is told only where no record has another fault.
+/// A wrong bound is told only where no record has another fault, and then it is the first wrong one.
 pub fn a_wrong_bound_is_told_last()
-    ensures { (whole : Bool) (rows : List Row) (line : ℕ) → first_fault whole rows ≡ Some (line, WrongBound) → first_record_fault whole rows ≡ None }
+    ensures { (whole : Bool) (rows : List Row) (line : ℕ) → first_fault whole rows ≡ Some (line, WrongBound)
+        → (first_record_fault whole rows ≡ None) × (first_wrong_bound whole rows ≡ Some (line, WrongBound)) }
 {}
 
 /// What is written of a report spells that report.
