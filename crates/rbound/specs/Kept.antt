@@ -1,4 +1,4 @@
--- How needs are kept: for each task a vector of its requests, each with a vector of its asks. No contract of another crate speaks of it.
+-- How needs are kept: for each task a vector of its requests, each with a vector of its asks. Of other crates `rshapes` alone speaks of it, where its laws ask that needs are kept so (`AreFine`).
 use Rattle.std.specs.Prelude.{◌≡◌, ◌≤◌, ℕ, List, map, length, slice_get, Option, Some, IsTrue, if◌then◌else◌}
 use Rattle.std.specs.List.{AllByRecursion}
 use Rattle.std.specs.declared.vec.Vec.{Vec}

@@ -33,7 +33,7 @@ pub(crate) fn writes_of(rows: &ZoneRows, tasks: u8, cap: u8, task: u8) -> usize
     writers(&rows.writes, tasks, task).min(usize::from(cap - 1))
 }
 
-/// Whether each task that may read there may also write there.
+/// Whether each other task that may read there may also write there.
 fn all_may_write(rows: &ZoneRows, tasks: u8, task: u8) -> bool
     ensures { result ≡ all_may_write_in rows.now tasks task }
 {

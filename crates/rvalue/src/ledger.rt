@@ -8,7 +8,7 @@ use std::alloc::{AllocError, Global};
 /// A balance, and how many edits made it.
 #[derive(Clone, Copy, Debug, Default, PartialEq, Eq)]
 pub struct Ledger {
-    /// What is in it; edits leave at most [`BALANCE_LIMIT`].
+    /// What is in it; an edit that adds or sets leaves at most [`BALANCE_LIMIT`].
     pub balance: u64,
     /// How many edits it has taken; at most [`EDITS_LIMIT`].
     pub edits: u64,

@@ -20,7 +20,7 @@ pub use history::History;
 pub use ledger::{Edit, Ledger};
 pub use rules::Rules;
 
-/// The greatest balance that an edit may leave in a ledger.
+/// The greatest balance that an edit which adds or sets may leave in a ledger.
 pub const BALANCE_LIMIT: u64 = 1_000_000_000_000_000_000;
 
 /// How many edits a ledger counts; after that it takes none.
