@@ -4,7 +4,6 @@ use Rattle.std.specs.Prelude.{◌⊎◌, codes}
 use Rattle.std.specs.Str.{bytes_eq}
 use Rattle.rforms.specs.Reports.{Entry}
 use Rattle.rreport.specs.Report.{told_by}
-use Rattle.rscript.specs.Scripts.{IsScript}
 use Rattle.rrun.proofs.Telling.{may_be_written}
 use Rattle.rheadline.proofs.Running.{headline}
 use Rattle.ranswer.specs.Promise.{KeepsItsPromise}
@@ -18,19 +17,19 @@ use Rattle.ranswer.specs.declared.status.ToolStatus.TheVariants as status
 -- the report of which there is a receipt keeps the headline
 kept_by : (left written written_after : Option (List ℕ)) (before after : List (List Entry)) → RunReceipts left written written_after before after status.Done
     → KeepsItsPromise left written written_after before after
-kept_by None written written_after before after more = tt
-kept_by (Some bytes) written written_after before after more =
+kept_by left written written_after before after more =
     let history = more.2 in
-    let script : IsScript history.script = history.spelled.2.script in
+    let head = history.is.head in
     record {
       script = history.script;
+      is_script = history.is_script;
       came = history.spelled;
       report = told_by history.report;
       text = history.written;
       one = more.1 ∙ ap (λ (entries : List Entry). before ++ entries ∷ []) (sym history.kept);
       headline =
-          headline history.script (told_by history.report) script (may_be_written history.script script history.report history.is) history.is.head.resources (ap (λ g. g.groups) history.is.head.groups)
-          history.is.head.tasks history.is.each;
+          headline history.script (told_by history.report) history.is_script (may_be_written history.script history.is_script history.report history.is) head.resources (ap (λ g. g.groups) head.groups)
+          head.tasks head.cap history.is.each;
     }
 
 -- the words ask for a run, or for nothing that this tool does

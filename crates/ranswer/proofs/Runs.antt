@@ -31,7 +31,7 @@ module _ (watchers : List Seen) (bytes : List ℕ) (script : ScriptFields) (spel
   run_answer status.Trace h = absurd h
 
   one_more : (Writes : List ℕ → Type 0) → IsReported script Writes receipts later → OneMore (Some bytes) Writes receipts later
-  one_more Writes h = (h.0.entries, h.3, record { script = script; spelled = spelled; report = h.0; is = h.1; written = h.2; kept = refl })
+  one_more Writes h = (h.0.entries, h.3, record { script = script; is_script = spelled.2.script; spelled = spelled; report = h.0; is = h.1; written = h.2; kept = refl })
 
   pub run_receipts : (s : ToolStatus) → IsRun script before after quiet failed same receipts later s → RunReceipts (Some bytes) before after receipts later s
   run_receipts status.Done h = one_more _ h.1
@@ -51,7 +51,7 @@ of_left (Some all) bytes P whole h = subst P whole h
 left_more : (left : Option (List ℕ)) (bytes : List ℕ) (Writes : List ℕ → Type 0) (before after : List (List Entry)) → IfSome left (λ all. bytes ≡ all) → OneMore (Some bytes) Writes before after → OneMore left Writes before after
 left_more left bytes Writes before after whole h =
     let made = h.2 in
-    (h.0, h.1, record { script = made.script; spelled = of_left left bytes (λ all. IsTextOf all made.script) whole made.spelled; report = made.report; is = made.is; written = made.written; kept = made.kept })
+    (h.0, h.1, record { script = made.script; is_script = made.is_script; spelled = of_left left bytes (λ all. IsTextOf all made.script) whole made.spelled; report = made.report; is = made.is; written = made.written; kept = made.kept })
 
 pub receipts_left : (left : Option (List ℕ)) (bytes : List ℕ) (written written_after : Option (List ℕ)) (before after : List (List Entry)) (s : ToolStatus)
     → IfSome left (λ all. bytes ≡ all) → RunReceipts (Some bytes) written written_after before after s → RunReceipts left written written_after before after s

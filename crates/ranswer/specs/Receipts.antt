@@ -4,16 +4,17 @@ use Rattle.io_ends.specs.Ends.{Appends, AppendsPrefix}
 use Rattle.rforms.specs.Reports.{Entry}
 use Rattle.rforms.specs.Texts.{report_text}
 use Rattle.rreport.specs.Report.{ReportFields, told_by}
-use Rattle.rscript.specs.Scripts.{ScriptFields, IsTextOf}
+use Rattle.rscript.specs.Scripts.{ScriptFields, IsScript, IsTextOf}
 use Rattle.rrun.specs.Reporting.{IsReportOf}
 use Rattle.ranswer.specs.declared.command.Command.{Command}
 use Rattle.ranswer.specs.declared.command.Command.TheVariants.{Run, Replay, Audit, Bound, Drill}
 use Rattle.ranswer.specs.declared.status.ToolStatus.{ToolStatus}
 use Rattle.ranswer.specs.declared.status.ToolStatus.TheVariants as status
 
--- these are the entries of the one report that was written (`Writes`): a report of a run of the script that the bytes spell, where they are told
+-- these are the entries of the one report that was written (`Writes`): a report of a run of a script, which the bytes spell where they are told
 pub record IsHistoryWritten (left : Option (List ℕ)) (Writes : List ℕ → Type 0) (entries : List Entry) : Type 0 where
   pub script : ScriptFields
+  pub is_script : IsScript script
   pub spelled : IfSome left (λ bytes. IsTextOf bytes script)
   pub report : ReportFields
   pub is : IsReportOf script report

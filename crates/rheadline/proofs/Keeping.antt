@@ -1,6 +1,8 @@
 -- A report that may be written keeps the promise.
-use Rattle.std.proofs.Common.{◌≡◌, true, false, List, [], ◌∷◌, ◌++◌, length, refl, sym, ap, subst, ◌∙◌, append_assoc}
+use Rattle.std.proofs.Common.{◌≡◌, true, false, List, [], ◌∷◌, ◌++◌, length, map, refl, sym, ap, subst, ◌∙◌, append_assoc}
 use Rattle.std.proofs.lemmas.List.{map-append}
+use Rattle.std.specs.List.{list_any}
+use Rattle.rbound.specs.Bounds.{Numbers}
 use Rattle.rclaim.specs.declared.event.Event.{Event}
 use Rattle.rcover.specs.History.{length_in, number_in}
 use Rattle.rcover.specs.Moments.{moments}
@@ -9,25 +11,24 @@ use Rattle.rcover.specs.Within.{needed_by}
 use Rattle.rcover.specs.declared.wait_end.WaitEnd.{WaitEnd}
 use Rattle.rcover.proofs.told.EachWait.{each_wait_is_bounded}
 use Rattle.rmodel.specs.declared.claimed.Claimed.{Claimed}
-use Rattle.rmodel.specs.Claims.{is_satisfied}
-use Rattle.rmodel.specs.Holds.{holds_of, is_nothing}
 use Rattle.rmodel.specs.Laws.{IsHeld, SettlesOnlyTo}
 use Rattle.rmodel.specs.Settling.{settled}
 use Rattle.rmodel.specs.State.{LockState}
 use Rattle.rmodel.specs.Steps.{AreAccepted, Comes, changed, given, after}
 use Rattle.rmodel.specs.WellFormed.{Among}
-use Rattle.rmodel.proofs.ListFacts.{all_at, all_from, passing}
+use Rattle.rmodel.proofs.ListFacts.{all_at, all_from}
 use Rattle.rmodel.proofs.theorems.LawProofs.{one_settlement_a_step, writes_are_exclusive, somebody_holds_a_step}
 use Rattle.rvalue.specs.InTurn.{AllInTurn}
 use Rattle.rforms.specs.Heads.{Head, read_groups, opening_of}
-use Rattle.rforms.specs.Reports.{Entry, Report, IsLawful, IsRightEntry, lock_after}
+use Rattle.rforms.specs.Lines.{Line, Happens, Does}
+use Rattle.rforms.specs.Reports.{Entry, Report, IsLawful, IsRightEntry, EachChangeIsTold, lock_after, wait_line, wait_lines}
 use Rattle.rforms.specs.Waits.{events_of, ended_in, bound_in}
 use Rattle.rforms.specs.Written.{MayBeWritten}
 use Rattle.rforms.proofs.lists.ToldWaits as told_waits
 use Rattle.rforms.proofs.waits.GoodWaits.{IsGoodWait, good_waits}
 use Rattle.rforms.proofs.written.Reaching.{lock-push, after_is, accepted_from}
 use Rattle.rforms.proofs.written.Told as told
-use Rattle.rheadline.specs.Headline.{IsByTheRules, IsGranted, IsApart, HoldsSomething, AreCovered, IsPrintedWithin, HasItsWaits, IsKept}
+use Rattle.rheadline.specs.Headline.{IsByTheRules, HasItsChanges, IsGranted, IsApart, tells_change, AreCovered, IsPrintedWithin, HasItsWaits, IsKept}
 use Rattle.rheadline.proofs.Ledgers.{all_told}
 
 -- ---- parts of a history
@@ -47,6 +48,24 @@ right_from head before [] y ys all = subst (λ (zs : List Entry). IsRightEntry h
     append-none [] = refl
     append-none (x ∷ xs) = ap (λ (zs : List Entry). x ∷ zs) (append-none xs)
 right_from head before (x ∷ xs) y ys all = subst (λ (zs : List Entry). IsRightEntry head zs y) (append_assoc before (x ∷ []) xs) (right_from head (before ++ x ∷ []) xs y ys all.1)
+
+-- ---- lines
+
+none_tells : (bounds : WaitEnd → Numbers) (ws : List WaitEnd) → list_any tells_change (map (wait_line bounds) ws) ≡ false
+none_tells bounds [] = refl
+none_tells bounds (w ∷ ws) = none_tells bounds ws
+
+-- behind its event and its acts an entry has the lines of its changes, and then those of waits
+changes_told : (head : Head) (entries earlier : List Entry) (entry : Entry) → EachChangeIsTold (lock_after head earlier) entry.event → HasItsChanges head entries earlier entry
+unfolding wait_lines
+changes_told head entries earlier entry each =
+    let bounds = bound_in head entries in
+    let waits = wait_lines true bounds head earlier entry.event in
+    record {
+      behind = waits;
+      none = none_tells bounds (ended_in head earlier entry.event);
+      are = ap (λ (lines : List Line). Happens entry.event ∷ (map Does entry.acts ++ (lines ++ waits))) each;
+    }
 
 module _ (r : Report) (may : MayBeWritten r) where
   -- an entry may come behind those before it
@@ -75,25 +94,21 @@ module _ (r : Report) (may : MayBeWritten r) where
         only = λ u steps. steps.others ∙ ap (λ (xs : List Claimed). record (changed s e) { claims = given xs }) (one.only steps.settled_to steps.settles) ∙ sym (lock-push r.head earlier entry);
       }
 
-  granted : (earlier : List Entry) (entry : Entry) (rest : List Entry) → r.entries ≡ earlier ++ entry ∷ rest → IsGranted r.head earlier entry
+  granted : (earlier : List Entry) (entry : Entry) (rest : List Entry) → r.entries ≡ earlier ++ entry ∷ rest → IsGranted r.head r.entries earlier entry
   granted earlier entry rest is = record {
     rules = by_the_rules earlier entry rest is;
-    told = told.each_told r.head earlier entry (front r.head r.entries (earlier ++ entry ∷ []) rest may.lawful (is ∙ sym (append_assoc earlier (entry ∷ []) rest)));
+    told =
+        changes_told r.head r.entries earlier entry
+        (told.each_told r.head earlier entry (front r.head r.entries (earlier ++ entry ∷ []) rest may.lawful (is ∙ sym (append_assoc earlier (entry ∷ []) rest))));
   }
 
   apart : (earlier rest : List Entry) → r.entries ≡ earlier ++ rest → IsApart (lock_after r.head earlier)
   apart earlier rest is =
       subst IsApart (state_is earlier) (writes_are_exclusive (read_groups r.head) (length r.head.tasks) r.head.cap (events_of earlier) (accepted earlier rest is))
 
-  some_held : (s : LockState) → IsHeld s → HoldsSomething s
-  some_held s held seat busy =
-      let x = passing is_satisfied s.claims (held.somebody seat busy) in
-      (x.0.claim.seat, all_at (λ (y : Claimed). is_satisfied y ≡ true → is_nothing (holds_of s.claims y.claim.seat) ≡ false) s.claims x.0 held.something x.1 x.2)
-
-  something : (earlier rest : List Entry) → r.entries ≡ earlier ++ rest → HoldsSomething (lock_after r.head earlier)
+  something : (earlier rest : List Entry) → r.entries ≡ earlier ++ rest → IsHeld (lock_after r.head earlier)
   something earlier rest is =
-      some_held (lock_after r.head earlier)
-      (subst IsHeld (state_is earlier) (somebody_holds_a_step (read_groups r.head) (length r.head.tasks) r.head.cap (events_of earlier) (accepted earlier rest is)))
+      subst IsHeld (state_is earlier) (somebody_holds_a_step (read_groups r.head) (length r.head.tasks) r.head.cap (events_of earlier) (accepted earlier rest is))
 
   -- ---- waits
 

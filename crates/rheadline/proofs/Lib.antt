@@ -1,3 +1,5 @@
+pub mod Beforehand
+pub mod BoundLines
 pub mod Keeping
 pub mod Ledgers
 pub mod OpenRequests

@@ -148,7 +148,7 @@ own_tell seat busy (entry ∷ entries) = at (maker entry == seat) refl (λ b. ow
 
 -- ---- the run of statements
 
-abbrev event_told : Told → Event
+abbrev pub event_told : Told → Event
 event_told t = t.event
 
 still_some : {A : Type 0} (f : A → A) (o : Option A) → is_some (option_map f o) ≡ is_some o
@@ -171,7 +171,7 @@ run_open n deeds section (statement.Rise ∷ statements) =
 run_open n deeds section (statement.Finish ∷ statements) =
     ap (λ b. fold (open_next n) (cond b false (is_some section)) (map event_told (run_of n [] statements))) (eq-eqb n n refl) ∙ run_open n [] None statements
 
-events_told : (entries : List Entry) → events_of entries ≡ map event_told (map told_by entries)
+pub events_told : (entries : List Entry) → events_of entries ≡ map event_told (map told_by entries)
 events_told [] = refl
 events_told (entry ∷ entries) = ap (λ es. entry.event ∷ es) (events_told entries)
 

@@ -18,6 +18,7 @@ use Rattle.rforms.specs.Waits.{events_of}
 use Rattle.rforms.specs.Written.{MayBeWritten}
 use Rattle.rforms.proofs.written.Reaching.{after_is, accepted_from, inside}
 use Rattle.rheadline.specs.Headline.{IsHeadline}
+use Rattle.rheadline.proofs.Beforehand.{same_needs}
 use Rattle.rheadline.proofs.Keeping.{kept}
 use Rattle.rheadline.proofs.OpenRequests.{is_open, all_open, none_open}
 
@@ -52,13 +53,15 @@ module _ (p : ScriptFields) (r : Report) (script : IsScript p) (may : MayBeWritt
       (all_from (λ (x : Claimed). ⊥) s.claims
       (λ (x : Claimed) there. none_there x (all_at (λ (y : Claimed). y.claim.seat < length r.head.tasks) s.claims x low there) (all_at (λ (y : Claimed). is_open (events_of r.entries) y.claim.seat ≡ true) s.claims x busy there)))
 
-pub headline : (p : ScriptFields) (r : Report) → IsScript p → MayBeWritten r → r.head.resources ≡ p.resources → r.head.groups ≡ p.groups → r.head.tasks ≡ p.tasks
+pub headline : (p : ScriptFields) (r : Report) → IsScript p → MayBeWritten r → r.head.resources ≡ p.resources → r.head.groups ≡ p.groups → r.head.tasks ≡ p.tasks → r.head.cap ≡ length p.tasks
     → ((task : ℕ) (statements : List Statement) → slice_get p.steps task ≡ Some statements → IsRunOf task statements (entries_by maker task r.entries)) → IsHeadline p r
-headline p r script may resources groups tasks each = record {
+headline p r script may resources groups tasks cap each = record {
   resources = resources;
   groups = groups;
   tasks = tasks;
+  cap = cap;
   requests = each;
+  needs = same_needs p r script.paired resources groups tasks each;
   kept = kept r may;
   over = over p r script may tasks each;
 }

@@ -1,29 +1,35 @@
 -- The headline: what is promised of the report of a run, sentence by sentence.
-use Rattle.std.specs.Prelude.{◌≡◌, ◌≢◌, ℕ, Bool, true, false, List, [], ◌∷◌, ◌++◌, length, map, filter, slice_get, Some}
-use Rattle.std.specs.List.{AllByRecursion, range_with_len}
+use Rattle.std.specs.Prelude.{◌≡◌, ◌≢◌, ℕ, Bool, true, false, List, [], ◌∷◌, ◌++◌, length, map, filter, slice_get, Some, None}
+use Rattle.std.specs.List.{AllByRecursion, list_any, range_with_len}
+use Rattle.rclaim.specs.Changes.{ChangeLists}
 use Rattle.rclaim.specs.Events.{seat_of}
 use Rattle.rclaim.specs.declared.event.Event.{Event}
 use Rattle.rbound.specs.Bounds.{IsWithin}
-use Rattle.rcover.specs.History.{length_in, number_in}
+use Rattle.rbound.specs.TaskNeeds.{bound_of}
+use Rattle.rcover.specs.History.{length_in, number_in, number_from}
 use Rattle.rcover.specs.Moments.{moments}
 use Rattle.rcover.specs.Told.{AreBounded}
 use Rattle.rcover.specs.Within.{needed_by}
+use Rattle.rneeds.specs.Foreseen.{MayHave}
 use Rattle.rcover.specs.declared.wait_end.WaitEnd.{WaitEnd}
 use Rattle.rmodel.specs.declared.claimed.Claimed.{Claimed}
-use Rattle.rmodel.specs.Holds.{holds_of, is_nothing, has_request}
-use Rattle.rmodel.specs.Laws.{IsExclusive}
+use Rattle.rmodel.specs.Changes.{changes_between}
+use Rattle.rmodel.specs.Laws.{IsExclusive, IsHeld}
 use Rattle.rmodel.specs.State.{LockState}
-use Rattle.rmodel.specs.Steps.{Steps}
+use Rattle.rmodel.specs.Steps.{Steps, next}
 use Rattle.rmodel.specs.WellFormed.{Among}
 use Rattle.rlock.specs.Known.{entries_by}
 use Rattle.rscript_records.specs.declared.statement.Statement.{Statement}
 use Rattle.rscript.specs.Scripts.{ScriptFields}
+use Rattle.rscript.specs.Needs.{needs_of}
+use Rattle.rbound_text.specs.BoundText.{wait_row, tasks_rows, cap_meant}
 use Rattle.rsection.specs.Runs.{IsRunOf}
 use Rattle.rforms.specs.Heads.{Head, read_groups, opening_of}
-use Rattle.rforms.specs.Lines.{Line, Leaves}
-use Rattle.rforms.specs.Reports.{Entry, Report, IsLawful, EachChangeIsTold, lock_after, ledger_after, lines_of}
+use Rattle.rforms.specs.SetFields.{name_at}
+use Rattle.rforms.specs.Lines.{Line, Happens, Does, BecomesEntitled, BecomesSatisfied, Grants, Leaves}
+use Rattle.rforms.specs.Reports.{Entry, Report, IsLawful, lock_after, ledger_after, status_line, grant_line, entry_lines, lines_of}
 use Rattle.rforms.specs.ToldWaits.{EachWaitIsTold}
-use Rattle.rforms.specs.Waits.{events_of, ended_in, cover_of, bound_in}
+use Rattle.rforms.specs.Waits.{events_of, ended_in, cover_of, needs_in, bound_in}
 
 -- ---- after each event
 
@@ -40,18 +46,32 @@ pub record IsByTheRules (s : LockState) (e : Event) (t : LockState) : Type 0 whe
   pub steps : Steps s e t
   pub only : (u : LockState) → Steps s e u → u ≡ t
 
+-- the lines of changes: of each status, and then of each grant
+abbrev pub change_lines_of : ChangeLists → List Line
+change_lines_of changes = map status_line changes.statuses ++ map grant_line changes.grants
+
+-- a line tells a change of a claim's status, or a grant
+abbrev pub tells_change : Line → Bool
+tells_change (BecomesEntitled seat half) = true
+tells_change (BecomesSatisfied seat half) = true
+tells_change (Grants seat set) = true
+tells_change _ = false
+
+-- behind its event and its acts an entry has the lines of just the changes that its event makes: those of the statuses come first, and then those of the grants
+pub record HasItsChanges (head : Head) (entries earlier : List Entry) (entry : Entry) : Type 0 where
+  pub behind : List Line
+  pub none : list_any tells_change behind ≡ false
+  pub are : entry_lines true (bound_in head entries) head earlier entry
+      ≡ Happens entry.event ∷ (map Does entry.acts ++ (change_lines_of (changes_between (lock_after head earlier) (next (lock_after head earlier) entry.event)) ++ behind))
+
 -- the entry leads to the state behind it by the rules, and each change of it has its line
-pub record IsGranted (head : Head) (earlier : List Entry) (entry : Entry) : Type 0 where
+pub record IsGranted (head : Head) (entries earlier : List Entry) (entry : Entry) : Type 0 where
   pub rules : IsByTheRules (lock_after head earlier) entry.event (lock_after head (earlier ++ entry ∷ []))
-  pub told : EachChangeIsTold (lock_after head earlier) entry.event
+  pub told : HasItsChanges head entries earlier entry
 
 -- *without conflict*: what one seat holds for writing, no other seat holds
 abbrev pub IsApart : LockState → Type 0
 IsApart s = (seat other : ℕ) → seat ≢ other → IsExclusive s seat other
-
--- *something while any request is incomplete*: where a seat has an incomplete request, some seat holds something
-abbrev pub HoldsSomething : LockState → Type 0
-HoldsSomething s = (seat : ℕ) → has_request s.claims seat ≡ true → (holder : ℕ) × (is_nothing (holds_of s.claims holder) ≡ false)
 
 -- ---- waits
 
@@ -70,6 +90,20 @@ IsPrintedWithin head entries w = IsWithin (cover_of w) (bound_in head entries w)
 pub record HasItsWaits (head : Head) (entries earlier : List Entry) (entry : Entry) : Type 0 where
   pub told : EachWaitIsTold (bound_in head entries) head earlier entry
   pub within : AllByRecursion (IsPrintedWithin head entries) (ended_in head earlier entry.event)
+
+-- the request of a wait, by its number among those of its seat
+abbrev pub request_of : Report → WaitEnd → ℕ
+request_of r w = number_from (events_of r.entries) w.stamp w.seat
+
+-- *counted beforehand*: by the script the task has that request, which may have that wait; the bound that is printed beside the wait is the one that is counted for it by what the script needs, under a cap of one request for each task; and its record is one of those of `bounds_text p None`, which `bound` writes of the script
+pub record IsCountedBeforehand (p : ScriptFields) (r : Report) (w : WaitEnd) : Type 0 where
+  pub request : MayHave (needs_of p).tasks w.seat (request_of r w) w.which
+  pub bound : bound_in r.head r.entries w ≡ bound_of (needs_of p) (length p.tasks) w.seat (request_of r w) w.which
+  pub line : Among (wait_row (needs_of p) (length p.tasks) (name_at p.tasks w.seat) w.seat (request_of r w) w.which) (tasks_rows (needs_of p) (cap_meant p None) p.tasks)
+
+-- it is so of each wait that an entry ends
+abbrev pub AreCountedBeforehand : ScriptFields → Report → Type 0
+AreCountedBeforehand p r = OfEach (λ earlier entry. AllByRecursion (IsCountedBeforehand p r) (ended_in r.head earlier entry.event)) r.entries
 
 -- ---- ledgers
 
@@ -92,20 +126,25 @@ pub record IsKept (r : Report) : Type 0 where
   -- each event is accepted behind those before it; each act stands where it may, its seat holds the resource (for an edit for
   -- writing, and the edit is told with the finish of that section), and its answer is right
   pub lawful : IsLawful r.head r.entries
-  pub granted : OfEach (IsGranted r.head) r.entries
+  pub granted : OfEach (IsGranted r.head r.entries) r.entries
   pub apart : AtEach (λ earlier. IsApart (lock_after r.head earlier)) r.entries
-  pub something : AtEach (λ earlier. HoldsSomething (lock_after r.head earlier)) r.entries
+  -- *something while any request is incomplete*: some claim is satisfied then, and the seat of each that is holds something
+  pub something : AtEach (λ earlier. IsHeld (lock_after r.head earlier)) r.entries
   pub covered : AtEach (AreCovered r.head r.entries) r.entries
   pub waits : OfEach (HasItsWaits r.head r.entries) r.entries
   pub ledgers : AreLedgersTold r
 
--- *The headline*: whatever script comes, the report of its run tells what the script declares; each task's requests stand in it in
--- script order, each once; its history keeps the promise; and behind it no request is incomplete, so that each wait has ended
+-- *The headline*: whatever script comes, the report of its run tells what the script declares, with a cap of one request for each
+-- task; each task's requests stand in it in script order, each once; what the tasks need by its history is what they need by the
+-- script, so that each bound in it is the one that is counted beforehand; its history keeps the promise; and behind it no request is
+-- incomplete, so that each wait has ended
 pub record IsHeadline (p : ScriptFields) (r : Report) : Type 0 where
   pub resources : r.head.resources ≡ p.resources
   pub groups : r.head.groups ≡ p.groups
   pub tasks : r.head.tasks ≡ p.tasks
+  pub cap : r.head.cap ≡ length p.tasks
   pub requests : (task : ℕ) (statements : List Statement) → slice_get p.steps task ≡ Some statements
       → IsRunOf task statements (entries_by (λ (entry : Entry). seat_of entry.event) task r.entries)
+  pub needs : needs_in r.head r.entries ≡ needs_of p
   pub kept : IsKept r
   pub over : (lock_after r.head r.entries).claims ≡ []

@@ -1,5 +1,6 @@
 -- The bound of a wait by what a whole history needs is found by its key.
 use Rattle.std.proofs.Common.{◌≡◌, ◌<◌, ◌==◌, ◌&&◌, ◌||◌, nat_lt, not, ℕ, Bool, true, false, cond, List, [], ◌∷◌, ◌++◌, length, Option, Some, None, refl, sym, ap, subst, ◌∙◌, inl, arith, length-append}
+use Rattle.std.specs.Prelude.{IsSome, option_map}
 use Rattle.std.specs.List.{slice_get, position_or_len}
 use Rattle.std.specs.FinSet.{len}
 use Rattle.std.proofs.lemmas.Bool.{eq-eqb, eqb-true, and_parts, and_from}
@@ -8,10 +9,13 @@ use Rattle.std.proofs.lemmas.Option.{slice_get_within}
 use Rattle.rset.specs.Sets.{Set, equals}
 use Rattle.rexpand.specs.Groups.{ReadGroups}
 use Rattle.rclaim.specs.Requests.{RequestFields}
+use Rattle.rclaim.specs.declared.request.Kind.{Kind}
+use Rattle.rclaim.specs.declared.request.Kind.TheVariants.{Read, Write, Mixed, Upgrade, Nested}
 use Rattle.rclaim.specs.declared.event.Event.{Event}
 use Rattle.rclaim.specs.declared.event.Event.TheVariants.{Issue, Finish}
 use Rattle.rclaim.specs.declared.event.Event.TheVariants as event
 use Rattle.rmodel.specs.declared.claimed.Claimed.{Claimed}
+use Rattle.rmodel.specs.Claims.{is_satisfied, is_upgrade, is_nested}
 use Rattle.rmodel.specs.Holds.{held_by, is_nothing, holds_of, has_ask}
 use Rattle.rmodel.specs.Reached.{IsReached}
 use Rattle.rmodel.specs.State.{LockState, opening}
@@ -22,7 +26,8 @@ use Rattle.rmodel.proofs.reaching.Reached.{reached_after, reached_opening}
 use Rattle.rmodel.proofs.reaching.Soundness.{seat_is_idle, passed}
 use Rattle.rbound.specs.Bounds.{Numbers}
 use Rattle.rbound.specs.Needs.{RequestNeeds}
-use Rattle.rbound.specs.TaskNeeds.{requests_of, bound_of}
+use Rattle.rbound.specs.TaskNeeds.{requests_of, kind_at, bound_of}
+use Rattle.rbound.specs.TaskNeeds.{asks_of as asks_of_request}
 use Rattle.rbound.specs.declared.which.Which.{Which}
 use Rattle.rbound.specs.declared.which.Which.TheVariants as which
 use Rattle.rbound.proofs.ClaimFacts.{some_is}
@@ -30,7 +35,8 @@ use Rattle.rcover.specs.Ended.{wait_of, wait_end, ended_if}
 use Rattle.rcover.specs.History as history
 use Rattle.rcover.specs.History.{history_needs, number_from, last_ask}
 use Rattle.rcover.specs.Moments.{Moment, moments}
-use Rattle.rcover.specs.Told.{waits_first, waits_to_rise, waits_for_ask}
+use Rattle.rcover.specs.Told.{is_rising_half, has_read_claim, waits_first, waits_to_rise, waits_for_ask}
+use Rattle.rcover.specs.Waits.{AskWaits}
 use Rattle.rcover.specs.declared.wait_end.WaitEnd.{WaitEnd}
 use Rattle.rcover.proofs.lists.Different.{among_filter_map}
 use Rattle.rcover.proofs.told.Few.{waits_told}
@@ -43,6 +49,7 @@ use Rattle.rshapes.specs.Promises.{IsSameWait}
 use Rattle.rshapes.proofs.SameBounds.{bounds_are_of_shapes}
 use Rattle.rshapes.proofs.ShapeRequests.{some_none, at_among}
 use Rattle.rshapes.proofs.ShapesGrow.{one_only}
+use Rattle.rneeds.specs.Foreseen.{MayHave}
 use Rattle.rneeds.specs.History.{shapes_told}
 use Rattle.rneeds.specs.Keys.{place_among, ask_among, place_of, ask_of, with_ask_number, key_of, IsLastEnded}
 use Rattle.rneeds.specs.Knows.{bound_by}
@@ -54,12 +61,29 @@ use Rattle.rneeds.proofs.KnownClaims.{IsOfLast, IsKnown, known_claims, known_on,
 use Rattle.rneeds.proofs.Later.{HasBecome, shapes_stay, shape_found, parts_at, task_is, part_found, found_still}
 use Rattle.rneeds.proofs.OneMore.{last_known}
 
--- what is found by the key of a wait is its bound
+-- its request may have the wait, and what is found by the key of the wait is its bound
 pub record IsFound (groups : ReadGroups) (seats cap : ℕ) (es all : List Event) (w : WaitEnd) : Type 0 where
   pub seated : w.seat < seats
+  pub foreseen : MayHave (history_needs seats all) w.seat (number_from all w.stamp w.seat) w.which
   pub within : (key_of es w).shape < length (shapes_told all)
   pub bound : bound_of (record { groups = groups; tasks = needs_of_shapes seats (shapes_told all) }) cap (task_at (shapes_told all) (key_of es w).shape) (number_before (shapes_told all) (task_at (shapes_told all) (key_of es w).shape) (key_of es w).shape) (key_of es w).which
       ≡ bound_by groups seats cap all w
+
+-- ---- kinds
+
+upgrade_is : (k : Kind) → is_upgrade k ≡ true → k ≡ Upgrade
+upgrade_is Read is = cc
+upgrade_is Write is = cc
+upgrade_is Mixed is = cc
+upgrade_is Upgrade is = refl
+upgrade_is Nested is = cc
+
+nested_is : (k : Kind) → is_nested k ≡ true → k ≡ Nested
+nested_is Read is = cc
+nested_is Write is = cc
+nested_is Mixed is = cc
+nested_is Upgrade is = cc
+nested_is Nested is = refl
 
 -- ---- which ask it is
 
@@ -165,6 +189,9 @@ module _ (groups : ReadGroups) (seats cap : ℕ) (before : List Event) (e : Even
     request_there : slice_get (requests_of (history_needs seats all) seat) number ≡ Some n
     request_there = ap (λ (ns : List RequestNeeds). slice_get ns number) (requests_by seats all seat below) ∙ request_asks all x.claim.stamp seat r (of_last.at rest)
 
+    kind_there : kind_at (history_needs seats all) seat number ≡ Some r.kind
+    kind_there = ap (option_map (λ (m : RequestNeeds). m.request.kind)) request_there
+
     has : has_shape seat n.request later.0 ≡ true
     has = later.2.has seat r ∙ found.2
 
@@ -188,10 +215,14 @@ module _ (groups : ReadGroups) (seats cap : ℕ) (before : List Event) (e : Even
       still : IsKnown es x
       still = known_on before e x known no_issue (no_ask pending (asked_since seat before))
 
+      pending_ask : AskWaits x.claim x.asked now.claims
+      pending_ask =
+          let stands : StandsAs waits_for_ask x.claim now.claims = record { at = x; among = there; is = refl; passes = waits } in
+          ask_waits now reached x.claim x.asked stands refl
+
       asked : (first : List Set) × (asked_since seat before ≡ first ++ x.asked ∷ [])
       asked =
-          let stands : StandsAs waits_for_ask x.claim now.claims = record { at = x; among = there; is = refl; passes = waits } in
-          let w = ask_waits now reached x.claim x.asked stands refl in
+          let w = pending_ask in
           let same : w.at ≡ x = one_claim now reached w.at x w.among there w.is in
           known.asks.last (λ none. w.holds_some (ap (λ (y : Claimed). y.granted) same ∙ none)) w.some
 
@@ -232,10 +263,28 @@ module _ (groups : ReadGroups) (seats cap : ℕ) (before : List Event) (e : Even
           (λ i. slice_get (later.2.asks i) ((numbered ∙ ap (position_or_len (equals x.asked)) parts) i))
           ∙ found_still found.0.asks later.2.more (position_or_len (equals x.asked) found.0.asks) x.asked (part_found found.0.asks x.asked part_there)
 
+    last_is : (i : ℕ) → wait_of before now.claims x ≡ Some (which.Ask i) → last_ask before x.claim ≡ i
+    last_is i told = is_last (waits_first now.claims x) (waits_to_rise now.claims x) (waits_for_ask now.claims x) (last_ask before x.claim) i told
+
+    -- its request may have the wait
+    may_have : (k : Which) → wait_of before now.claims x ≡ Some k → MayHave (history_needs seats all) seat number k
+    may_have which.First told = subst (λ (o : Option Kind). IsSome o) (sym kind_there) refl
+    may_have which.Rise told =
+        let risen = and_parts (is_rising_half x.claim && not (has_read_claim now.claims x.claim)) (not (is_satisfied x)) (waits_told before now.claims x which.Rise told) in
+        let half = (and_parts (is_rising_half x.claim) (not (has_read_claim now.claims x.claim)) risen.0).0 in
+        kind_there ∙ ap Some (sym of_last.kind ∙ upgrade_is x.claim.kind (and_parts (is_upgrade x.claim.kind) x.claim.write_half half).0)
+    may_have (which.Ask i) told =
+        let waits = waits_told before now.claims x (which.Ask i) told in (
+          kind_there ∙ ap Some (sym of_last.kind ∙ nested_is x.claim.kind (pending_ask waits).nested),
+          subst (λ (parts : List Set). i < length parts) (ap asks_of_request (sym request_there))
+              (slice_get_within n.asks i x.asked (subst (λ j. slice_get n.asks j ≡ Some x.asked) (last_is i told) (ask_there waits))),
+        )
+
     -- *What is found by the key of a wait is its bound*
     found_by : (k : Which) → wait_of before now.claims x ≡ Some k → (numbers : Numbers) → IsFound groups seats cap es all (wait_end k x.claim numbers)
     found_by k told numbers = record {
       seated = below;
+      foreseen = may_have k told;
       within = subst (λ p. p < length (shapes_told all)) (sym placed) (slice_get_within (shapes_told all) place later.0 later.1);
       bound = subst (λ p. IsBoundAt p) (sym placed) (by k told);
     }
@@ -252,9 +301,8 @@ module _ (groups : ReadGroups) (seats cap : ℕ) (before : List Event) (e : Even
         by which.Rise told = same_bound which.Rise which.Rise refl
         by (which.Ask i) told =
             let waits = waits_told before now.claims x (which.Ask i) told in
-            let same : last_ask before x.claim ≡ i = is_last (waits_first now.claims x) (waits_to_rise now.claims x) (waits_for_ask now.claims x) (last_ask before x.claim) i told in
             same_bound (which.Ask i) (which.Ask (ask_of es seat))
-            (ask_of es seat, x.asked, refl, subst (λ j. slice_get n.asks j ≡ Some x.asked) same (ask_there waits), number_there waits)
+            (ask_of es seat, x.asked, refl, subst (λ j. slice_get n.asks j ≡ Some x.asked) (last_is i told) (ask_there waits), number_there waits)
 
   from_wait : (m : Moment) (x : Claimed) → Among x now.claims → (p : Option Which) → wait_of before now.claims x ≡ p → (w : WaitEnd) → ended_if before (moments o before) m x p ≡ Some w → IsFound groups seats cap es all w
   from_wait m x there None told w is = some_none (sym is)

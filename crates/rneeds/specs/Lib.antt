@@ -1,3 +1,4 @@
+pub mod Foreseen
 pub mod History
 pub mod Keys
 pub mod Knows
