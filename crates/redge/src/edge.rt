@@ -7,8 +7,8 @@ ghost use Rattle.ranswer.specs.declared.told.Told.{Told};
 ghost use Rattle.rmessages.specs.Lines.{told_lines};
 ghost use Rattle.redge.specs.Program.{ProgramAnswer, ProgramTells, RunAnswer, RunTells, ShownAnswer, ShownTells, is_replay, is_unwatched};
 
-use crate::explain::explain;
 use crate::own::own_text;
+use crate::telling::explain;
 use io_ends::{Sink, Source};
 use ranswer::{Command, ToolStatus, are_for_run, plain_of, write_output};
 use rguard::Receipt;

@@ -5,11 +5,12 @@
 #![tactic(auto)]
 
 mod edge;
-mod explain;
 mod own;
 mod progress;
+mod telling;
 mod words;
 
 pub use edge::{answer, run};
 pub use progress::Progress;
+pub use telling::explain;
 pub use words::{given_words, words_of};

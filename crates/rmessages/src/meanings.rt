@@ -58,11 +58,11 @@ pub fn meaning_in_script(code: ScriptCode) -> &'static str
         ScriptCode::UnknownName => "it names a resource that is not declared",
         ScriptCode::BadNumber => "a number of it is none, or above its limit",
         ScriptCode::EmptyGroup => "its group is empty",
-        ScriptCode::EmptyRequest => "its request is about nothing",
+        ScriptCode::EmptyRequest => "its request has nothing to read, or nothing to write",
         ScriptCode::Undeclared => "the resources to read are not declared together",
         ScriptCode::FirstOutside => "the first part is empty, or not within the request",
         ScriptCode::NotHeld =>
-            "it shows or edits what the section does not hold, or asks for nothing or for more than the request",
+            "it shows or edits what the section does not hold, or what it asks for is empty, or not within the request",
         ScriptCode::NotWritable => "it edits what the section holds for reading only",
         ScriptCode::NoEnd => "the script has no end record",
     }
@@ -74,14 +74,15 @@ pub fn meaning_of(code: Code) -> &'static str
 {
     match code {
         Code::BadField =>
-            "it is no record of this input, or a name, a number or a word of it is bad",
+            "it is no record of this input, has a bad number or word, or declares what is no name, repeated, empty or one too many",
         Code::UnknownName => "it names a task or a resource that is not declared",
         Code::BadOrder => "it may not stand at this place",
         Code::Refused(_) => "the event is refused",
-        Code::WrongChange => "another line of a change or of a wait is due here, or none",
+        Code::WrongChange =>
+            "a change or a wait is due here and this is not its line, or none is due",
         Code::WrongShow =>
-            "the answer of this act is wrong, or the section does not hold the resource",
-        Code::WrongLedger => "another ledger is due here",
+            "the number or the answer of this act is wrong, or the section may not do it here",
+        Code::WrongLedger => "a ledger is due here, and this is not its line",
         Code::NoEnd => "the input has no end record",
         Code::WrongBound => "the bound that it tells is not that of the wait",
     }
@@ -99,7 +100,8 @@ pub fn meaning_of_refusal(refusal: Refusal) -> &'static str
         Refusal::Step(Refused::NotNested) => "the request is not nested",
         Refusal::Step(Refused::AskOutside) =>
             "what is asked for is empty, or not within the request",
-        Refusal::Request(RequestErr::EmptyRequest) => "the request is about nothing",
+        Refusal::Request(RequestErr::EmptyRequest) =>
+            "the request has nothing to read, or nothing to write",
         Refusal::Request(RequestErr::Undeclared) => {
             "the resources to read are not declared together"
         }

@@ -10,7 +10,7 @@ ghost use Rattle.redge.specs.Program.{RunAnswer};
 ghost use Rattle.rnlp.specs.Counters.{counters};
 
 use io_ends::{Sink, Source, StdinSource, StdoutSink};
-use redge::{Progress, given_words, words_of};
+use redge::{Progress, explain, given_words, words_of};
 use rnlp_cli::ToolStatus;
 use rrun::NoPace;
 use rwatch::{Counter, WatchKind, Watcher, Watchers};
@@ -36,17 +36,20 @@ fn main(rt: HostRuntime) -> ExitCode {
     let mut source = Progress::new(&rt, StdinSource::new(rt.stdin()), on_terminal);
     let mut sink = StdoutSink::new(rt.stdout());
     let words = words_of(given_words(&rt));
-    code_of(run_watched(&rt, &words, &mut source, &mut sink, on_terminal))
+    code_of(
+        &rt,
+        run_watched(&rt, &words, &mut source, &mut sink, on_terminal),
+    )
 }
 
-// The exit status of a run; that of want of memory where it did not begin.
-fn code_of(ran: Result<ExitCode, AllocError>) -> ExitCode
+// The exit status of a run; that of want of memory where it did not begin, which a person is told.
+fn code_of(rt: &impl Eprint, ran: Result<ExitCode, AllocError>) -> ExitCode
     ensures ran { IfOk ran (λ code. result ≡ code) }
     ensures not_run { OnErr ran (exit_status result ≡ status_number ToolStatus.NoMemory) }
 {
     match ran {
         Ok(code) => code,
-        Err(_) => ExitCode::from(ToolStatus::NoMemory.number()),
+        Err(e) => ExitCode::from(explain(rt, ToolStatus::NoMemory, Err(e)).number()),
     }
 }
 
