@@ -123,6 +123,7 @@ fn jobs_for(
     ensures moves { IfOk result (λ v. All (λ j. IsSomeAnd j.seat (HasOnlyMoved group lock.now) × (j.from < 4) × (j.to ≡ (j.from + 1) % 4)) v.items) }
     ensures own { IfOk result (λ v. All (λ j. IsSomeAnd j.seat (λ seat. j.from ≡ seat.number % 4)) v.items) }
 {
+    // For the proof: the clauses speak of the lock, and of the set as one of resources.
     let _ = lock;
     let _ = group.len();
     let mut jobs = Vec::new(alloc);
@@ -160,6 +161,7 @@ fn seats_of(
     requires { All (λ j. IsSomeAnd j.seat (HasOnlyMoved group lock.now)) jobs.items }
     ensures { IfOk result (λ v. All (HasOnlyMoved group lock.now) v.items) }
 {
+    // For the proof, as in `jobs_for`.
     let _ = lock;
     let _ = group.len();
     let mut seats = Vec::new(alloc);
@@ -210,6 +212,7 @@ fn sum_left<M: Machine>(
     requires some { 0 < count }
     ensures { IfSome result (λ sum. sum ≡ 4000) }
 {
+    // For the proof, as in `jobs_for`.
     let _ = group.len();
     if seats.len() != usize::from(count) {
         return None;

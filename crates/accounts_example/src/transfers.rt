@@ -51,6 +51,7 @@ fn declared(alloc: Global, group: ResourceSet) -> Result<Groups, AllocError>
     ensures { IfOk result (λ groups. groups ≡ record { q = RESOURCES; groups = group ∷ [] }) }
 {
     let mut groups = Groups::new(alloc, RESOURCES as u8)?;
+    // A look at a set tells the proof that it is one of resources.
     let _ = group.len();
     match groups.declare(group) {
         Ok(()) => Ok(groups),
@@ -85,12 +86,15 @@ pub fn to_write<'a, R: Wait, M: Machine>(
     ensures entered { IfOk result (HasEntered (write_of set) seat) }
     ensures err { IfErr result (λ s. Rests (all_with group) lock.entry.now s × Goes seat [] s) }
 {
+    let none = ResourceSet::empty();
+    // For the proof, as in `declared`.
     let _ = set.len();
-    let Ok(request) = Request::new(Kind::Write, set, set, set, 1, 0) else {
+    let Ok(request) = Request::new(Kind::Write, none, set, none, 1, 0) else {
         return Err(seat);
     };
     match lock.acquire(rt, alloc, seat, request) {
         Ok(Guard::Write(guard)) => {
+            // A look at its seat tells the proof what is known of every seat.
             let _ = guard.seat();
             Ok(guard)
         }
@@ -113,12 +117,15 @@ pub fn to_read<'a, R: Wait, M: Machine>(
     ensures entered { IfOk result (HasEntered (read_of group) seat) }
     ensures err { IfErr result (λ s. Rests (all_with group) lock.entry.now s × Goes seat [] s) }
 {
+    let none = ResourceSet::empty();
+    // For the proof, as in `declared`.
     let _ = group.len();
-    let Ok(request) = Request::new(Kind::Read, group, group, group, 1, 0) else {
+    let Ok(request) = Request::new(Kind::Read, group, none, none, 1, 0) else {
         return Err(seat);
     };
     match lock.acquire(rt, alloc, seat, request) {
         Ok(Guard::Read(guard)) => {
+            // For the proof, as in `to_write`.
             let _ = guard.seat();
             Ok(guard)
         }
@@ -174,6 +181,7 @@ pub fn ended<R: Wait, M: Machine>(
     ensures told { IsTrue result.1 → IsTrue done × HasFinished guard.entry.acts guard.entry result.0 }
     ensures untold { result.1 ≡ false → HasFinished [] guard.entry result.0 }
 {
+    // For the proof: the clauses speak of the lock, and of the set as one of resources.
     let _ = lock;
     let _ = group.len();
     if !done {

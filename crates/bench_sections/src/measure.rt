@@ -138,6 +138,7 @@ fn jobs_for<M: Machine>(
     requires new { All IsNew seats.items }
     ensures { IfOk result (λ v. All (λ j. IsSomeAnd j.seat (HasMade asked.now lock.now j.set 0)) v.items) }
 {
+    // For the proof, whose clauses speak of the lock.
     let _ = lock;
     let mut jobs = Vec::new(alloc);
     for seat in seats {
@@ -173,6 +174,7 @@ fn seats_of(
     requires { All (λ j. IsSomeAnd j.seat (HasMadeAll asked.now lock.now)) jobs.items }
     ensures { IfOk result (λ v. All (HasMadeAll asked.now lock.now) v.items) }
 {
+    // For the proof, whose clauses speak of both.
     let _ = lock;
     let _ = asked;
     let mut seats = Vec::new(alloc);

@@ -28,12 +28,15 @@ fn to_write<'a, R: Wait, M: Machine>(
     ensures entered { IfOk result (HasEntered (write_of set) seat) }
     ensures err { IfErr result (Rests (no_groups RESOURCES) lock.entry.now) }
 {
+    let none = ResourceSet::empty();
+    // A look at a set tells the proof that it is one of resources.
     let _ = set.len();
-    let Ok(request) = Request::new(Kind::Write, set, set, set, 1, 0) else {
+    let Ok(request) = Request::new(Kind::Write, none, set, none, 1, 0) else {
         return Err(seat);
     };
     match lock.acquire(rt, alloc, seat, request) {
         Ok(Guard::Write(guard)) => {
+            // A look at its seat tells the proof what is known of every seat.
             let _ = guard.seat();
             Ok(guard)
         }
