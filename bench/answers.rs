@@ -19,10 +19,13 @@ use std::io::{BufWriter, Result, Write, stdout};
 
 /// The text of a number, and the answer that is due.
 fn case(word: &str, number: u64) -> (String, String) {
-    let list = List::drawn(number, word != "lists");
     match word {
-        "lists" => (list.text.clone(), list.due()),
+        "lists" => {
+            let list = List::drawn(number, false);
+            (list.text.clone(), list.due())
+        }
         "reports" => {
+            let list = List::drawn(number, true);
             let bare = list.due();
             let report = Report::drawn(list.dice, &bare);
             (report.text.clone(), report.due())

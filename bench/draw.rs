@@ -1,13 +1,39 @@
 //! What generated inputs are drawn from: sets, lengths, requests, and what a field is spoiled with.
 use crate::model::Dice;
 
-/// Fields that are none, or none at their place.
-pub const SPOILT: [&str; 14] =
-    ["", "-", "zz", "R0", "r99", "t99", "0", "1", "64", "65", "1000001", "00000000000000000000001", "18446744073709551616", "r0+-"];
+/// Fields that are none, or none at their place; and numbers of twenty digits.
+pub const SPOILT: [&str; 21] = [
+    "",
+    "-",
+    "zz",
+    "R0",
+    "r99",
+    "t99",
+    "0",
+    "1",
+    "64",
+    "65",
+    "1000001",
+    "+1",
+    "-1",
+    "00000000000000000001",
+    "000000000000000000001",
+    "18446744073709551615",
+    "18446744073709551616",
+    "r0+-",
+    "r0+",
+    "+r0",
+    "r0++r0",
+];
 
-/// The set of so many resources.
+/// The set of so many resources, 64 at most.
 pub fn all(resources: usize) -> u64 {
-    u64::MAX >> (64 - resources.max(1))
+    u64::MAX >> (64 - resources.clamp(1, 64))
+}
+
+/// Whether one more is declared of something than there may be. No other record is spoiled then, so that this one is told.
+pub fn is_too_many(resources: usize, groups: usize, tasks: usize) -> bool {
+    resources > 64 || groups > 256 || tasks > 64
 }
 
 impl Dice {
@@ -23,6 +49,25 @@ impl Dice {
     /// Once in so many times; never for 0.
     pub fn once_in(&mut self, times: usize) -> bool {
         times > 0 && self.below(times) == 0
+    }
+
+    /// What the lines of an input end with.
+    pub fn ending(&mut self) -> &'static str {
+        if self.once_in(8) { "\r\n" } else { "\n" }
+    }
+
+    /// How many resources or tasks are declared, from `least` on: one more than there may be where that is a fault that is asked for.
+    pub fn count(&mut self, least: usize, most: usize, faulty: bool) -> usize {
+        if faulty && self.once_in(50) { 65 } else { least + self.below(most + 1 - least) }
+    }
+
+    /// How many groups are declared: at times as many as there may be, or one more.
+    pub fn groups(&mut self, faulty: bool) -> usize {
+        match self.below(100) {
+            0 => 256,
+            1 if faulty => 257,
+            _ => self.below(6),
+        }
     }
 
     /// A member of a set.
@@ -57,6 +102,7 @@ impl Dice {
         match self.below(20) {
             0 => "1000000".to_string(),
             1 => format!("000{}", self.below(100)),
+            2 => format!("{:020}", self.below(100)),
             _ => self.below(12).to_string(),
         }
     }

@@ -1,11 +1,14 @@
 //! Event lists, each drawn from its number alone. About half of them have no fault. In the others some records are spoiled: a field is
 //! lost, added or exchanged, a record stands twice, at a wrong place or behind the end, an event is drawn without a look at who holds
 //! what.
-use crate::draw::{all, SPOILT};
+use crate::draw::{all, is_too_many, SPOILT};
 use crate::judge::{Fault, Judge, Place};
 use crate::model::{Dice, Kind};
 
 const MISPLACED: [&str; 7] = ["rnlp,1", "resource,r0", "group,r0", "task,t0", "cap,3", "end", "finish,t0"];
+
+/// Of how many lists one is long.
+const LONG: usize = 250;
 
 /// A list as it is drawn, with what its judge says of it.
 pub struct List {
@@ -16,15 +19,18 @@ pub struct List {
     fault: Option<(usize, Fault)>,
     /// Of how many records one is spoiled; 0 for none.
     spoils: usize,
+    /// What its lines end with.
+    ending: &'static str,
 }
 
 impl List {
     pub fn drawn(number: u64, faultless: bool) -> List {
         let mut dice = Dice::of(number);
         let spoils = if dice.below(2) == 0 || faultless { 0 } else { 4 + dice.below(60) };
-        let mut list = List { dice, judge: Judge::new(), text: String::new(), records: 0, fault: None, spoils };
+        let ending = dice.ending();
+        let mut list = List { dice, judge: Judge::new(), text: String::new(), records: 0, fault: None, spoils, ending };
         list.head();
-        let events = list.dice.below(100);
+        let events = if list.dice.once_in(LONG) { 2000 } else { list.dice.below(100) };
         for _ in 0..events {
             list.event();
         }
@@ -39,10 +45,15 @@ impl List {
 
     fn head(&mut self) {
         let (most, many) = ([2, 4, 8, 64][self.dice.below(4)], [2, 5, 9, 64][self.dice.below(4)]);
-        let (resources, tasks) = (1 + self.dice.below(most), 1 + self.dice.below(many));
+        let faulty = self.spoils > 0;
+        let (resources, tasks) = (self.dice.count(1, most, faulty), self.dice.count(1, many, faulty));
+        let groups = self.dice.groups(faulty);
+        if is_too_many(resources, groups, tasks) {
+            self.spoils = 0;
+        }
         self.put("rnlp,1".to_string());
         (0..resources).for_each(|l| self.put(format!("resource,r{l}")));
-        for _ in 0..self.dice.below(6) {
+        for _ in 0..groups {
             let group = self.dice.some(all(resources), 5);
             let field = self.dice.field(group);
             self.put(format!("group,{field}"));
@@ -102,7 +113,7 @@ impl List {
                     let at = self.dice.below(MISPLACED.len());
                     self.line(MISPLACED[at]);
                 }
-                5 => self.text.push('\n'),
+                5 => self.text.push_str(self.ending),
                 _ => fields[at] = format!("\"{}\"", fields[at]),
             }
             self.line(&fields.join(","));
@@ -114,7 +125,7 @@ impl List {
     /// Adds a line, and has it judged if it is a record and none before it has a fault.
     fn line(&mut self, line: &str) {
         self.text.push_str(line);
-        self.text.push('\n');
+        self.text.push_str(self.ending);
         if line.is_empty() {
             return;
         }

@@ -1,5 +1,5 @@
 //! Reports to be audited, each drawn from its number alone: that of a list without faults, with acts of its sections, and in about
-//! half of them with records that are spoiled.
+//! half of them with records that are spoiled. A long one has one such record.
 use crate::auditor::Auditor;
 use crate::draw::all;
 use crate::events::error_line;
@@ -18,6 +18,27 @@ const WORDS: [(&str, &str); 8] = [
     ("set", "show"),
 ];
 
+/// What a field is exchanged for.
+const WRONG: [&str; 14] = [
+    "-",
+    "zz",
+    "t0",
+    "r0",
+    "r0+",
+    "+r0",
+    "1",
+    "+1",
+    "-1",
+    "00000000000000000001",
+    "000000000000000000001",
+    "18446744073709551615",
+    "18446744073709551616",
+    "wait,t0,ask,1,0,1,1,0,1",
+];
+
+/// Of a report with more bytes than an audit reads at once, one record alone is spoiled.
+const WINDOW: usize = 65_536;
+
 pub struct Report {
     dice: Dice,
     auditor: Auditor,
@@ -26,13 +47,23 @@ pub struct Report {
     fault: Option<(usize, Fault)>,
     /// Of how many records one is spoiled; 0 for none.
     spoils: usize,
+    /// The number of the record that alone is spoiled, of a long report.
+    alone: Option<usize>,
+    /// How many records were put.
+    puts: usize,
+    /// What its lines end with.
+    ending: &'static str,
 }
 
 impl Report {
     /// Draws acts into a report without them, and spoils it.
     pub fn drawn(mut dice: Dice, bare: &str) -> Report {
-        let spoils = if dice.below(2) == 0 { 0 } else { 10 + dice.below(200) };
-        let mut report = Report { dice, auditor: Auditor::new(), text: String::new(), records: 0, fault: None, spoils };
+        let long = bare.len() > WINDOW;
+        let spoils = if long || dice.below(2) == 0 { 0 } else { 10 + dice.below(200) };
+        let alone = long.then(|| 1 + dice.below(bare.lines().count()));
+        let ending = dice.ending();
+        let (auditor, text) = (Auditor::new(), String::new());
+        let mut report = Report { dice, auditor, text, records: 0, fault: None, spoils, alone, puts: 0, ending };
         for line in bare.lines() {
             if line.starts_with("ledger,") {
                 report.ledger(line);
@@ -81,7 +112,8 @@ impl Report {
 
     /// Puts a record into the report, at times spoiled.
     fn put(&mut self, record: &str) {
-        if !self.dice.once_in(self.spoils) {
+        self.puts += 1;
+        if self.alone != Some(self.puts) && !self.dice.once_in(self.spoils) {
             return self.line(record);
         }
         let mut fields: Vec<String> = record.split(',').map(str::to_string).collect();
@@ -102,14 +134,14 @@ impl Report {
                 self.line(other[which]);
             }
             _ if declares => fields[at].push('-'),
-            _ => fields[at] = ["-", "zz", "t0", "r0", "1", "18446744073709551616", "wait,t0,ask,1,0,1,1,0,1"][self.dice.below(7)].to_string(),
+            _ => fields[at] = WRONG[self.dice.below(WRONG.len())].to_string(),
         }
         self.line(&fields.join(","));
     }
 
     fn line(&mut self, line: &str) {
         self.text.push_str(line);
-        self.text.push('\n');
+        self.text.push_str(self.ending);
         if line.is_empty() {
             return;
         }

@@ -1,7 +1,7 @@
 //! Scripts, each drawn from its number alone: tasks with sections of every kind, their acts and asks, and in about half of them records
 //! that are spoiled.
 use crate::clerk::{Clerk, Place, Section};
-use crate::draw::{all, SPOILT};
+use crate::draw::{all, is_too_many, SPOILT};
 use crate::model::{Dice, Kind};
 
 const MISPLACED: [&str; 12] = [
@@ -17,17 +17,25 @@ pub struct Script {
     fault: Option<(usize, u8)>,
     /// Of how many records one is spoiled; 0 for none.
     spoils: usize,
+    /// What its lines end with.
+    ending: &'static str,
 }
 
 impl Script {
     pub fn drawn(number: u64) -> Script {
         let mut dice = Dice::of(number);
         let spoils = if dice.below(2) == 0 { 0 } else { 4 + dice.below(60) };
-        let mut script = Script { dice, clerk: Clerk::new(), text: String::new(), records: 0, fault: None, spoils };
+        let ending = dice.ending();
+        let mut script = Script { dice, clerk: Clerk::new(), text: String::new(), records: 0, fault: None, spoils, ending };
+        let (faulty, least) = (spoils > 0, if spoils > 0 { 0 } else { 1 });
         let (most, many) = ([2, 4, 8, 64][script.dice.below(4)], [2, 5, 9, 64][script.dice.below(4)]);
-        let (resources, tasks) = (script.dice.below(most + 1), script.dice.below(many + 1));
-        script.head(if spoils == 0 { resources.max(1) } else { resources });
-        for task in 0..if spoils == 0 { tasks.max(1) } else { tasks } {
+        let (resources, tasks) = (script.dice.count(least, most, faulty), script.dice.count(least, many, faulty));
+        let groups = script.dice.groups(faulty) * resources.min(1);
+        if is_too_many(resources, groups, tasks) {
+            script.spoils = 0;
+        }
+        script.head(resources, groups);
+        for task in 0..tasks {
             script.put(&format!("task,t{task}"));
             for _ in 0..script.dice.below(6) {
                 script.section();
@@ -39,10 +47,10 @@ impl Script {
         script
     }
 
-    fn head(&mut self, resources: usize) {
+    fn head(&mut self, resources: usize, groups: usize) {
         self.put("rnlp,1");
         (0..resources).for_each(|l| self.put(&format!("resource,r{l}")));
-        for _ in 0..self.dice.below(6) * resources.min(1) {
+        for _ in 0..groups {
             let group = self.dice.some(all(resources), 5);
             let field = self.dice.field(group);
             self.put(&format!("group,{field}"));
@@ -73,11 +81,15 @@ impl Script {
             }
             1 if request.kind == Kind::Upgrade && !risen || blind => "rise".to_string(),
             2 if edited != 0 => {
-                let (word, amount) = (["add", "take", "set"][self.dice.below(3)], self.dice.below(1000));
+                let (word, amount) = (["add", "take", "set"][self.dice.below(3)], self.amount());
                 format!("{word},r{},{amount}", self.dice.member(edited))
             }
             _ => format!("show,r{}", self.dice.member(shown)),
         }
+    }
+
+    fn amount(&mut self) -> u64 {
+        if self.dice.once_in(20) { u64::MAX } else { self.dice.below(1000) as u64 }
     }
 
     /// Puts a record into the script, at times spoiled.
@@ -107,7 +119,7 @@ impl Script {
 
     fn line(&mut self, line: &str) {
         self.text.push_str(line);
-        self.text.push('\n');
+        self.text.push_str(self.ending);
         if line.is_empty() {
             return;
         }

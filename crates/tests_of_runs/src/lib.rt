@@ -4,6 +4,8 @@
 #[cfg(test)]
 mod runs;
 #[cfg(test)]
+mod sections;
+#[cfg(test)]
 mod stopping;
 #[cfg(test)]
 mod tools;

@@ -22,8 +22,8 @@ const SCRIPT: &str = "rnlp,1\nresource,a\nresource,b\n\
     task,u\nupgrade,a,1,1\nshow,a\nrise\nadd,a,1\nfinish\n\
     task,n\nnested,-,a+b,b,1\nadd,b,1\nask,a\nadd,a,1\nfinish\nend\n";
 
-// A runtime over what the script declares, with a seat for each task.
-fn opened_for(
+/// A runtime over what the script declares, with a seat for each task.
+pub fn opened_for(
     alloc: Global,
     script: &Script,
 ) -> Result<(Rnlp<Ledger, Plain>, Vec<Seat<Ledger, Plain>>), AllocError>

@@ -1,5 +1,5 @@
 // Sources and sinks that fail.
-use crate::runs::{Given, SMALLEST, SMALLEST_REPORT, ends};
+use crate::runs::{Given, SMALLEST, SMALLEST_REPORT, ends, trickles};
 use rnlp_cli::ToolStatus;
 use std::alloc::Global;
 use std::test::Fail;
@@ -41,6 +41,71 @@ fn a_write_that_fails_is_told(rt: HostRuntime) -> Result<(), Fail> {
 #[test]
 fn a_fault_of_the_input_comes_before_one_of_the_sink(rt: HostRuntime) -> Result<(), Fail> {
     let told = ends(rt.alloc(), replay(b"", &[], &[1]), ToolStatus::Trace, b"")?;
+    assert!(rt; told);
+    Ok(())
+}
+
+// Whether a replay of the smallest list, one byte a read and one a write, on which these reads and writes fail, ends with this
+// status and has written this.
+fn trickling(
+    alloc: Global,
+    reads: &[u64],
+    writes: &[u64],
+    status: ToolStatus,
+    output: &[u8],
+) -> Result<bool, Fail> {
+    trickles(alloc, replay(SMALLEST, reads, writes), 1, status, output)
+}
+
+// Whether a read that fails is told, and nothing is written, whichever it is: one of those that give a byte, or the last, which
+// finds the end. One behind them is never made.
+fn each_read_may_fail(alloc: Global) -> Result<bool, Fail> {
+    let past = SMALLEST.len() as u64 + 2;
+    for k in 1..past {
+        if !trickling(alloc, &[k], &[], ToolStatus::ReadFault, b"")? {
+            return Ok(false);
+        }
+    }
+    trickling(alloc, &[past], &[], ToolStatus::Done, SMALLEST_REPORT)
+}
+
+#[test]
+fn each_read_that_fails_is_told(rt: HostRuntime) -> Result<(), Fail> {
+    let told = each_read_may_fail(rt.alloc())?;
+    assert!(rt; told);
+    Ok(())
+}
+
+// Whether a write that fails is told, and just the bytes before it are written, whichever it is. One behind the last is never
+// made.
+fn each_write_may_fail(alloc: Global) -> Result<bool, Fail> {
+    for before in 0..SMALLEST_REPORT.len() {
+        let fails = before as u64 + 1;
+        let written = &SMALLEST_REPORT[..before];
+        if !trickling(alloc, &[], &[fails], ToolStatus::WriteFault, written)? {
+            return Ok(false);
+        }
+    }
+    let past = SMALLEST_REPORT.len() as u64 + 1;
+    trickling(alloc, &[], &[past], ToolStatus::Done, SMALLEST_REPORT)
+}
+
+#[test]
+fn each_write_that_fails_is_told(rt: HostRuntime) -> Result<(), Fail> {
+    let told = each_write_may_fail(rt.alloc())?;
+    assert!(rt; told);
+    Ok(())
+}
+
+#[test]
+fn a_fault_of_a_report_comes_before_one_of_the_sink(rt: HostRuntime) -> Result<(), Fail> {
+    let audit = Given {
+        word: "audit",
+        input: b"",
+        reads: &[],
+        writes: &[1],
+    };
+    let told = ends(rt.alloc(), audit, ToolStatus::Trace, b"")?;
     assert!(rt; told);
     Ok(())
 }

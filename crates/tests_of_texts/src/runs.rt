@@ -1,4 +1,6 @@
 // Runs over memory, and whether they end as they should.
+ghost use Rattle.std.specs.Prelude.{◌≤◌};
+
 use io_ends::{MemSink, MemSource};
 use rnlp_cli::{ToolStatus, plain_tool};
 use rwatch::Watchers;
@@ -33,6 +35,25 @@ pub fn ends(
     words.push(String::from_str(alloc, given.word)?)?;
     let mut source = MemSource::new(given.input.to_vec(alloc)?, given.reads.to_vec(alloc)?);
     let mut sink = MemSink::new(alloc, ROOM, given.writes.to_vec(alloc)?)?;
+    let mut nobody = Watchers::new(Vec::new(alloc));
+    let answer = plain_tool(alloc, &words, &mut source, &mut sink, &mut nobody);
+    Ok(answer == status && sink.written() == output)
+}
+
+/// The same of a run whose input comes one byte a read, and whose output goes at most so many bytes a write.
+pub fn trickles(
+    alloc: Global,
+    given: Given<'_>,
+    most: usize,
+    status: ToolStatus,
+    output: &[u8],
+) -> Result<bool, Fail>
+    requires { 1 ≤ most }
+{
+    let mut words = Vec::new(alloc);
+    words.push(String::from_str(alloc, given.word)?)?;
+    let mut source = MemSource::short(given.input.to_vec(alloc)?, given.reads.to_vec(alloc)?, 1);
+    let mut sink = MemSink::short(alloc, ROOM, given.writes.to_vec(alloc)?, most)?;
     let mut nobody = Watchers::new(Vec::new(alloc));
     let answer = plain_tool(alloc, &words, &mut source, &mut sink, &mut nobody);
     Ok(answer == status && sink.written() == output)

@@ -1,9 +1,8 @@
 // Audits of reports that come little by little.
-use crate::runs::SMALLEST_REPORT;
-use io_ends::{MemSink, MemSource};
-use rnlp_cli::{ToolStatus, plain_tool};
+use crate::runs::{Given, SMALLEST_REPORT, trickles};
+use io_ends::MemSource;
+use rnlp_cli::ToolStatus;
 use rtrace::{AuditErr, audit_stream};
-use rwatch::Watchers;
 use std::alloc::Global;
 use std::test::Fail;
 
@@ -40,13 +39,13 @@ fn audits(
     status: ToolStatus,
     output: &[u8],
 ) -> Result<bool, Fail> {
-    let mut words = Vec::new(alloc);
-    words.push(String::from_str(alloc, "audit")?)?;
-    let mut source = MemSource::short(report.to_vec(alloc)?, reads.to_vec(alloc)?, 1);
-    let mut sink = MemSink::short(alloc, 100, Vec::new(alloc), 2)?;
-    let mut nobody = Watchers::new(Vec::new(alloc));
-    let answer = plain_tool(alloc, &words, &mut source, &mut sink, &mut nobody);
-    Ok(answer == status && sink.written() == output)
+    let given = Given {
+        word: "audit",
+        input: report,
+        reads,
+        writes: &[],
+    };
+    trickles(alloc, given, 2, status, output)
 }
 
 // What an audit of a report of at most so many bytes answers: its events and waits, or its error.
