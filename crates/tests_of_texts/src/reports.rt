@@ -9,8 +9,8 @@ use rtrace::{TextErr, read_events, read_report};
 use std::alloc::Global;
 use std::test::Fail;
 
-// A report whose sections edit, show, ask and rise, as it is written.
-const REPORT: &str = "rnlp,1
+/// A report whose sections edit, show, ask and rise, as it is written.
+pub const REPORT: &str = "rnlp,1
 resource,a
 resource,e
 task,t1

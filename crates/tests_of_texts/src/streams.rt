@@ -1,4 +1,5 @@
 // Audits of reports that come little by little.
+use crate::reports::REPORT;
 use crate::runs::{Given, SMALLEST_REPORT, trickles};
 use io_ends::MemSource;
 use rnlp_cli::ToolStatus;
@@ -14,7 +15,11 @@ const SECTION: &[u8] =
 const WRONG: &[u8] =
     b"rnlp,1\nresource,a\ntask,t1\ncap,1\nissue,t1,write,a,1\nnow,t1,write,satisfied\ngrant,t1,a\nfinish,t1\nadd,a,5,yes\ntake,a,9,no\nshow,a,6\nledger,a,5,1\nend\n";
 
-// The same, with its fields in quotes, and a line end of two bytes.
+// The first, with another number of edits in its ledger.
+const WRONG_EDITS: &[u8] =
+    b"rnlp,1\nresource,a\ntask,t1\ncap,1\nissue,t1,write,a,1\nnow,t1,write,satisfied\ngrant,t1,a\nfinish,t1\nadd,a,5,yes\ntake,a,9,no\nshow,a,5\nledger,a,5,2\nend\n";
+
+// The smallest, with its fields in quotes, and a line end of two bytes.
 const QUOTED: &[u8] =
     b"\"rnlp\",1\r\nresource,a\r\ntask,\"t1\"\r\ncap,1\r\nledger,a,0,0\r\nend\r\n";
 
@@ -29,6 +34,22 @@ const WRONG_BOUND: &[u8] =
 // The same, with a wrong ledger behind it.
 const WRONG_LEDGER: &[u8] =
     b"rnlp,1\nresource,a\nresource,b\ntask,t1\ntask,t2\ntask,t3\ncap,3\nissue,t1,write,a+b,2\nnow,t1,write,satisfied\ngrant,t1,a+b\nissue,t2,read,a,1\nnow,t2,read,entitled\nissue,t3,write,b,1\nfinish,t1\nnow,t2,read,satisfied\nnow,t3,write,satisfied\ngrant,t2,a\ngrant,t3,b\nwait,t2,first,0,1,2,0,1,3\nwait,t3,first,0,1,2,2,1,4\nledger,a,0,0\nledger,b,0,1\nend\n";
+
+// What three reports over two read groups begin with: a write is satisfied.
+const TWO_GROUPS: &[u8] =
+    b"rnlp,1\nresource,a\nresource,b\nresource,c\nresource,e\ngroup,a+b\ngroup,b+c\ntask,t1\ntask,t2\ntask,t3\ntask,t4\ncap,4\nissue,t1,write,a,2\nnow,t1,write,satisfied\ngrant,t1,a\n";
+
+// A read that is satisfied is told to be entitled.
+const WRONG_CHANGE: &[u8] =
+    b"issue,t2,read,b,1\nnow,t2,read,entitled\ngrant,t2,b\nledger,a,0,0\nledger,b,0,0\nledger,c,0,0\nledger,e,0,0\nend\n";
+
+// The end is missing.
+const NO_END: &[u8] =
+    b"issue,t2,read,b,1\nnow,t2,read,satisfied\ngrant,t2,b\nledger,a,0,0\nledger,b,0,0\nledger,c,0,0\nledger,e,0,0\n";
+
+// The bound of a wait is too high.
+const WRONG_WAIT: &[u8] =
+    b"issue,t2,write,b,5\nfinish,t1\nnow,t2,write,satisfied\ngrant,t2,b\nwait,t2,first,0,1,2,0,1,3\nledger,a,0,0\nledger,b,0,0\nledger,c,0,0\nledger,e,0,0\nend\n";
 
 // Whether an audit of a report that comes one byte a read, of which reads with these numbers fail, ends with this status,
 // and writes this two bytes a write.
@@ -48,6 +69,13 @@ fn audits(
     trickles(alloc, given, 2, status, output)
 }
 
+// Whether an audit of such a report, whose rest this is, refuses it with this line.
+fn refuses(alloc: Global, rest: &[u8], line: &[u8]) -> Result<bool, Fail> {
+    let mut report = TWO_GROUPS.to_vec(alloc)?;
+    report.extend_from_slice(rest)?;
+    audits(alloc, &report, &[], ToolStatus::Trace, line)
+}
+
 // What an audit of a report of at most so many bytes answers: its events and waits, or its error.
 fn counts(alloc: Global, report: &[u8], limit: u64) -> Result<Result<(u64, u64), AuditErr>, Fail> {
     let mut source = MemSource::new(report.to_vec(alloc)?, Vec::new(alloc));
@@ -62,6 +90,7 @@ fn a_report_may_come_byte_by_byte(rt: HostRuntime) -> Result<(), Fail> {
     let alloc = rt.alloc();
     let all = audits(alloc, SECTION, &[], ToolStatus::Done, b"audit,2,0\nend\n")?
         && audits(alloc, WRONG, &[], ToolStatus::Trace, b"error,11,6\n")?
+        && audits(alloc, WRONG_EDITS, &[], ToolStatus::Trace, b"error,12,7\n")?
         && audits(alloc, QUOTED, &[], ToolStatus::Done, b"audit,0,0\nend\n")?
         && audits(
             alloc,
@@ -80,6 +109,30 @@ fn waits_may_come_byte_by_byte(rt: HostRuntime) -> Result<(), Fail> {
     let all = audits(alloc, WAITS, &[], ToolStatus::Done, b"audit,4,2\nend\n")?
         && audits(alloc, WRONG_BOUND, &[], ToolStatus::Trace, b"error,19,9\n")?
         && audits(alloc, WRONG_LEDGER, &[], ToolStatus::Trace, b"error,22,7\n")?;
+    assert!(rt; all);
+    Ok(())
+}
+
+#[test]
+fn asks_and_a_rise_may_come_byte_by_byte(rt: HostRuntime) -> Result<(), Fail> {
+    let report = REPORT.as_bytes();
+    let done = audits(
+        rt.alloc(),
+        report,
+        &[],
+        ToolStatus::Done,
+        b"audit,6,0\nend\n",
+    )?;
+    assert!(rt; done);
+    Ok(())
+}
+
+#[test]
+fn faults_of_three_sorts_may_come_byte_by_byte(rt: HostRuntime) -> Result<(), Fail> {
+    let alloc = rt.alloc();
+    let all = refuses(alloc, WRONG_CHANGE, b"error,17,5\n")?
+        && refuses(alloc, NO_END, b"error,23,8\n")?
+        && refuses(alloc, WRONG_WAIT, b"error,20,9\n")?;
     assert!(rt; all);
     Ok(())
 }
