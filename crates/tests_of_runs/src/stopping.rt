@@ -1,4 +1,5 @@
-//! Tasks of scripts that are stopped for want of memory, and tasks that are not.
+//! Tasks of scripts that are stopped for want of memory, and tasks that are not. The gate refuses no growth, so that no task is
+//! stopped in it: `rt try --test --fail-alloc N` refuses one, by hand.
 ghost use Rattle.std.specs.Prelude.{◌≡◌, IfOk};
 ghost use Rattle.rrun.specs.Reporting.{HasOpened};
 ghost use Rattle.rtasks.specs.Tasks.{AreSeatsFor};
