@@ -1,20 +1,17 @@
 -- What a run answers, and the receipts that it hands out, from how it ended.
-use Rattle.std.proofs.Common.{◌≡◌, ℕ, Bool, true, false, List, [], ◌∷◌, ◌++◌, codes, Option, Some, None, refl, sym, subst, inl, inr}
-use Rattle.std.specs.Prelude.{IfSome, if◌then◌else◌, option_map}
-use Rattle.std.specs.Str.{bytes_eq}
+use Rattle.std.proofs.Common.{◌≡◌, ℕ, List, [], Option, Some, None, refl, subst}
+use Rattle.std.specs.Prelude.{IfSome}
 use Rattle.rforms.specs.Reports.{Entry}
 use Rattle.rforms.specs.Texts.{report_text}
-use Rattle.rreport.specs.Report.{ReportFields, told_by}
+use Rattle.rreport.specs.Report.{told_by}
 use Rattle.rscript.specs.Scripts.{ScriptFields, IsTextOf}
-use Rattle.rrun.specs.Reporting.{IsReportOf}
 use Rattle.rwatch.specs.Seen.{Seen}
-use Rattle.ranswer.specs.Words.{plain_in, bounds_under, cap_in, events_told}
 use Rattle.ranswer.specs.Reading.{NotRead}
-use Rattle.ranswer.specs.Receipts.{OneMore, RunReceipts, Receipts}
+use Rattle.ranswer.specs.Receipts.{OneMore, RunReceipts}
 use Rattle.ranswer.specs.Running.{IsReported, IsRun}
-use Rattle.ranswer.specs.Writing.{IsAnswer, IsWritten, IsTold}
+use Rattle.ranswer.specs.Writing.{IsAnswer}
 use Rattle.ranswer.specs.declared.command.Command.{Command}
-use Rattle.ranswer.specs.declared.command.Command.TheVariants.{Run, Replay, Audit, Bound, Drill}
+use Rattle.ranswer.specs.declared.command.Command.TheVariants.{Run}
 use Rattle.ranswer.specs.declared.status.ToolStatus.{ToolStatus}
 use Rattle.ranswer.specs.declared.status.ToolStatus.TheVariants as status
 
@@ -64,12 +61,6 @@ receipts_left left bytes written written_after before after status.Script whole 
 receipts_left left bytes written written_after before after status.TooLong whole h = h
 receipts_left left bytes written written_after before after status.Trace whole h = h
 
--- the line of a fault was told, or memory ran out: the receipts are as they were
-pub told_receipts : (left before after : Option (List ℕ)) (line : List ℕ) (quiet failed same : Type 0) (receipts : List (List Entry)) (s : ToolStatus)
-    → IsTold line before after quiet failed same status.Script s → RunReceipts left before after receipts receipts s
-told_receipts left before after line quiet failed same receipts s (inl h) = subst (λ (t : ToolStatus). RunReceipts left before after receipts receipts t) (sym h.0) refl
-told_receipts left before after line quiet failed same receipts s (inr h) = subst (λ (t : ToolStatus). RunReceipts left before after receipts receipts t) (sym h.0) refl
-
 -- an input that was not read hands out nothing
 pub unread_receipts : {S : Type 0} (lefts : S → Option (List ℕ)) (reads : S → ℕ) (asked : Option Command) (source source' : S) (left before after : Option (List ℕ)) (receipts : List (List Entry)) (s : ToolStatus)
     → NotRead lefts reads asked source source' s → RunReceipts left before after receipts receipts s
@@ -81,61 +72,3 @@ unread_receipts lefts reads asked source source' left before after receipts stat
 unread_receipts lefts reads asked source source' left before after receipts status.WriteFault h = absurd h
 unread_receipts lefts reads asked source source' left before after receipts status.Script h = absurd h
 unread_receipts lefts reads asked source source' left before after receipts status.Trace h = absurd h
-
--- the report of a run that was written, with its receipt; this is not want of memory
-pub reported : (script : ScriptFields) (report : ReportFields) (before after : Option (List ℕ)) (quiet failed same : Type 0) (receipts later : List (List Entry)) (s : ToolStatus)
-    → IsReportOf script report → IsWritten (report_text (told_by report)) before after quiet failed same s → (s ≡ status.NoMemory → ⊥) → later ≡ receipts ++ report.entries ∷ []
-    → IsRun script before after quiet failed same receipts later s
-reported script report before after quiet failed same receipts later status.Done is h some more = (h.0, (report, is, h.1, more))
-reported script report before after quiet failed same receipts later status.WriteFault is h some more = (h.0, (report, is, h.1, more))
-reported script report before after quiet failed same receipts later status.NoMemory is h some more = absurd (some refl)
-reported script report before after quiet failed same receipts later status.Words is h some more = absurd h
-reported script report before after quiet failed same receipts later status.ReadFault is h some more = absurd h
-reported script report before after quiet failed same receipts later status.Script is h some more = absurd h
-reported script report before after quiet failed same receipts later status.TooLong is h some more = absurd h
-reported script report before after quiet failed same receipts later status.Trace is h some more = absurd h
-
--- ---- words
-
-neither : (b : Bool) (x o : Option Command) → (x ≡ Some Run → ⊥) → (o ≡ Some Run → ⊥) → (if b then x else o) ≡ Some Run → ⊥
-neither true x o first other e = first e
-neither false x o first other e = other e
-
-nothing_is_no_run : ◌≡◌ {A = Option Command} None (Some Run) → ⊥
-nothing_is_no_run e = cc
-
-no_drill : (n : Option ℕ) → option_map Drill n ≡ Some Run → ⊥
-no_drill None e = cc
-no_drill (Some n) e = cc
-
-no_bounds : (n : Option ℕ) → option_map bounds_under n ≡ Some Run → ⊥
-no_bounds None e = cc
-no_bounds (Some n) e = cc
-
-no_audit_on : (word : List ℕ) → (if bytes_eq word (codes "audit") then Some Audit else if bytes_eq word (codes "bound") then Some (Bound None) else None) ≡ Some Run → ⊥
-no_audit_on word e =
-    neither (bytes_eq word (codes "audit")) (Some Audit) _ (λ h. cc) (λ h. neither (bytes_eq word (codes "bound")) (Some (Bound None)) None (λ k. cc) nothing_is_no_run h) e
-
--- the tools that wait for nobody are asked for no run
-never_run : (words : List (List ℕ)) → plain_in words ≡ Some Run → ⊥
-never_run [] e = nothing_is_no_run e
-never_run (word ∷ []) e = neither (bytes_eq word (codes "replay")) (Some Replay) _ (λ h. cc) (no_audit_on word) e
-never_run (word ∷ number ∷ []) e =
-    neither (bytes_eq word (codes "drill")) (option_map Drill (events_told number)) _ (no_drill (events_told number))
-    (λ h. neither (bytes_eq word (codes "bound")) (option_map bounds_under (cap_in number)) None (no_bounds (cap_in number)) nothing_is_no_run h) e
-never_run (word ∷ number ∷ next ∷ words) e = nothing_is_no_run e
-
--- so they hand out no receipt
-unmoved : (asked : Option Command) (left before after : Option (List ℕ)) (receipts later : List (List Entry)) (s : ToolStatus) → (asked ≡ Some Run → ⊥) → later ≡ receipts → Receipts asked left before after receipts later s
-unmoved None left before after receipts later s other same = same
-unmoved (Some Run) left before after receipts later s other same = absurd (other refl)
-unmoved (Some Replay) left before after receipts later s other same = same
-unmoved (Some Audit) left before after receipts later s other same = same
-unmoved (Some (Bound cap)) left before after receipts later s other same = same
-unmoved (Some (Drill count)) left before after receipts later s other same = same
-
-pub plain_receipts : (words : List (List ℕ)) (left before after : Option (List ℕ)) (receipts : List (List Entry)) (s : ToolStatus) → Receipts (plain_in words) left before after receipts receipts s
-plain_receipts words left before after receipts s = unmoved (plain_in words) left before after receipts receipts s (never_run words) refl
-
-pub wrong_receipts : (asked : Option Command) (left before after : Option (List ℕ)) (receipts : List (List Entry)) (s : ToolStatus) → asked ≡ None → Receipts asked left before after receipts receipts s
-wrong_receipts asked left before after receipts s none = subst (λ o. Receipts o left before after receipts receipts s) (sym none) refl

@@ -7,9 +7,9 @@ use Rattle.rforms.specs.Reports.{Report}
 use Rattle.rforms.specs.Texts.{IsTextOf, report_text}
 use Rattle.rwatch.specs.Seen.{Seen, told_all}
 use Rattle.ranswer.specs.Words.{run_in}
-use Rattle.ranswer.specs.Outputs.{input_of, told_drill}
+use Rattle.ranswer.specs.Outputs.{input_of}
 use Rattle.ranswer.specs.Reading.{NotRead}
-use Rattle.ranswer.specs.Watched.{list_steps, AreToldList, ReplayWatched, DrillWatched, Watched}
+use Rattle.ranswer.specs.Watched.{list_steps, AreToldList, ReplayWatched, Watched}
 use Rattle.ranswer.specs.Writing.{IsTold, IsWritten}
 use Rattle.ranswer.specs.declared.command.Command.{Command}
 use Rattle.ranswer.specs.declared.command.Command.TheVariants.{Run, Replay, Audit, Bound, Drill}
@@ -27,17 +27,6 @@ replay_watched bytes text report before after quiet failed ws later status.ReadF
 replay_watched bytes text report before after quiet failed ws later status.Script spelled is h told = absurd h
 replay_watched bytes text report before after quiet failed ws later status.TooLong spelled is h told = absurd h
 replay_watched bytes text report before after quiet failed ws later status.Trace spelled is h told = absurd h
-
--- a drill whose summary was written without want of memory
-pub drill_watched : (count : ℕ) (text : List ℕ) (before after : Option (List ℕ)) (quiet failed : Type 0) (ws later : List Seen) (s : ToolStatus) → IsWritten text before after quiet failed ⊥ s → later ≡ told_drill count ws → DrillWatched count ws later s
-drill_watched count text before after quiet failed ws later status.Done h told = told
-drill_watched count text before after quiet failed ws later status.WriteFault h told = told
-drill_watched count text before after quiet failed ws later status.NoMemory h told = absurd h
-drill_watched count text before after quiet failed ws later status.Words h told = absurd h
-drill_watched count text before after quiet failed ws later status.ReadFault h told = absurd h
-drill_watched count text before after quiet failed ws later status.Script h told = absurd h
-drill_watched count text before after quiet failed ws later status.TooLong h told = absurd h
-drill_watched count text before after quiet failed ws later status.Trace h told = absurd h
 
 -- the line of a fault was told, or memory ran out: the watchers are as they were
 pub told_watched : (left before after : Option (List ℕ)) (line : List ℕ) (quiet failed same : Type 0) (ws : List Seen) (s : ToolStatus) → IsTold line before after quiet failed same status.Trace s → ReplayWatched left before after ws ws s

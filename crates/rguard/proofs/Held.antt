@@ -85,11 +85,3 @@ module _ {V E : Type 0} (after : V → E → V) (taken : V → E → Bool) (numb
   reads_acquired {M} site seat r guard acquired l plain is has lawful own there =
       let now : HasAcquired site seat r (Read guard) = subst (λ (x : Guard V M E). HasAcquired site seat r x) is has in
       may_read seat guard.seat r l plain now.goes lawful own now.ready there
-
--- what is held for writing is held
-pub held_to_write : {V E : Type 0} (seat : SeatOf V E) (l : ℕ) → HoldingToWrite seat l → Holding seat l
-held_to_write seat l writes b opens = either (contains (holds_of (lock_after b seat.seen).claims seat.number).reads l) (contains (holds_of (lock_after b seat.seen).claims seat.number).writes l) (writes b opens)
-  where
-    either : (x y : Bool) → y ≡ true → (x || y) ≡ true
-    either true y h = refl
-    either false y h = h

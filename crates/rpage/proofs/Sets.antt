@@ -1,5 +1,5 @@
 -- The text of a set, as it is written name by name.
-use Rattle.std.proofs.Common.{◌≡◌, ℕ, List, [], ◌∷◌, ◌++◌, map, true, refl, sym, ap, ◌∙◌, append_assoc}
+use Rattle.std.proofs.Common.{◌≡◌, ℕ, List, [], ◌∷◌, ◌++◌, map, true, refl, sym, ap, ◌∙◌}
 use Rattle.std.proofs.lemmas.List.{append-nil}
 use Rattle.std.specs.List.{join_with_byte}
 use Rattle.std.specs.FinSet.{empty}
@@ -33,15 +33,6 @@ set_separated resources s below some =
 pub empty_text : (resources : List (List ℕ)) (s : Set) → s ≡ empty → behind_comma (set_text resources s) ≡ 44 ∷ 45 ∷ []
 unfolding set_text
 empty_text resources s e = ap (λ t. behind_comma (joined (map (name_at resources) (rising t)))) e ∙ ap (λ xs. behind_comma (joined (map (name_at resources) xs))) rising_empty
-
--- one name is written, and the rest is left
-pub name_written : (f : ℕ → List ℕ) (text all : List ℕ) (c n : ℕ) (now rest : List ℕ)
-    → text ++ separated c (map f now) ≡ all → now ≡ n ∷ rest → ((text ++ c ∷ []) ++ f n) ++ separated 43 (map f rest) ≡ all
-name_written f text all c n now rest e head =
-    append_assoc (text ++ c ∷ []) (f n) (separated 43 (map f rest))
-    ∙ append_assoc text (c ∷ []) (f n ++ separated 43 (map f rest))
-    ∙ ap (λ xs. text ++ separated c (map f xs)) (sym head)
-    ∙ e
 
 -- nothing is left
 pub all_written : (f : ℕ → List ℕ) (text all : List ℕ) (c : ℕ) (now : List ℕ) → text ++ separated c (map f now) ≡ all → now ≡ [] → text ≡ all

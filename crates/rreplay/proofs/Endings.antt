@@ -68,9 +68,6 @@ module _ (whole : Bool) (reading : Reading) (s : SoFar) (k : Knows whole reading
     pub some_groups : IsSome reading.groups
     some_groups = ap is_some groups_are
 
-pub so_many : (whole : Bool) (reading : Reading) (s : SoFar) → Knows whole reading s → length reading.ledgers.items ≡ length reading.resources
-so_many whole reading s k = k.ledgers.many ∙ ap (λ (xs : List (List ℕ)). length xs) (sym k.resources)
-
 -- what was made behind a list without events was told all of it
 pub told_none : (t : Telling) (reading : Reading) (s : SoFar) → Knows false reading s → is_ended s ≡ true → t.names ≡ names_read reading
     → ((groups : ReadGroups) (cap : ℕ) → KnowsGathered t.gathered (begun groups (length reading.tasks) cap) []) → entries_in s ≡ [] → KnowsTelling t s

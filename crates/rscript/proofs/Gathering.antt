@@ -1,7 +1,7 @@
 -- What the statements of a task need, gathered one after another.
 use Rattle.std.proofs.Common.{◌≡◌, ◌≤◌, ◌<◌, ◌+◌, ℕ, zero, suc, true, List, [], ◌∷◌, ◌++◌, length, map, take, fold, get_or, set, Option, Some, None, refl, sym, ap, subst, ◌∙◌, arith, append_assoc}
 use Rattle.std.specs.Prelude.{slice_get}
-use Rattle.std.proofs.lemmas.List.{append-nil, take_more, take_all, set-get_or, get_or-set_same, length-set}
+use Rattle.std.proofs.lemmas.List.{append-nil, take_more, take_all, set-get_or, get_or-set_same}
 use Rattle.rset.specs.Sets.{Set}
 use Rattle.rclaim.specs.Requests.{RequestFields}
 use Rattle.rmodel.specs.Claims.{is_nested}
@@ -169,9 +169,6 @@ goes_on first now task ss i s less at within are so =
     (subst (λ (ns : List RequestNeeds). GoesOn first.groups.q ns s) (sym (get_or-set_same first.tasks task (requests_in (take i ss)) [] within))
     (subst (λ (x : Statement). GoesOn first.groups.q (requests_in (take i ss)) x) (sym at)
     (fitting first.groups.q first.groups.groups (take i ss) (get_or ss i s) (fits_at first.groups.q first.groups.groups [] ss i s are.turns less))))
-
-pub stays_within : (first now : TaskNeeds) (task : ℕ) (ss : List Statement) (i : ℕ) → task < length first.tasks → HasPut first now task ss i → task < length now.tasks
-stays_within first now task ss i within so = subst (λ (n : TaskNeeds). task < length n.tasks) (sym so.is) (omega (arith, length-set first.tasks task (requests_in (take i ss))))
 
 -- ---- all tasks
 

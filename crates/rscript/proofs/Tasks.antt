@@ -1,17 +1,13 @@
 -- The statements of each task of a script, for those who run it.
-use Rattle.std.proofs.Common.{◌≡◌, ℕ, zero, suc, true, List, [], ◌∷◌, ◌++◌, length, Some, refl, sym, subst, ◌∙◌, append_assoc, false, IsTrue}
+use Rattle.std.proofs.Common.{◌≡◌, ℕ, zero, suc, List, [], ◌∷◌, ◌++◌, length, Some, sym, subst, append_assoc}
 use Rattle.std.proofs.lemmas.List.{append-nil}
 use Rattle.std.specs.Prelude.{slice_get}
 use Rattle.std.specs.List.{AllByRecursion}
 use Rattle.rset.specs.Sets.{Set}
-use Rattle.rclaim.specs.Requests.{RequestFields}
-use Rattle.rmodel.specs.Claims.{is_admitted}
 use Rattle.rvalue.specs.InTurn.{AllInTurn}
 use Rattle.rforms.proofs.facts.Choices.{some_is, some_none}
 use Rattle.rscript_records.specs.Statements.{FitsBehind, IsTask}
 use Rattle.rscript_records.specs.declared.statement.Statement.{Statement}
-use Rattle.rscript_records.specs.declared.statement.Statement.TheVariants as statement
-use Rattle.rscript_records.proofs.facts.Causes.{undeclared}
 use Rattle.rscript.specs.Scripts.{ScriptFields, IsScript}
 
 at_place : {X : Type 0} (P : X → Type 0) (xs : List X) (k : ℕ) (x : X) → AllByRecursion P xs → slice_get xs k ≡ Some x → P x
@@ -28,11 +24,3 @@ pub fits_at : (q : ℕ) (groups : List Set) (earlier before : List Statement) (s
 fits_at q groups earlier [] s rest turns = subst (λ (xs : List Statement). FitsBehind q groups xs s) (sym (append-nil earlier)) turns.0
 fits_at q groups earlier (x ∷ before) s rest turns =
     subst (λ (xs : List Statement). FitsBehind q groups xs s) (append_assoc earlier (x ∷ []) before) (fits_at q groups (earlier ++ x ∷ []) before s rest turns.1)
-
--- a request with which a section begins is admitted
-pub begin_admitted : (q : ℕ) (groups : List Set) (earlier : List Statement) (r : RequestFields) → FitsBehind q groups earlier (statement.Begin r) → IsTrue (is_admitted groups r)
-begin_admitted q groups earlier r h =
-    elim (is_admitted groups r) as (λ b. is_admitted groups r ≡ b → b ≡ true) [
-      | true ↦ λ e. refl
-      | false ↦ λ e. absurd (some_none (sym h.right ∙ undeclared groups r h.within.0 e))
-    ] refl

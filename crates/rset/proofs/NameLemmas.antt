@@ -1,5 +1,5 @@
 -- What the layers above need to know of tables of names: numbers, names and a name that is added.
-use Rattle.std.proofs.Common.{◌≡◌, ℕ, zero, suc, ◌+◌, ◌<◌, ◌≤◌, ◌&&◌, ◌||◌, not, Bool, true, false, cond, List, [], ◌∷◌, ◌++◌, length, take, get_or, Some, None, refl, sym, ap, ◌∙◌, arith, length-append}
+use Rattle.std.proofs.Common.{◌≡◌, ℕ, zero, suc, ◌+◌, ◌<◌, ◌≤◌, ◌&&◌, ◌||◌, not, Bool, true, false, cond, List, [], ◌∷◌, ◌++◌, length, take, get_or, Some, refl, sym, ap, ◌∙◌, arith, length-append}
 use Rattle.std.specs.Prelude.{slice_get, is_some, nat_le}
 use Rattle.std.specs.List.{list_any, list_all, position_from}
 use Rattle.std.specs.Cmp.Lexicographic.{bytes_decides}
@@ -37,30 +37,6 @@ module _ {X : Type 0} (test : X → Bool) where
       split later true is same = let e : i ≡ n = cc in (0, omega arith, (x, refl, is))
       split later false is same = let found = later same in (suc found.0, omega (arith, found.1), found.2)
 
-  -- there is a place just where an element passes
-  some_place : (i : ℕ) (xs : List X) → list_any test xs ≡ is_some (position_from test i xs)
-  some_place i [] = refl
-  some_place i (x ∷ xs) = split (test x) (some_place (i + 1) xs)
-    where
-      split : (b : Bool) → list_any test xs ≡ is_some (position_from test (i + 1) xs) → (b || list_any test xs) ≡ is_some (cond b (Some i) (position_from test (i + 1) xs))
-      split true later = refl
-      split false later = later
-
-  -- an element behind the others is found where none of them passes
-  place_after : (i : ℕ) (xs : List X) (y : X) → position_from test i (xs ++ y ∷ []) ≡ cond (list_any test xs) (position_from test i xs) (cond (test y) (Some (i + length xs)) None)
-  place_after i [] y = ap (λ n. cond (test y) (Some n) None) (plus_zero i)
-    where
-      plus_zero : (n : ℕ) → n ≡ n + 0
-      plus_zero n = omega arith
-  place_after i (x ∷ xs) y = split (test x) (place_after (i + 1) xs y)
-    where
-      longer : (m : ℕ) → i + 1 + m ≡ i + suc m
-      longer m = omega arith
-
-      split : (b : Bool) → position_from test (i + 1) (xs ++ y ∷ []) ≡ cond (list_any test xs) (position_from test (i + 1) xs) (cond (test y) (Some (i + 1 + length xs)) None) → cond b (Some i) (position_from test (i + 1) (xs ++ y ∷ [])) ≡ cond (b || list_any test xs) (cond b (Some i) (position_from test (i + 1) xs)) (cond (test y) (Some (i + suc (length xs))) None)
-      split true later = refl
-      split false later = later ∙ ap (λ n. cond (list_any test xs) (position_from test (i + 1) xs) (cond (test y) (Some n) None)) (longer (length xs))
-
   passes_there : (k : ℕ) (x : X) → test x ≡ true → (xs : List X) → slice_get xs k ≡ Some x → list_any test xs ≡ true
   passes_there k x pass [] there = absurd (true≢false (sym (ap is_some there)))
   passes_there zero x pass (y ∷ ys) there = let e : y ≡ x = cc in or_left (test y) _ (ap test e ∙ pass)
@@ -77,11 +53,6 @@ within_length (y ∷ ys) zero x there = omega arith
 within_length (y ∷ ys) (suc k) x there = let shorter = within_length ys k x there in omega arith
 
 -- ---- the numbers of names
-
--- a name is in the table just where it has a number
-pub knows_number : (names : List (List ℕ)) (name : List ℕ) → knows names name ≡ is_some (number_in names name)
-unfolding knows number_in
-knows_number names name = some_place (same_name name) 0 names
 
 -- at the number of a name stands that name
 pub name_at_number : (names : List (List ℕ)) (name : List ℕ) (n : ℕ) → number_in names name ≡ Some n → slice_get names n ≡ Some name
@@ -130,26 +101,6 @@ knows_push names x name = list_any-append (same_name name) names (x ∷ []) ∙ 
     last : (b : Bool) → (b || false) ≡ b
     last true = refl
     last false = refl
-
-pub number_in_push : (names : List (List ℕ)) (x name : List ℕ) → number_in (names ++ x ∷ []) name ≡ cond (knows names name) (number_in names name) (cond (same_name name x) (Some (length names)) None)
-unfolding number_in knows
-number_in_push names x name =
-    place_after (same_name name) 0 names x ∙ ap (λ n. cond (list_any (same_name name) names) (position_from (same_name name) 0 names) (cond (same_name name x) (Some n) None)) (zero_plus (length names))
-  where
-    zero_plus : (n : ℕ) → 0 + n ≡ n
-    zero_plus n = omega arith
-
--- a number stays when a name is added
-pub number_in_push_other : (names : List (List ℕ)) (x name : List ℕ) (n : ℕ) → number_in names name ≡ Some n → number_in (names ++ x ∷ []) name ≡ Some n
-number_in_push_other names x name n h =
-    number_in_push names x name ∙ ap (λ b. cond b (number_in names name) (cond (same_name name x) (Some (length names)) None)) (knows_number names name ∙ ap is_some h) ∙ h
-
--- the name that is added has the next number
-pub number_in_push_new : (names : List (List ℕ)) (name : List ℕ) → knows names name ≡ false → number_in (names ++ name ∷ []) name ≡ Some (length names)
-number_in_push_new names name h =
-    number_in_push names name name
-    ∙ ap (λ b. cond b (number_in names name) (cond (same_name name name) (Some (length names)) None)) h
-    ∙ ap (λ b. cond b (Some (length names)) None) (same_name-itself name)
 
 pub slice_get_push : {X : Type 0} (xs : List X) (x : X) → slice_get (xs ++ x ∷ []) (length xs) ≡ Some x
 slice_get_push [] x = refl

@@ -81,10 +81,6 @@ or_groups : (a b c : Bool) → ((a || b) || c) ≡ (a || (b || c))
 or_groups true b c = refl
 or_groups false b c = refl
 
-or_nothing : (a : Bool) → (a || false) ≡ a
-or_nothing true = refl
-or_nothing false = refl
-
 and_swaps : (a b : Bool) → (a && b) ≡ (b && a)
 and_swaps true true = refl
 and_swaps true false = refl

@@ -42,10 +42,6 @@ HasAll ms ns = (n : Needed) → Among n ns → HasLike ms n
 
 -- ---- what passes a test
 
--- a test that passes here passes there of the same claims
-abbrev pub Carries : (Needed → Bool) → (Needed → Bool) → Type 0
-Carries p q = (n m : Needed) → SameClaim n.claim m.claim → p n ≡ true → q m ≡ true
-
 pub any_carried : (ns ms : List Needed) (p q : Needed → Bool) → HasAll ms ns → ((n m : Needed) → Among n ns → Among m ms → SameClaim n.claim m.claim → p n ≡ true → q m ≡ true) → list_any p ns ≡ true → list_any q ms ≡ true
 any_carried ns ms p q has carries some =
     let found = passing p ns some in

@@ -1,10 +1,10 @@
 -- Where the shapes of each task stand: as they are noted one after another, and what is found there.
-use Rattle.std.proofs.Common.{◌≡◌, ◌⊎◌, ◌<◌, ◌+◌, ◌==◌, ℕ, zero, suc, Bool, true, false, cond, List, [], ◌∷◌, ◌++◌, length, take, replicate, get_or, slice_get, slice_index_or, slice_set, Some, refl, sym, ap, subst, ◌∙◌, inl, inr, arith, get_or-set_same, get_or-set_other}
+use Rattle.std.proofs.Common.{◌≡◌, ◌⊎◌, ◌<◌, ◌+◌, ◌==◌, ℕ, zero, suc, Bool, true, false, cond, List, [], ◌∷◌, ◌++◌, length, take, get_or, slice_get, slice_index_or, slice_set, Some, refl, sym, ap, subst, ◌∙◌, inl, inr, arith, get_or-set_same, get_or-set_other}
 use Rattle.std.specs.declared.vec.Vec.{Vec}
 use Rattle.std.specs.declared.alloc.Global.{Global}
 use Rattle.std.proofs.lemmas.Bool.{eqb-true}
 use Rattle.std.proofs.lemmas.Bool.Decides.{eqb_tells}
-use Rattle.std.proofs.lemmas.List.{append-nil, take_more, get_or-replicate, length-set}
+use Rattle.std.proofs.lemmas.List.{append-nil, take_more, length-set}
 use Rattle.rbound.proofs.RequestVectors.{map_push, length_map}
 use Rattle.rshapes.specs.Shapes.{Shape}
 use Rattle.rshapes.specs.ShapeNeeds.{requests_of_shapes}
@@ -26,10 +26,6 @@ from_push n (x ∷ ss) s task =
     let later : suc n + length ss ≡ n + suc (length ss) = omega arith in
     one_behind (x.task == task) n (places_from (suc n) (ss ++ s ∷ []) task) (places_from (suc n) ss task) (cond (s.task == task) ((n + suc (length ss)) ∷ []) [])
     (from_push (suc n) ss s task ∙ ap (λ k. places_from (suc n) ss task ++ cond (s.task == task) (k ∷ []) []) later)
-
--- of no shapes
-pub places_none : (tasks : ℕ) (places : List (Vec ℕ Global)) → lists_in places ≡ replicate tasks [] → length places ≡ tasks → ArePlaces [] tasks places
-places_none tasks places none long = record { long = long; each = λ task less. ap (λ xs. slice_index_or xs task []) none ∙ get_or-replicate tasks task [] [] less }
 
 pub places_long : (places : List (Vec ℕ Global)) → length (lists_in places) ≡ length places
 places_long places = length_map (λ (v : Vec ℕ Global). v.items) places

@@ -1,5 +1,5 @@
 -- Reads one after another: what came in all.
-use Rattle.std.proofs.Common.{◌≡◌, ℕ, ◌+◌, ◌≤◌, ◌<◌, Bool, List, [], ◌++◌, length, take, drop, Option, Some, None, refl, sym, ap, subst, ◌∙◌, arith, append_assoc, length-append}
+use Rattle.std.proofs.Common.{◌≡◌, ℕ, ◌+◌, ◌≤◌, ◌<◌, Bool, List, [], ◌++◌, length, drop, Option, Some, None, refl, sym, ap, subst, ◌∙◌, arith, length-append}
 use Rattle.std.proofs.lemmas.List.{append-nil}
 use Rattle.std.proofs.Math.Seq.{drop-append_seam}
 use Rattle.std.specs.Prelude.{unwrap_or, Result, Ok, Err, OnOk}
@@ -28,48 +28,6 @@ pub record IsFilling (o p : Option (List ℕ)) (w v : Window) : Type 0 where
   pub filled : v.filled ≡ w.filled + length piece
   pub room : w.filled < length v.bytes.items
 
--- nothing came yet
-pub filling_none : (o : Option (List ℕ)) (w v : Window) → take w.filled v.bytes.items ≡ take w.filled w.bytes.items → w.filled < length v.bytes.items → v.filled ≡ w.filled → v.taken ≡ w.taken → v.limit ≡ w.limit → IsSound w
-    → IsFilling o o w v
-filling_none o w v front room filled taken limit sound =
-    let low = sound.taken in
-    record {
-      piece = [];
-      gains = record {
-        held = ap (λ k. take k v.bytes.items) filled ∙ front ∙ sym (append-nil (held w));
-        taken = taken ∙ sym (plus_zero w.taken);
-        limit = limit;
-        sound = record { within = omega arith; taken = omega arith };
-      };
-      came = came_none o;
-      filled = filled ∙ sym (plus_zero w.filled);
-      room = room;
-    }
-  where
-    plus_zero : (n : ℕ) → n + 0 ≡ n
-    plus_zero n = omega arith
-
-pub filling_more : (o p q : Option (List ℕ)) (w v u : Window) (piece : List ℕ) (n : ℕ) → IsFilling o p w v → Gains v u piece → Came p q piece → length piece ≡ n → u.filled ≡ v.filled + n → length u.bytes.items ≡ length v.bytes.items
-    → IsFilling o q w u
-filling_more o p q w v u piece n f more came size filled room =
-    let both = length-append f.piece piece in
-    let first = f.filled in
-    let before = f.gains.taken in
-    let now = more.taken in
-    let large = f.room in
-    record {
-      piece = f.piece ++ piece;
-      gains = record {
-        held = more.held ∙ ap (λ xs. xs ++ piece) f.gains.held ∙ append_assoc (held w) f.piece piece;
-        taken = omega arith;
-        limit = more.limit ∙ f.gains.limit;
-        sound = more.sound;
-      };
-      came = came_more o p q f.piece piece f.came came;
-      filled = omega arith;
-      room = omega arith;
-    }
-
 -- so many bytes behind others, counted together
 count_more : (e : ReadErr) (a b c d limit : ℕ) → d ≡ a + c → CameOf e (d + b) limit → CameOf e (a + (c + b)) limit
 count_more e a b c d limit is h = subst (λ n. CameOf e n limit) same h
@@ -85,18 +43,6 @@ broken_more o p q e taken now limit first came counted b =
 pub filling_broken : (o p q : Option (List ℕ)) (w v : Window) (e : ReadErr) → IsFilling o p w v → BreaksOff e p q v.taken v.limit → BreaksOff e o q w.taken w.limit
 filling_broken o p q w v e f b = subst (λ n. BreaksOff e o q w.taken n) f.gains.limit (broken_more o p q e w.taken v.taken v.limit f.piece f.came f.gains.taken b)
 
--- want of memory before anything came
-pub broken_first : (o : Option (List ℕ)) (taken limit : ℕ) → taken ≤ limit → BreaksOff cause.Memory o o taken limit
-broken_first o taken limit low = ([], came_none o, omega arith)
-
--- a full window took something
-pub filling_further : (o p : Option (List ℕ)) (w v : Window) → IsFilling o p w v → length v.bytes.items ≤ v.filled → w.taken < v.taken
-filling_further o p w v f full =
-    let filled = f.filled in
-    let room = f.room in
-    let taken = f.gains.taken in
-    omega arith
-
 -- ---- a source that is drained
 
 -- since the window was w, this came and nothing of it is held
@@ -108,11 +54,6 @@ pub record IsDraining (o p : Option (List ℕ)) (w v : Window) : Type 0 where
   pub below : v.taken ≤ v.limit
   pub empty : v.filled ≡ 0
   pub room : 0 < length v.bytes.items
-
-pub draining_none : (o : Option (List ℕ)) (w v : Window) → v.taken ≡ w.taken → v.limit ≡ w.limit → v.filled ≡ 0 → 0 < length v.bytes.items → IsSound w → IsDraining o o w v
-draining_none o w v taken limit empty room sound =
-    let low = sound.taken in
-    record { piece = []; came = came_none o; taken = omega arith; limit = limit; below = omega arith; empty = empty; room = room }
 
 pub draining_more : (o p q : Option (List ℕ)) (w v u t : Window) (piece : List ℕ) → IsDraining o p w v → Gains v u piece → Came p q piece → length u.bytes.items ≡ length v.bytes.items
     → t.taken ≡ u.taken → t.limit ≡ u.limit → t.filled ≡ 0 → length t.bytes.items ≡ length u.bytes.items → IsDraining o q w t

@@ -1,7 +1,7 @@
 -- A text may be cut before the end of a line, where no quote stands before: its records are those of both parts.
 use Rattle.std.proofs.Common.{◌≡◌, ℕ, ◌==◌, Bool, true, false, ◌&&◌, ◌||◌, cond, List, [], ◌∷◌, ◌++◌, Option, Some, None, ◌⊎◌, inl, inr, refl, sym, ap, subst, ◌∙◌}
 use Rattle.std.proofs.lemmas.Bool.{false≢true}
-use Rattle.std.specs.Prelude.{unwrap_or, is_none, is_some}
+use Rattle.std.specs.Prelude.{is_none, is_some}
 use Rattle.csv.specs.Machine.{Read, next_record, ends_at_end, is_end, step, start_record, start_field, in_field, fields_after, field_after}
 use Rattle.csv.specs.Reading.{AreRecords, Reached, default_config, strip_bom, is_bom}
 use Rattle.csv.specs.declared.parser.Action.{Action}
@@ -10,9 +10,6 @@ use Rattle.csv.specs.declared.parser.State.{State}
 use Rattle.csv.specs.declared.parser.State.TheVariants as st
 use Rattle.rforms.specs.Records.{Row, AreRowsOf}
 use Rattle.rstream.specs.Windows.{HasNoQuote}
-
-some_is : {X : Type 0} {x y : X} → Some x ≡ Some y → x ≡ y
-some_is {x = x} e = ap (λ o. unwrap_or o x) e
 
 some_none : {X : Type 0} {x : X} → ◌≡◌ {A = Option X} (Some x) None → ⊥
 some_none e = false≢true (ap is_none e)

@@ -1,13 +1,12 @@
 -- What is held of a source after a read, and behind a cut.
 use Rattle.std.proofs.Common.{◌≡◌, ℕ, zero, suc, ◌+◌, ◌-◌, ◌≤◌, ◌<◌, List, [], ◌∷◌, ◌++◌, length, take, drop, Option, Some, None, refl, sym, ap, subst, ◌∙◌, arith, append_assoc, length-append}
-use Rattle.std.proofs.lemmas.List.{take-append-drop, drop-take, take-append-le, length-drop, length-take-le}
+use Rattle.std.proofs.lemmas.List.{take-append-drop, drop-take, length-drop, length-take-le}
 use Rattle.std.proofs.lemmas.Bool.{true≢false}
 use Rattle.std.proofs.lemmas.Option.{slice_get_within, get_or_from_slice_get}
 use Rattle.std.proofs.Math.Seq.{drop-append_seam, drop-cons, take-add}
 use Rattle.std.proofs.lemmas.List.Edits.{take-paste}
 use Rattle.std.specs.List.{slice_get, copy_within, list_any}
 use Rattle.std.specs.Prelude.{◌==◌, ◌||◌, true, false, IfSome}
-use Rattle.io_ends.specs.Ends.{Gives}
 use Rattle.rstream.specs.Coming.{Came}
 use Rattle.rstream.specs.Windows.{held, HasNoQuote, IsSound, Gains, IsCut}
 use Rattle.rstream.specs.declared.window.Window.{Window}
@@ -23,18 +22,6 @@ came_more None p q first piece a b = tt
 came_more (Some bytes) p q first piece a b =
     let c : Came (Some a.0) q piece = subst (λ (l : Option (List ℕ)). Came l q piece) a.2 b in
     (c.0, a.1 ∙ ap (λ xs. first ++ xs) c.1 ∙ sym (append_assoc first piece c.0), c.2)
-
-gives_came : (o p : Option (List ℕ)) (before after : List ℕ) (n : ℕ) → Gives o p before after n → Came o p (take n after)
-gives_came None p before after n h = tt
-gives_came (Some bytes) p before after n h = (drop n bytes, sym (take-append-drop n bytes) ∙ ap (λ xs. xs ++ drop n bytes) (sym h.told.front), h.told.taken)
-
--- what a read puts into the middle of a buffer
-pub came_at : (o p : Option (List ℕ)) (before after front rest : List ℕ) (from n : ℕ) → length front ≡ from → n ≤ length after → Gives o p before after n
-    → Came o p (take n (drop from (front ++ (after ++ rest))))
-came_at o p before after front rest from n size fits h =
-    subst (Came o p)
-    (sym (ap (take n) (ap (λ k. drop k (front ++ (after ++ rest))) (sym size) ∙ drop-append_seam front (after ++ rest)) ∙ take-append-le n after rest fits))
-    (gives_came o p before after n h)
 
 -- ---- what is held
 

@@ -23,7 +23,7 @@ use Rattle.rforms.specs.Reports.{Entry}
 use Rattle.rforms.specs.SoFar.{SoFar, nothing_yet, at_groups, head_in, entries_in, names_in, with_act, with_row, bare}
 use Rattle.rforms.specs.Faults.{code_of, read_all}
 use Rattle.rforms.specs.WrongBounds.{bound_said, bounds_said, bounds_due, or_more, first_other, first_wrong_bound, wrong_bound}
-use Rattle.rforms.proofs.facts.Choices.{some_is, some_none}
+use Rattle.rforms.proofs.facts.Choices.{some_is}
 use Rattle.rforms.proofs.texts.Lists.{read_more, bounds_more}
 use Rattle.rtrace.specs.declared.bounds.BoundsKept.{BoundsKept}
 use Rattle.rlines.specs.declared.reading.Reading.{Reading}
@@ -235,10 +235,6 @@ pub some_events : (xs : List Event) (e : Event) → is_nil (xs ++ e ∷ []) ≡ 
 some_events [] e = refl
 some_events (x ∷ xs) e = refl
 
-pub never_made : (tasks : ℕ) (old : Option ToldBounds) → IsMade tasks old None → (kept : ToldBounds) → old ≡ None → ⊥
-never_made tasks None made kept is = made
-never_made tasks (Some told) made kept is = some_none (sym is)
-
 -- ---- the first wrong bound
 
 module _ (kept : BoundsKept) (rows : List Row) (h : KnowsBounds kept rows) (nine : (read_all true rows).last ≡ 9) where
@@ -264,9 +260,6 @@ module _ (kept : BoundsKept) (rows : List Row) (h : KnowsBounds kept rows) (nine
 -- the groups of a reader behind the head are those of what was said
 pub groups_are : (reading : Reading) (s : SoFar) (g : ReadGroups) → Knows true reading s → s.last ≡ 9 → reading.groups ≡ Some g → g ≡ read_groups (head_in s)
 groups_are reading s g h nine is = some_is (sym is ∙ h.groups ∙ ap (λ n. cond (nat_lt n at_groups) None (Some (read_groups (head_in s)))) nine)
-
-pub groups_missing : (reading : Reading) (s : SoFar) → Knows true reading s → s.last ≡ 9 → reading.groups ≡ None → ⊥
-groups_missing reading s h nine is = some_none (sym is ∙ h.groups ∙ ap (λ n. cond (nat_lt n at_groups) None (Some (read_groups (head_in s)))) nine)
 
 -- what judges bounds names the first wrong one, by the groups and the cap of a reader behind the end
 pub named_first : {E : Type 0} (kept : BoundsKept) (reading : Reading) (told : ToldBounds) (groups : ReadGroups) (cap : ℕ) (made : Result (Option ℕ) E) → kept.told ≡ Some told → reading.groups ≡ Some groups → cap ≡ unwrap_or reading.cap (length reading.tasks)

@@ -5,10 +5,6 @@ pub left_holds : (a b : Bool) → (a && b) ≡ true → a ≡ true
 left_holds true b h = refl
 left_holds false b h = h
 
-pub right_holds : (a b : Bool) → (a && b) ≡ true → b ≡ true
-right_holds true b h = h
-right_holds false b h = absurd (true≢false (sym h))
-
 pub or_assoc : (a b c : Bool) → (a || (b || c)) ≡ ((a || b) || c)
 or_assoc true b c = refl
 or_assoc false b c = refl
@@ -32,12 +28,6 @@ pub three_of : (a b c : Bool) → (a || b || c) ≡ false → (a ≡ false) × (
 three_of true b c h = absurd (true≢false h)
 three_of false true c h = absurd (true≢false h)
 three_of false false c h = (refl, refl, h)
-
-pub four_of : (a b c d : Bool) → (a || b || c || d) ≡ false → (a ≡ false) × (b ≡ false) × (c ≡ false) × (d ≡ false)
-four_of true b c d h = absurd (true≢false h)
-four_of false true c d h = absurd (true≢false h)
-four_of false false true d h = absurd (true≢false h)
-four_of false false false d h = (refl, refl, refl, h)
 
 pub both_of : (a b : Bool) → (a && b) ≡ true → (a ≡ true) × (b ≡ true)
 both_of true b h = (refl, h)

@@ -22,9 +22,6 @@ resource_back names n differ there = number_of_name_at names (name_at names n) n
 
 -- ---- pieces
 
-is_joint : ℕ → Bool
-is_joint b = b == 43
-
 no_joint : (c : ℕ) → is_name_byte c ≡ true → (c == 43) ≡ false
 no_joint c h = grind (arith, nat_tests)
 

@@ -21,16 +21,6 @@ use Rattle.rheads.specs.Lines.{lowered}
 use Rattle.rheads.proofs.Pairs.{pairs_before, pairs_after, pairs_front}
 use Rattle.rheads.proofs.told.Leasts.{least_under, least_from, same_least, itself_least}
 
--- at first nothing but the write itself
-pub found_own : (m : Moment) (c : Claim) → IsFound m c [] (record { seat = c.seat; stamp = c.stamp; left = c.places })
-found_own m c = record {
-  is_least = inl (record { stamp = refl; seat = refl });
-  not_above = omega arith;
-  least = tt;
-  seen = λ place on off. contrary (contains c.places place) on off;
-  within = λ place on. on;
-}
-
 module _ (m : Moment) (c : Claim) (y : Claimed) (zs : Moment) (are : AreBefore m c (y ∷ zs)) (f : Found) (is : IsFound m c zs f) where
   more : (place : ℕ) → HasPlace zs place → HasPlace (y ∷ zs) place
   more place h = record { at = h.at; among = inr h.among; write = h.write; has = h.has }

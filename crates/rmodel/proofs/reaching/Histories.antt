@@ -1,16 +1,11 @@
 -- Lists of accepted events: one more event, what stays, and that a step leads to one state.
-use Rattle.std.proofs.Common.{◌≡◌, ℕ, ◌+◌, ◌≤◌, List, [], ◌∷◌, ◌++◌, length, refl, ap, ◌∙◌, arith}
+use Rattle.std.proofs.Common.{◌≡◌, ℕ, ◌+◌, ◌≤◌, List, [], ◌∷◌, ◌++◌, length, refl, ◌∙◌, arith}
 use Rattle.rexpand.specs.Groups.{ReadGroups}
 use Rattle.rclaim.specs.declared.event.Event.{Event}
 use Rattle.rclaim.specs.declared.event.Event.TheVariants.{Issue, Finish, Rise, Ask}
-use Rattle.rmodel.specs.declared.claimed.Claimed.{Claimed}
-use Rattle.rmodel.specs.Settling.{settled}
 use Rattle.rmodel.specs.State.{LockState, opening}
-use Rattle.rmodel.specs.Steps.{Steps, changed, next, given, after, Comes, AreAccepted}
+use Rattle.rmodel.specs.Steps.{next, after, Comes, AreAccepted}
 use Rattle.rmodel.specs.WellFormed.{IsSound}
-use Rattle.rmodel.proofs.settling.OneSettlement.{only_one}
-use Rattle.rmodel.proofs.settling.Settlement.{settles_settled}
-use Rattle.rmodel.proofs.reaching.Soundness.{sound_changed}
 use Rattle.rmodel.proofs.reaching.Reached.{reached_after, reached_opening}
 
 -- the state after one more event
@@ -65,11 +60,3 @@ issued_after s (e ∷ es) = let rest = issued_after (next s e) es in let one = i
 -- the states that accepted events lead to are sound
 pub sound_after : (groups : ReadGroups) (seats cap : ℕ) (es : List Event) → AreAccepted (opening groups seats cap) es → IsSound (after (opening groups seats cap) es)
 sound_after groups seats cap es accepted = (reached_after (opening groups seats cap) es (reached_opening groups seats cap) accepted).sound
-
--- a step leads to one state
-pub step_to_next : (s t : LockState) (e : Event) → IsSound s → Comes s e → Steps s e t → t ≡ next s e
-step_to_next s t e sound comes step =
-    let well = (sound_changed s e sound comes).well_formed in
-    step.others
-    ∙ ap (λ (xs : List Claimed). let u : LockState = record (changed s e) { claims = given xs } in u)
-    (only_one (changed s e).claims step.settled_to (settled (changed s e).claims) step.settles (settles_settled (changed s e).claims well))

@@ -300,15 +300,6 @@ given_same xs = zip_map_right (with_asked xs) (λ x y. x ≡ y) SameClaim (λ x 
     at y true = refl
     at y false = refl
 
--- and no status
-pub given_status : (xs : List Claimed) → AllZip (λ x y. y.status ≡ x.status) xs (given xs)
-unfolding given
-given_status xs = zip_map_right (with_asked xs) (λ x y. x ≡ y) (λ x y. y.status ≡ x.status) (λ x y e. at y (gets_asked xs y) ∙ ap (λ z. z.status) (sym e)) xs xs (zip_same (λ x y. x ≡ y) (λ x. refl) xs)
-  where
-    at : (y : Claimed) (b : Bool) → (cond b (record y { asked = empty; granted = union y.granted y.asked }) y).status ≡ y.status
-    at y true = refl
-    at y false = refl
-
 pub sound_settled_to : (s : LockState) (t : List Claimed) → IsSound s → Settles s.claims t → IsSound (record s { claims = t })
 sound_settled_to s t sound settles = same_claims_sound s t sound (same_claims s.claims t settles) (settled_parts s.claims t sound.parts settles)
 

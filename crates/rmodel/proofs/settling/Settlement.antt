@@ -92,10 +92,6 @@ conflict_of_read r v none =
     or_none true = refl
     or_none false = refl
 
-and_group : (a b c : Bool) → ((a && b) && c) ≡ (a && (b && c))
-and_group true b c = refl
-and_group false b c = refl
-
 -- what the first pass asks is whether the read is kept out
 pub kept_out_is : (xs : List Claimed) (c : Claim) → c.writes ≡ empty → meets (written_by_active xs) c.reads ≡ is_kept_out xs c
 unfolding written_by_active

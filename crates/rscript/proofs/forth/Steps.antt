@@ -6,7 +6,6 @@ use Rattle.std.specs.List.{AllByRecursion}
 use Rattle.rset.specs.Sets.{Set}
 use Rattle.rset.specs.declared.TheConstants.{RESOURCES, SEATS}
 use Rattle.rvalue.specs.declared.ledger.Edit.TheVariants as edit
-use Rattle.rforms.specs.Heads.{is_nil}
 use Rattle.rforms.proofs.facts.Tables.{table-push, groups-push}
 use Rattle.rscript_records.specs.declared.place.Where.{Where}
 use Rattle.rscript_records.specs.declared.section.Section.{Section}
@@ -58,10 +57,6 @@ inside_of (statement.Ask part) = refl
 inside_of statement.Rise = refl
 inside_of statement.Finish = refl
 
-is_filled : {X : Type 0} (xs : List X) (x : X) → is_nil (xs ++ x ∷ []) ≡ false
-is_filled [] x = refl
-is_filled (y ∷ xs) x = refl
-
 -- nothing is done yet, so it is right for any resources and groups
 none_done : (q : ℕ) (groups : List Set) (earlier : List (List Statement)) → earlier ≡ [] → AllByRecursion (IsTask q groups) earlier
 none_done q groups earlier none = subst (λ (xs : List (List Statement)). AllByRecursion (IsTask q groups) xs) (sym none) tt
@@ -71,10 +66,6 @@ none_turns q groups latest none = subst (λ (o : Option (List Statement)). AreTu
 
 none_within : (q : ℕ) (groups : List Set) → groups ≡ [] → AreWithin q groups
 none_within q groups none = subst (λ (gs : List Set). AreWithin q gs) (sym none) tt
-
--- the statements of all tasks, with those of a new one
-pub steps_more : (earlier : List (List Statement)) (latest : Option (List Statement)) → (earlier ++ option_to_list latest) ++ option_to_list (Some []) ≡ (earlier ++ option_to_list latest) ++ [] ∷ []
-steps_more earlier latest = refl
 
 module _ (s : SoFar) (lines : List Line) (h : Stands s lines) where
   pub open_step : IsNext s Opens → Stands (with_line s Opens) (lines ++ Opens ∷ [])

@@ -52,9 +52,6 @@ module _ (resources : List (List ℕ)) (w : Word) (row : Row) where
 
 -- ---- what the fields tell
 
-both_known : (o : Option ℕ) (b : Bool) → o ≡ None → (not (is_none o) && b) ≡ false
-both_known o b h = ap (λ p. not (is_none p) && b) h
-
 module _ (rs : List (List ℕ)) where
   show_fields : (a x : List ℕ) (place : ℕ) → number_in rs x ≡ Some place → Tells rs word.Show (a ∷ x ∷ []) (statement.Show place)
   unfolding all_known all_counted read
