@@ -8,7 +8,9 @@ use std::alloc::{AllocError, Global};
 /// What was ever put into an account, and what was taken out of it.
 #[derive(Clone, Copy)]
 pub struct Account {
+    /// What was put in, in all.
     pub put_in: u64,
+    /// What was taken out, in all.
     pub taken_out: u64,
 }
 

@@ -11,9 +11,13 @@ use std::rt::Env;
 /// What is measured.
 #[derive(Drop)]
 pub struct Asked {
+    /// How many threads there are.
     pub threads: u8,
+    /// How many sections each of them makes.
     pub sections: u32,
+    /// How many records each section writes.
     pub resources: u8,
+    /// Whether each thread has records of its own.
     pub apart: bool,
 }
 

@@ -33,6 +33,10 @@ impl MemSink {
     /// An empty sink for `room` bytes. Its writes are counted from 1, and those whose number is
     /// in `fails` fail, and so does each write to a full sink. The room is taken here, so no
     /// write takes memory.
+    ///
+    /// # Errors
+    ///
+    /// Want of memory for the room.
     pub fn new(alloc: Global, room: usize, fails: Vec<u64>) -> Result<MemSink, AllocError>
         ensures { IfOk result (λ s. s ≡ record { written = []; room = room; most = None; calls = 0; fails = fails.items; faults = 0 }) }
     {

@@ -42,7 +42,12 @@ impl From<AllocError> for ReadErr {
 }
 
 /// Reads `source` to its end, and answers all its bytes, of which there may be `limit`. It
-/// takes one byte more than that at most. After an error the bytes taken are lost.
+/// takes one byte more than that at most.
+///
+/// # Errors
+///
+/// `ReadFault` where the source fails, `TooLong` where it has more than `limit` bytes, and
+/// `Memory` where there is no memory for them. The bytes taken are then lost.
 pub fn read_all<S: Source>(alloc: Global, source: &mut S, limit: usize) -> Result<Vec<u8>, ReadErr>
     ensures whole { IfOk result (λ all. IfSome (S.left source.old) (λ bytes. all.items ≡ bytes)) }
     ensures ended { OnOk result (IfSome (S.left source.old) (λ _. S.left source.new ≡ Some [])) }

@@ -15,7 +15,8 @@ use rclaim::Claim;
 use rset::ResourceSet;
 use std::alloc::{AllocError, Global};
 
-/// What a wait is at most: no cover of it has more sections, nor sections of a greater length in all.
+/// What covers a wait at most: sections of which one goes on at each moment of it, no more of them than this and of no greater
+/// length in all. Others may hold the claim up beside these, but none of them alone.
 #[derive(Clone, Copy, Debug, PartialEq, Eq)]
 pub struct Bound {
     /// The number of sections that count as reads.

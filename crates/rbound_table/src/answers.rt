@@ -82,9 +82,9 @@ fn all_write_bounds(
     ensures { IfOk result (λ writes. AreWriteBounds tables.now tasks cap zones.now writes.items) }
 {
     let mut writes = Vec::new(alloc);
-    for l in 0..RESOURCES as u8 {
-        let zone = zone_in(zones, l);
-        writes.push(place_bounds(alloc, tables, tasks, cap, l, zone)?)?;
+    for l in 0..RESOURCES {
+        let zone = zone_in(zones, l as u8);
+        writes.push(place_bounds(alloc, tables, tasks, cap, l as u8, zone)?)?;
     }
     Ok(writes)
 }

@@ -5,7 +5,7 @@ ghost use Rattle.rbound.specs.ZoneRows.{all_may_write_in, none_beside_in, number
 ghost use Rattle.rbound_table.specs.Totals.{AreTotals, two_in, writers_there, only_reads, only_readers, length_in};
 
 use rbound::{Bound, ZoneRows, write_bound};
-use rlongest::{TwoLongest, both, no_length, nth_length, only, two_at};
+use rlongest::{TwoLongest, no_length, nth_length, only, two_at, two_of_both};
 use std::alloc::{AllocError, Global};
 
 /// What the rows of a zone come to for all tasks at once.
@@ -68,7 +68,7 @@ fn two_in(row: &[Option<u32>], tasks: u8) -> TwoLongest
 {
     (0..tasks).fold(
         no_length(),
-        |two, task| both(two, only(task, nth_length(row, task))),
+        |two, task| two_of_both(two, only(task, nth_length(row, task))),
     )
 }
 

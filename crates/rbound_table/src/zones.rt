@@ -43,8 +43,8 @@ pub(crate) fn zones_of(alloc: Global, needs: &Needs) -> Result<Vec<ResourceSet>,
 {
     let places = places_in(needs.claims());
     let mut zones = Vec::new(alloc);
-    for l in 0..RESOURCES as u8 {
-        let zone = zone_at(&zones, needs, places, l);
+    for l in 0..RESOURCES {
+        let zone = zone_at(&zones, needs, places, l as u8);
         zones.push(zone)?;
     }
     Ok(zones)

@@ -11,14 +11,14 @@ use Rattle.rbound.specs.Bounds.{numbers_in}
 use Rattle.rbound.specs.declared.bound.Bound.{Bound}
 use Rattle.rcover.specs.declared.wait_end.WaitEnd.{WaitEnd}
 use Rattle.rforms.specs.WrongBounds.{first_other}
-use Rattle.rneeds.specs.Keys.{IsKeyOf}
+use Rattle.rneeds.specs.Keys.{IsKeyOf, HadKey}
 use Rattle.rneeds.specs.Knows.{Knows, bound_by}
 use Rattle.rneeds.specs.declared.growing.GrowingNeeds.{GrowingNeeds}
 use Rattle.rneeds.specs.declared.key.BoundKey.{BoundKey}
 use Rattle.rneeds.proofs.WaitKeys.{is_found}
 use Rattle.rbound_told.specs.Told.{Told, said, waits_of, AreBefore}
 use Rattle.rbound_told.specs.Kept.{Keyed, told_in, least_wrong, Tells}
-use Rattle.rbound_told.specs.Knows.{HadKey, KnowsTold, AreOfWaits, bound_of_key}
+use Rattle.rbound_told.specs.Knows.{KnowsTold, AreOfWaits, bound_of_key}
 use Rattle.rbound_told.specs.declared.key.Key.{Key}
 use Rattle.rbound_told.specs.declared.kept.Kept.{Kept}
 use Rattle.rbound_told.specs.declared.told.ToldBounds.{ToldBounds}
@@ -29,10 +29,10 @@ module _ (groups : ReadGroups) (seats cap : ℕ) where
 
   had_key_on : (events : List Event) (e : Event) (wait : WaitEnd) (key : BoundKey) → HadKey groups seats cap events wait key → HadKey groups seats cap (events ++ e ∷ []) wait key
   had_key_on events e wait key had = record {
-    past = had.past;
+    before = had.before;
     rest = had.rest ++ e ∷ [];
-    split = ap (λ (es : List Event). es ++ e ∷ []) had.split ∙ append_assoc had.past had.rest (e ∷ []);
-    is = had.is;
+    split = ap (λ (es : List Event). es ++ e ∷ []) had.split ∙ append_assoc had.before had.rest (e ∷ []);
+    is_key = had.is_key;
   }
 
   keyed_on : (events : List Event) (e : Event) (keyed : List Keyed) → AllByRecursion (λ (one : Keyed). HadKey groups seats cap events one.told.wait one.key) keyed → AllByRecursion (λ (one : Keyed). HadKey groups seats cap (events ++ e ∷ []) one.told.wait one.key) keyed
@@ -58,7 +58,7 @@ module _ (groups : ReadGroups) (seats cap : ℕ) where
   -- ---- one bound more
 
   just_had : (events : List Event) (wait : WaitEnd) (key : BoundKey) → IsKeyOf groups seats cap events wait key → HadKey groups seats cap events wait key
-  just_had events wait key is = record { past = events; rest = []; split = sym (append-nil events); is = is }
+  just_had events wait key is = record { before = events; rest = []; split = sym (append-nil events); is_key = is }
 
   pub knows_bound : (old new : ToldBounds) (events : List Event) (items : List Told) (number : ℕ) (wait : WaitEnd) (bound : Bound) (key : Key) → KnowsTold old groups seats cap events items → IsKeyOf groups seats cap events wait key.key → AreBefore number items
       → new.needs ≡ old.needs → new.kept.entries ≡ noted key number bound old.kept.entries → KnowsTold new groups seats cap events (items ++ record { number = number; wait = wait; bound = numbers_in bound } ∷ [])
@@ -81,9 +81,9 @@ module _ (groups : ReadGroups) (seats cap : ℕ) where
   -- the bound of a wait is that of its key
   pub bound_had : (events : List Event) (wait : WaitEnd) (key : BoundKey) → AreAccepted (opening groups seats cap) events → HadKey groups seats cap events wait key → bound_of_key groups seats cap events key ≡ bound_by groups seats cap events wait
   bound_had events wait key accepted had =
-      let found = is_found groups seats cap had.past had.rest wait (subst (AreAccepted (opening groups seats cap)) had.split accepted) had.is.ended in
+      let found = is_found groups seats cap had.before had.rest wait (subst (AreAccepted (opening groups seats cap)) had.split accepted) had.is_key.ended in
       subst (λ (all : List Event). bound_of_key groups seats cap all key ≡ bound_by groups seats cap all wait) (sym had.split)
-      (ap (λ (k : BoundKey). bound_of_key groups seats cap (had.past ++ had.rest) k) had.is.is ∙ found.bound)
+      (ap (λ (k : BoundKey). bound_of_key groups seats cap (had.before ++ had.rest) k) had.is_key.is ∙ found.bound)
 
   dues_are : (events : List Event) (keyed : List Keyed) → AreAccepted (opening groups seats cap) events → AllByRecursion (λ (one : Keyed). HadKey groups seats cap events one.told.wait one.key) keyed
       → map (λ (one : Keyed). bound_of_key groups seats cap events one.key) keyed ≡ map (bound_by groups seats cap events) (waits_of (told_in keyed))

@@ -1,5 +1,5 @@
 -- Going over all keys: what those that were looked at tell, and those that are left.
-use Rattle.std.proofs.Common.{◌≡◌, ℕ, List, ◌∷◌, ◌++◌, Option, None, refl, sym, ap, subst, ◌∙◌}
+use Rattle.std.proofs.Common.{◌≡◌, ℕ, List, ◌∷◌, ◌++◌, Option, sym, ap, subst, ◌∙◌}
 use Rattle.rexpand.specs.Groups.{ReadGroups}
 use Rattle.rclaim.specs.declared.event.Event.{Event}
 use Rattle.rbound.specs.Bounds.{numbers_in}
@@ -25,9 +25,6 @@ abbrev pub IsFirstSoFar : WaitBounds → List (Key × Kept) → Option ℕ → L
 IsFirstSoFar bounds all first left = (groups : ReadGroups) (seats cap : ℕ) (events : List Event) → AreBoundsOf bounds groups seats cap events → AreOfWaits groups seats cap events all
     → AreOfWaits groups seats cap events left × (least_wrong (bound_of_key groups seats cap events) all ≡ lesser first (least_wrong (bound_of_key groups seats cap events) left))
 
-pub none_so_far : (bounds : WaitBounds) (all : List (Key × Kept)) → IsFirstSoFar bounds all None all
-none_so_far bounds all = λ groups seats cap events are of. (of, refl)
-
 pub one_key_more : (bounds : WaitBounds) (all left : List (Key × Kept)) (first next : Option ℕ) (key : Key) (kept : Kept) (bound : Bound) → IsFirstSoFar bounds all first ((key, kept) ∷ left) → IsBoundOfKey bounds key.key bound
     → next ≡ lesser first (wrong_by kept (numbers_in bound)) → IsFirstSoFar bounds all next left
 one_key_more bounds all left first next key kept bound so_far is_bound is groups seats cap events are of =
@@ -36,7 +33,7 @@ one_key_more bounds all left first next key kept bound so_far is_bound is groups
     let had = so.0.0.1 in
     let right = bound_of_key groups seats cap events in
     let found : numbers_in bound ≡ bound_by groups seats cap events wait =
-    subst (λ (es : List Event). numbers_in bound ≡ bound_by groups seats cap es wait) (sym had.split) (is_bound groups seats cap had.past had.rest wait (subst (AreBoundsOf bounds groups seats cap) had.split are) had.is) in
+    subst (λ (es : List Event). numbers_in bound ≡ bound_by groups seats cap es wait) (sym had.split) (is_bound groups seats cap had.before had.rest wait (subst (AreBoundsOf bounds groups seats cap) had.split are) had.is_key) in
     let due : right key.key ≡ numbers_in bound = bound_had groups seats cap events wait key.key are.accepted had ∙ sym found in
     let next_is : lesser first (wrong_by kept (right key.key)) ≡ next = ap (λ n. lesser first (wrong_by kept n)) due ∙ sym is in
     (so.0.1, so.1 ∙ lesser_of_three first (wrong_by kept (right key.key)) (least_wrong right left) ∙ ap (λ o. lesser o (least_wrong right left)) next_is)

@@ -1,5 +1,5 @@
 -- What is known of the bounds that were told, and of the history that they are of.
-use Rattle.std.specs.Prelude.{◌≡◌, ◌++◌, ℕ, List}
+use Rattle.std.specs.Prelude.{◌≡◌, ℕ, List}
 use Rattle.std.specs.List.{AllByRecursion}
 use Rattle.rexpand.specs.Groups.{ReadGroups}
 use Rattle.rclaim.specs.declared.event.Event.{Event}
@@ -12,20 +12,13 @@ use Rattle.rshapes.specs.ShapeNeeds.{needs_of_shapes, number_before}
 use Rattle.rneeds.specs.History.{shapes_told}
 use Rattle.rcover.specs.declared.wait_end.WaitEnd.{WaitEnd}
 use Rattle.rneeds.specs.declared.key.BoundKey.{BoundKey}
-use Rattle.rneeds.specs.Keys.{IsKeyOf}
+use Rattle.rneeds.specs.Keys.{HadKey}
 use Rattle.rneeds.specs.Knows.{Knows}
 use Rattle.rbound_told.specs.Told.{Told}
 use Rattle.rbound_told.specs.Kept.{Keyed, told_in, Tells}
 use Rattle.rbound_told.specs.declared.key.Key.{Key}
 use Rattle.rbound_told.specs.declared.kept.Kept.{Kept}
 use Rattle.rbound_told.specs.declared.told.ToldBounds.{ToldBounds}
-
--- this was the key of a wait when one of these events had just ended it
-pub record HadKey (groups : ReadGroups) (seats cap : ℕ) (events : List Event) (wait : WaitEnd) (key : BoundKey) : Type 0 where
-  pub past : List Event
-  pub rest : List Event
-  pub split : events ≡ past ++ rest
-  pub is : IsKeyOf groups seats cap past wait key
 
 -- the bound of the waits that have a key, by what a whole history needs
 abbrev pub bound_of_key : ReadGroups → ℕ → ℕ → List Event → BoundKey → Numbers

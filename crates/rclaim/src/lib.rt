@@ -24,9 +24,5 @@ pub const STATUS_ROOM: usize = 2 * rset::SEATS as usize;
 /// How many grants a list of changes has room for: one for each claim.
 pub const GRANT_ROOM: usize = STATUS_ROOM;
 
-// Users know these numbers, so a change of one is to be meant.
+// Users know this number, so a change of it is to be meant.
 const _: () = prove!(LENGTH_LIMIT == 1_000_000);
-
-const _: () = prove!(STATUS_ROOM == 2 * rset::SEATS as usize);
-
-const _: () = prove!(GRANT_ROOM == 2 * rset::SEATS as usize);

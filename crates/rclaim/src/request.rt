@@ -27,8 +27,8 @@ pub enum Kind {
 /// Why a request is refused.
 #[derive(Clone, Copy, Debug, PartialEq, Eq, Error)]
 pub enum RequestErr {
-    /// There is no resource to read, or none to write.
-    #[error("the request names no resource that it is about")]
+    /// A read or an upgrade has nothing to read, or another request nothing to write.
+    #[error("the request has nothing to read, or nothing to write")]
     EmptyRequest = 1,
     /// The resources to read are not a declared set.
     #[error("the resources to read are not declared together")]

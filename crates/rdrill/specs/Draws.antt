@@ -8,9 +8,23 @@ use Rattle.rclaim.specs.declared.request.Kind.{Kind}
 use Rattle.rclaim.specs.declared.request.Kind.TheVariants.{Read, Write, Mixed, Upgrade, Nested}
 use Rattle.rmodel.specs.State.{LockState, opening}
 
+-- how many seats a drill has, how many resources, and how many of these have a next one
+abbrev pub drill_seats : ℕ
+drill_seats = 8
+
+abbrev pub drill_resources : ℕ
+drill_resources = 8
+
+abbrev pub drill_pairs : ℕ
+drill_pairs = 7
+
+-- every drawing number is below it
+abbrev pub modulus : ℕ
+modulus = 65537
+
 -- the drawing number after one draw more
 abbrev pub next_draw : ℕ → ℕ
-next_draw x = (75 * x + 74) % 65537
+next_draw x = (75 * x + 74) % modulus
 
 -- just this resource, and it with the next one
 abbrev pub one : ℕ → Set
@@ -21,11 +35,11 @@ pair l = insert (one l) (l + 1)
 
 -- eight resources, of which each shares a group with the next
 abbrev pub drill_groups : ReadGroups
-drill_groups = record { q = 8; groups = pair 0 ∷ pair 1 ∷ pair 2 ∷ pair 3 ∷ pair 4 ∷ pair 5 ∷ pair 6 ∷ [] }
+drill_groups = record { q = drill_resources; groups = pair 0 ∷ pair 1 ∷ pair 2 ∷ pair 3 ∷ pair 4 ∷ pair 5 ∷ pair 6 ∷ [] }
 
 -- the lock that a drill begins with: eight seats, each of which may have a request
 abbrev pub drill_opening : LockState
-drill_opening = opening drill_groups 8 8
+drill_opening = opening drill_groups drill_seats drill_seats
 
 -- the kind of request that a draw of five gives
 abbrev pub kind_drawn : ℕ → Kind

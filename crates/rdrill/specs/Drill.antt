@@ -15,7 +15,7 @@ use Rattle.rmodel.specs.Changes.{changes_between, status_in}
 use Rattle.rmodel.specs.Holds.{holds_of, has_request}
 use Rattle.rmodel.specs.State.{LockState}
 use Rattle.rmodel.specs.Steps.{is_not_holding, next, after}
-use Rattle.rdrill.specs.Draws.{next_draw, drill_opening, kind_drawn, request_for}
+use Rattle.rdrill.specs.Draws.{drill_seats, drill_pairs, modulus, next_draw, drill_opening, kind_drawn, request_for}
 
 -- an event that was drawn, and the drawing number behind it
 pub record Drawn : Type 0 where
@@ -38,11 +38,11 @@ may_act s seat = not (has_request s.claims seat && is_not_holding s.claims seat)
 
 -- the first seat that may act from this one upwards; after the last comes the first
 abbrev pub acting : LockState → ℕ → ℕ
-acting s seat = unwrap_or (find (may_act s) (map (λ more. (seat + more) % 8) (range_with_len 0 8))) seat
+acting s seat = unwrap_or (find (may_act s) (map (λ more. (seat + more) % drill_seats) (range_with_len 0 drill_seats))) seat
 
 -- an idle seat issues a request: one draw gives its kind, another what it is about
 abbrev pub drawn_issue : ℕ → ℕ → Drawn
-drawn_issue seat x = record { event = Issue seat (request_for (kind_drawn (next_draw x % 5)) (next_draw (next_draw x) % 7)); x = next_draw (next_draw x) }
+drawn_issue seat x = record { event = Issue seat (request_for (kind_drawn (next_draw x % 5)) (next_draw (next_draw x) % drill_pairs)); x = next_draw (next_draw x) }
 
 -- one draw chooses between two events
 abbrev pub either : Event → Event → ℕ → Drawn
@@ -71,9 +71,9 @@ drawn_holding s (Some r) seat x = drawn_by r.kind s r seat x
 abbrev pub drawn_for : LockState → Option RequestFields → ℕ → ℕ → Drawn
 drawn_for s latest seat x = if has_request s.claims seat then drawn_holding s latest seat x else drawn_issue seat x
 
--- a draw of eight names a seat; the first from it upwards acts that may
+-- a draw names a seat; the first from it upwards acts that may
 abbrev pub seat_drawn : LockState → ℕ → ℕ
-seat_drawn s x = acting s (next_draw x % 8)
+seat_drawn s x = acting s (next_draw x % drill_seats)
 
 -- what is drawn in a state, where these are the latest requests of the seats
 abbrev pub drawn_in : LockState → (ℕ → Option RequestFields) → ℕ → Drawn
@@ -117,6 +117,6 @@ at_seat latest seat = unwrap_or (slice_get latest seat) None
 pub record IsAt (n : ℕ) (s : LockState) (x : ℕ) (latest : List (Option RequestFields)) : Type 0 where
   pub state : s ≡ after drill_opening (drill_events n)
   pub x_is : x ≡ (drill_of n).x
-  pub small : x < 65537
-  pub seats : length latest ≡ 8
+  pub small : x < modulus
+  pub seats : length latest ≡ drill_seats
   pub latest_are : (seat : ℕ) → at_seat latest seat ≡ latest_of (drill_events n) seat

@@ -7,6 +7,7 @@ use Rattle.rmodel.specs.Steps.{incomplete_of}
 use Rattle.rwatch.specs.Seen.{Seen}
 use Rattle.rwatch.specs.declared.kinds.WatchKind.{WatchKind}
 use Rattle.rwatch.specs.declared.kinds.WatchKind.TheVariants.{Issues, Finishes, Rises, Asks, Entitled, Satisfied, Grants}
+use Rattle.rdrill.specs.Draws.{drill_seats}
 
 -- a word, a comma, a number and the end of the line
 unfoldable pub count_line : List ℕ → ℕ → List ℕ
@@ -26,9 +27,9 @@ kind_word Grants = codes "grants"
 abbrev pub watcher_line : Seen → List ℕ
 watcher_line w = count_line (kind_word w.kind) w.count
 
--- how many of the eight seats hold something
+-- how many seats hold something
 abbrev pub holding_of : LockState → ℕ
-holding_of s = count_by (λ seat. not (is_nothing (holds_of s.claims seat))) (range_with_len 0 8)
+holding_of s = count_by (λ seat. not (is_nothing (holds_of s.claims seat))) (range_with_len 0 drill_seats)
 
 -- the last lines
 abbrev pub summary_end : LockState → List ℕ

@@ -6,11 +6,11 @@ ghost use Rattle.rmodel.specs.Changes.{changes_between};
 ghost use Rattle.rmodel.specs.Holds.{holds_of};
 ghost use Rattle.rmodel.specs.Steps.{AreAccepted, Comes, next, after};
 ghost use Rattle.rwatch.specs.Seen.{told, told_all};
-ghost use Rattle.rdrill.specs.Draws.{drill_opening};
+ghost use Rattle.rdrill.specs.Draws.{drill_seats, modulus, drill_opening};
 ghost use Rattle.rdrill.specs.Drill.{Drawn, IsAt, may_act, acting, either, drawn_issue, all_held, drawn_by, drawn_in, drawn, latest_after, at_seat, drill_of, drill_events, steps_of};
 
 use crate::dice::Dice;
-use crate::requests::{drill_groups, kind_drawn, request_for};
+use crate::requests::{DRILL_PAIRS, drill_groups, kind_drawn, request_for};
 use rclaim::{Event, Kind, Request};
 use rmodel::Machine;
 use rwatch::Audience;
@@ -22,7 +22,7 @@ pub const MOST_EVENTS: u32 = 1_000_000;
 const _: () = prove!(MOST_EVENTS == 1_000_000);
 
 /// The number of seats of a drill.
-const DRILL_SEATS: u8 = 8;
+pub const DRILL_SEATS: u8 = 8;
 
 /// A machine as a drill begins with it.
 ///
@@ -45,7 +45,7 @@ pub fn drill<M: Machine, A: Audience>(machine: &mut M, audience: &mut A, count: 
     ensures told { A.all audience.new ≡ map (told_all (steps_of drill_opening (drill_events count))) (A.all audience.old) }
 {
     let mut dice = Dice { x: 1 };
-    let mut latest = [None; 8];
+    let mut latest = [None; DRILL_SEATS as usize];
     for _ in 0u32..count {
         take_one(machine, audience, &mut dice, &mut latest);
     }
@@ -80,9 +80,9 @@ fn apply<M: Machine>(machine: &mut M, event: Event)
 
 // Notes the request that an event issues as the latest of its seat.
 fn remember(latest: &mut [Option<Request>], event: &Event)
-    requires seats { length latest.old ≡ 8 }
-    requires there { seat_of event.now < 8 }
-    ensures seats { length latest.new ≡ 8 }
+    requires seats { length latest.old ≡ drill_seats }
+    requires there { seat_of event.now < drill_seats }
+    ensures seats { length latest.new ≡ drill_seats }
     ensures latest { (seat : ℕ) → at_seat latest.new seat ≡ latest_after seat (at_seat latest.old seat) event.now }
 {
     if let Event::Issue { seat, request } = event {
@@ -92,13 +92,13 @@ fn remember(latest: &mut [Option<Request>], event: &Event)
 
 // Draws the next event.
 fn draw_event<M: Machine>(machine: &M, latest: &[Option<Request>], dice: &mut Dice) -> Event
-    requires small { dice.old.x < 65537 }
-    requires seats { length latest.now ≡ 8 }
+    requires small { dice.old.x < modulus }
+    requires seats { length latest.now ≡ drill_seats }
     ensures drawn { record { event = result; x = dice.new.x } ≡ drawn_in (M.state machine.now) (at_seat latest.now) dice.old.x }
-    ensures small { dice.new.x < 65537 }
-    ensures there { seat_of result < 8 }
+    ensures small { dice.new.x < modulus }
+    ensures there { seat_of result < drill_seats }
 {
-    let named = dice.draw(8) as u8;
+    let named = dice.draw(DRILL_SEATS as u32) as u8;
     let seat = acting(machine, named);
     if machine.idle(seat) {
         return draw_issue(seat, dice);
@@ -111,12 +111,12 @@ fn draw_event<M: Machine>(machine: &M, latest: &[Option<Request>], dice: &mut Di
 
 // The first seat that may act from this one upwards.
 fn acting<M: Machine>(machine: &M, seat: u8) -> u8
-    requires { seat < 8 }
+    requires { seat < drill_seats }
     ensures acts { result ≡ acting (M.state machine.now) seat }
-    ensures there { result < 8 }
+    ensures there { result < drill_seats }
 {
-    for more in 0u8..8 {
-        let next = (seat + more) % 8;
+    for more in 0u8..DRILL_SEATS {
+        let next = (seat + more) % DRILL_SEATS;
         if may_act(machine, next) {
             return next;
         }
@@ -133,13 +133,13 @@ fn may_act<M: Machine>(machine: &M, seat: u8) -> bool
 
 // An idle seat issues a request.
 fn draw_issue(seat: u8, dice: &mut Dice) -> Event
-    requires { dice.old.x < 65537 }
+    requires { dice.old.x < modulus }
     ensures drawn { record { event = result; x = dice.new.x } ≡ drawn_issue seat dice.old.x }
-    ensures small { dice.new.x < 65537 }
+    ensures small { dice.new.x < modulus }
     ensures seat { seat_of result ≡ seat }
 {
     let kind = kind_drawn(dice.draw(5));
-    let l = dice.draw(7) as u8;
+    let l = dice.draw(DRILL_PAIRS as u32) as u8;
     Event::Issue {
         seat,
         request: request_for(kind, l),
@@ -148,9 +148,9 @@ fn draw_issue(seat: u8, dice: &mut Dice) -> Event
 
 // What a seat does that holds something, with this request.
 fn draw_holding<M: Machine>(machine: &M, request: &Request, seat: u8, dice: &mut Dice) -> Event
-    requires { dice.old.x < 65537 }
+    requires { dice.old.x < modulus }
     ensures drawn { record { event = result; x = dice.new.x } ≡ drawn_by request.now.kind (M.state machine.now) request.now seat dice.old.x }
-    ensures small { dice.new.x < 65537 }
+    ensures small { dice.new.x < modulus }
     ensures seat { seat_of result ≡ seat }
 {
     let finish = Event::Finish { seat };
@@ -176,9 +176,9 @@ fn holds_first<M: Machine>(machine: &M, request: &Request, seat: u8) -> bool
 
 // One draw chooses between two events.
 fn either(first: Event, second: Event, dice: &mut Dice) -> Event
-    requires { dice.old.x < 65537 }
+    requires { dice.old.x < modulus }
     ensures drawn { record { event = result; x = dice.new.x } ≡ either first second dice.old.x }
-    ensures small { dice.new.x < 65537 }
+    ensures small { dice.new.x < modulus }
 {
     if dice.draw(2) == 0 { first } else { second }
 }

@@ -2,12 +2,18 @@
 ghost use Rattle.std.specs.Prelude.{◌≡◌, ◌≢◌, ◌<◌, ◌≤◌, true, ◌++◌, ◌∷◌, [], IfOk, OnOk};
 ghost use Rattle.std.specs.FinSet.{empty};
 ghost use Rattle.rclaim.specs.Requests.{asked_set, first_fits, normalised};
-ghost use Rattle.rdrill.specs.Draws.{one, pair, kind_drawn, request_for, drill_groups};
+ghost use Rattle.rdrill.specs.Draws.{drill_resources, drill_pairs, one, pair, kind_drawn, request_for, drill_groups};
 
 use rclaim::{Kind, Request};
 use rexpand::{GroupErr, Groups};
 use rset::ResourceSet;
 use std::alloc::{AllocError, Global};
+
+/// The number of resources of a drill.
+const DRILL_RESOURCES: u8 = 8;
+
+/// How many resources have a next one.
+pub const DRILL_PAIRS: u8 = DRILL_RESOURCES - 1;
 
 /// The kind of request that a draw of five gives.
 pub fn kind_drawn(n: u32) -> Kind
@@ -24,7 +30,7 @@ pub fn kind_drawn(n: u32) -> Kind
 
 /// The request of this kind about a resource and the next one.
 pub fn request_for(kind: Kind, l: u8) -> Request
-    requires { l < 7 }
+    requires { l < drill_pairs }
     ensures { result ≡ request_for kind l }
 {
     let none = ResourceSet::empty();
@@ -55,7 +61,7 @@ fn made(
     Request::new(kind, reads, writes, first, 1, later).unwrap()
 }
 
-/// Eight resources, of which each shares a group with the next.
+/// The resources of a drill, of which each shares a group with the next.
 ///
 /// # Errors
 ///
@@ -63,8 +69,8 @@ fn made(
 pub fn drill_groups(alloc: Global) -> Result<Groups, AllocError>
     ensures { IfOk result (λ groups. groups ≡ drill_groups) }
 {
-    let mut groups = Groups::new(alloc, 8)?;
-    for l in 0u8..7 {
+    let mut groups = Groups::new(alloc, DRILL_RESOURCES)?;
+    for l in 0u8..DRILL_PAIRS {
         declare_pair(&mut groups, l)?;
     }
     Ok(groups)
@@ -72,7 +78,7 @@ pub fn drill_groups(alloc: Global) -> Result<Groups, AllocError>
 
 // Declares a resource and the next one as a group.
 fn declare_pair(groups: &mut Groups, l: u8) -> Result<(), AllocError>
-    requires { (l < 7) × (groups.old.q ≡ 8) }
+    requires { (l < drill_pairs) × (groups.old.q ≡ drill_resources) }
     ensures { OnOk result (groups.new ≡ record groups.old { groups = groups.old.groups ++ pair l ∷ [] }) }
 {
     match groups.declare(ResourceSet::one(l).with(l + 1)) {

@@ -3,6 +3,7 @@ ghost use Rattle.std.specs.Prelude.{not, ◌≡◌, ◌≤◌, ◌+◌, ◌*◌,
 ghost use Rattle.rmodel.specs.Holds.{is_nothing, holds_of};
 ghost use Rattle.rdrill.specs.Summary.{count_line, kind_word, watcher_line, holding_of, summary_text};
 
+use crate::drawing::DRILL_SEATS;
 use itoa::Buffer;
 use rmodel::Machine;
 use rwatch::{Audience, WatchKind};
@@ -104,7 +105,9 @@ fn kind_word(kind: WatchKind) -> &'static [u8]
 fn holding<M: Machine>(machine: &M) -> u64
     ensures { result ≡ holding_of (M.state machine.now) }
 {
-    (0u8..8).filter(|seat| holds(machine, *seat)).count() as u64
+    (0u8..DRILL_SEATS)
+        .filter(|seat| holds(machine, *seat))
+        .count() as u64
 }
 
 // Whether a seat holds something.

@@ -6,8 +6,11 @@ use std::env;
 use std::io::ErrorKind;
 use std::rt::Env;
 
-/// All that the program was started with, its name first, or what kept it from being had. Which words an environment holds
-/// no contract can say.
+/// All that the program was started with, its name first. Which words an environment holds no contract can say.
+///
+/// # Errors
+///
+/// What kept them from being had, as `InvalidData` where one is not UTF-8, or `OutOfMemory`.
 pub fn given_words<R: Env + AllocGlobal>(rt: &R) -> Result<Vec<String>, ErrorKind> {
     match env::args(rt) {
         Ok(args) => match args.collect(rt.alloc()) {
@@ -18,8 +21,11 @@ pub fn given_words<R: Env + AllocGlobal>(rt: &R) -> Result<Vec<String>, ErrorKin
     }
 }
 
-/// Of all that the program was started with the words after its name, or the status where nothing is to be had: wrong words
-/// where one is not UTF-8, and else want of memory.
+/// Of all that the program was started with the words after its name.
+///
+/// # Errors
+///
+/// The status where nothing is to be had: wrong words where one is not UTF-8, and else want of memory.
 pub fn words_of(given: Result<Vec<String>, ErrorKind>) -> Result<Vec<String>, ToolStatus>
     ensures words { IfOk given (λ all. IsOkAnd result (λ words. words.items ≡ drop 1 all.items)) }
     ensures no_text { IfErr given (λ kind. kind ≡ ErrorKind.InvalidData → result ≡ Err ToolStatus.Words) }

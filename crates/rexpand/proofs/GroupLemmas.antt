@@ -9,17 +9,13 @@ use Rattle.rset.specs.declared.TheConstants.{RESOURCES}
 use Rattle.rset.specs.Sets.{Set, all_below}
 use Rattle.rexpand.specs.declared.TheConstants.{GROUPS}
 use Rattle.rexpand.specs.Groups.{ReadGroups, no_groups, is_group, are_groups}
-use Rattle.rexpand.proofs.DeclaredLemmas.{some_members, filled_by_number}
+use Rattle.rexpand.proofs.DeclaredLemmas.{some_members}
 
 -- ---- one group
 
 pub group_of : (q : ℕ) (s : Set) → (s ≡ empty → ⊥) → all_below q s ≡ true → is_group q s ≡ true
 unfolding is_group
 group_of q s filled low = and_from _ _ (some_members s filled) low
-
-pub group_filled : (q : ℕ) (s : Set) → is_group q s ≡ true → s ≡ empty → ⊥
-unfolding is_group
-group_filled q s h = filled_by_number s (and_parts (nat_lt 0 (len s)) (all_below q s) h).0
 
 pub group_below : (q : ℕ) (s : Set) → is_group q s ≡ true → all_below q s ≡ true
 unfolding is_group

@@ -140,7 +140,11 @@ impl Groups {
         }
     }
 
-    /// Groups with the same number of resources and the same groups, or an error where memory runs out.
+    /// Groups with the same number of resources and the same groups.
+    ///
+    /// # Errors
+    ///
+    /// Want of memory.
     pub fn copy(&self, alloc: Global) -> Result<Groups, AllocError>
         ensures { IfOk result (λ groups. groups ≡ self.now) }
     {

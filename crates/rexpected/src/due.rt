@@ -20,16 +20,13 @@ use itoa::Buffer;
 use rclaim::{GrantChange, StatusChange};
 use rcover::WaitEnd;
 use rforms::Code;
-use rlines::Reading;
+use rlines::{AT_LEDGERS, Reading};
 use rmodel::Machine;
 use rpage::{NameRows, Page};
 use rplain::Plain;
 use rset::NameTable;
 use rvalue::Ledger;
 use std::alloc::{AllocError, Global};
-
-// The place of ledgers, as `rforms` numbers places.
-const AT_LEDGERS: u8 = 8;
 
 /// The line that is due behind what was read, where the fault is that another one stands there, if one is. Of a wait it is
 /// the line up to the bound, which is known only where the whole report is. Behind the end of the report none is.
@@ -176,24 +173,14 @@ fn wait_due(alloc: Global, names: &NameRows, wait: &WaitEnd) -> Result<Option<Pa
 fn ledger_due(alloc: Global, reading: &Reading) -> Result<Option<Page>, AllocError>
     ensures { IfOk result (λ page. page ≡ ledger_text (names_read reading.now) reading.now.ledgers.items (ledgers_told reading.now)) }
 {
-    let due = ledgers_told(reading);
+    let due = reading.ledgers_told();
     match reading.ledgers.get(due) {
         Some(ledger) => ledger_at(alloc, reading, due, ledger),
         None => Ok(None),
     }
 }
 
-// How many ledgers were told.
-fn ledgers_told(reading: &Reading) -> usize
-    ensures { result ≡ ledgers_told reading.now }
-{
-    if reading.last == AT_LEDGERS {
-        reading.told
-    } else {
-        0
-    }
-}
-
+// The line of the ledger at a place. `rpage` spells it too, of a resource that is there: a field more goes into both.
 fn ledger_at(
     alloc: Global,
     reading: &Reading,

@@ -13,7 +13,7 @@ use Rattle.rmodel.specs.Steps.{refusal}
 use Rattle.rforms.specs.declared.fault.Refusal.{Refusal}
 use Rattle.rforms.specs.declared.fault.Refusal.TheVariants.{Request, Step}
 
--- why a request is refused under read groups, before the lock is asked: it is about nothing, its first part is outside, or it is not admitted
+-- why a request is refused under read groups, before the lock is asked: a read or an upgrade reads nothing, or another request writes nothing; its first part is outside; or it is not admitted
 abbrev pub request_refusal : List Set → RequestFields → Option RequestErr
 request_refusal groups r =
     if len (asked_set r.kind r.reads r.writes) == 0 then Some EmptyRequest

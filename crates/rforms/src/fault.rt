@@ -15,7 +15,7 @@ pub enum Refusal {
 #[derive(Clone, Copy, Debug, PartialEq, Eq)]
 pub enum Code {
     /// It is no record of this kind of input, a name that it declares is bad, repeated or past the limit, a group has
-    /// no member or is past the limit, or a number of it is none or above its limit.
+    /// no member or is past the limit, or a number of it is none or outside its limits.
     BadField,
     /// It names a task or a resource that is not declared.
     UnknownName,
@@ -23,11 +23,11 @@ pub enum Code {
     BadOrder,
     /// Its event is refused.
     Refused(Refusal),
-    /// A line that tells a change is due and it is not that line, or it is such a line and none is due.
+    /// A line that tells a change or a wait is due and it is not that line, or it is such a line and none is due.
     WrongChange,
-    /// It is an act with a wrong answer, or of what the section does not hold.
+    /// It is an act whose number or answer is wrong, or one that the section may not do there.
     WrongShow,
-    /// The ledger of a resource is due, and it is not that line.
+    /// It is a ledger or the end, and the ledger of a resource is due that it does not tell.
     WrongLedger,
     /// The records end without `end`.
     NoEnd,

@@ -15,22 +15,23 @@ use Rattle.rcover.specs.declared.wait_end.WaitEnd.{WaitEnd}
 use Rattle.rmodel.specs.Changes.{changes_between}
 use Rattle.rmodel.specs.State.{LockState}
 use Rattle.rmodel.specs.Steps.{next}
+use Rattle.rforms.specs.Faults.{is_ledger}
 use Rattle.rforms.specs.Heads.{Head}
 use Rattle.rforms.specs.Lines.{Line, HasResource, HasGroup, HasTask, HasCap, Does, Leaves, Ends}
 use Rattle.rforms.specs.Waits.{ended_in, bound_in}
 use Rattle.rforms.specs.Reports.{Entry, Report, lock_after, status_lines, grant_line, change_lines, wait_line, wait_lines, due_lines, entry_lines, history_lines, ledger_lines, ledger_after, declared_lines, head_lines}
-use Rattle.rheadline.specs.Headline.{tells_ledger, AreLedgersTold}
+use Rattle.rheadline.specs.Headline.{AreLedgersTold}
 
 -- those of these lines that tell ledgers
 abbrev ledgers : List Line → List Line
-ledgers lines = filter tells_ledger lines
+ledgers lines = filter is_ledger lines
 
-none_mapped : {X : Type 0} (f : X → Line) → ((x : X) → tells_ledger (f x) ≡ false) → (xs : List X) → ledgers (map f xs) ≡ []
+none_mapped : {X : Type 0} (f : X → Line) → ((x : X) → is_ledger (f x) ≡ false) → (xs : List X) → ledgers (map f xs) ≡ []
 none_mapped f each [] = refl
 none_mapped f each (x ∷ xs) = rw (each x) (none_mapped f each xs)
 
 both : (xs ys us vs : List Line) → ledgers xs ≡ us → ledgers ys ≡ vs → ledgers (xs ++ ys) ≡ us ++ vs
-both xs ys us vs p q = filter-append tells_ledger xs ys ∙ (λ i. p i ++ q i)
+both xs ys us vs p q = filter-append is_ledger xs ys ∙ (λ i. p i ++ q i)
 
 status_none : (seat : ℕ) (half : Bool) (status : Status) → ledgers (status_lines seat half status) ≡ []
 status_none seat half Waiting = refl
@@ -68,7 +69,7 @@ head_none rs gs ts told =
     (both (map HasGroup gs) (map HasTask ts ++ caps) [] [] (none_mapped HasGroup (λ x. refl) gs)
     (both (map HasTask ts) caps [] [] (none_mapped HasTask (λ x. refl) ts) (none_mapped HasCap (λ x. refl) (option_to_list told))))
 
-all_mapped : (f : ℕ → Line) → ((l : ℕ) → tells_ledger (f l) ≡ true) → (ls : List ℕ) → ledgers (map f ls) ≡ map f ls
+all_mapped : (f : ℕ → Line) → ((l : ℕ) → is_ledger (f l) ≡ true) → (ls : List ℕ) → ledgers (map f ls) ≡ map f ls
 all_mapped f each [] = refl
 all_mapped f each (l ∷ ls) = rw (each l) (ap (λ (lines : List Line). f l ∷ lines) (all_mapped f each ls))
 

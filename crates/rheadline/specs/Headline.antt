@@ -24,6 +24,7 @@ use Rattle.rscript.specs.Scripts.{ScriptFields}
 use Rattle.rscript.specs.Needs.{needs_of}
 use Rattle.rbound_text.specs.BoundText.{wait_row, tasks_rows, cap_meant}
 use Rattle.rsection.specs.Runs.{IsRunOf}
+use Rattle.rforms.specs.Faults.{is_ledger}
 use Rattle.rforms.specs.Heads.{Head, read_groups, opening_of}
 use Rattle.rforms.specs.SetFields.{name_at}
 use Rattle.rforms.specs.Lines.{Line, Happens, Does, BecomesEntitled, BecomesSatisfied, Grants, Leaves}
@@ -107,15 +108,10 @@ AreCountedBeforehand p r = OfEach (λ earlier entry. AllByRecursion (IsCountedBe
 
 -- ---- ledgers
 
--- a line tells a ledger
-abbrev pub tells_ledger : Line → Bool
-tells_ledger (Leaves place ledger) = true
-tells_ledger _ = false
-
 -- *each ledger*: there is a line for each resource, by number, and it tells the ledger that the acts of the history make of it
 abbrev pub AreLedgersTold : Report → Type 0
 AreLedgersTold r =
-    filter tells_ledger (lines_of true (bound_in r.head r.entries) (Some r.head.cap) r) ≡ map (λ l. Leaves l (ledger_after r.entries l)) (range_with_len 0 (length r.head.resources))
+    filter is_ledger (lines_of true (bound_in r.head r.entries) (Some r.head.cap) r) ≡ map (λ l. Leaves l (ledger_after r.entries l)) (range_with_len 0 (length r.head.resources))
 
 -- ---- all of it
 

@@ -27,7 +27,8 @@ pub struct Heads {
     pub now: Vec<Head>,
     /// Of each seat, those of the writes whose least claim is its own, with others maybe.
     pub behind: Vec<ResourceSet>,
-    /// That of the write that an event took away, as it was before, by the last `lose`; of no seat, where that event took none.
+    /// That of the write that an event took away, as it was before, by the last `lose`. Where that event took none, it is of the seat
+    /// `SEATS`, which no claim has: so what goes by the seat of this claim finds nothing, and needs no test for it.
     pub lost: Head,
     /// The seats of the writes that have another head since by a look-up: each of them had the one that is lost.
     pub moved: ResourceSet,

@@ -15,7 +15,7 @@ use Rattle.rneeds.specs.Knows.{bound_by as bound_by_events}
 use Rattle.rneeds.specs.declared.key.BoundKey.{BoundKey}
 use Rattle.rwaits.specs.Past.{Past, start_of, with_event}
 use Rattle.rhistory.specs.Behind.{ComesNext, bound_by}
-use Rattle.rhistory.specs.Gathered.{EndedLast, HadKey}
+use Rattle.rhistory.specs.Gathered.{EndedLast, HadKeyIn}
 
 -- ---- one event more
 
@@ -36,7 +36,7 @@ ended_last p e ended accepted coming =
     })
 
 -- a key that a wait had stays one, whatever event comes
-had_later : (p : Past) (e : Event) (w : WaitEnd) (key : BoundKey) → HadKey p w key → HadKey (with_event p e) w key
+had_later : (p : Past) (e : Event) (w : WaitEnd) (key : BoundKey) → HadKeyIn p w key → HadKeyIn (with_event p e) w key
 had_later p e w key had = record {
   before = had.before;
   rest = had.rest ++ e ∷ [];
@@ -45,7 +45,7 @@ had_later p e w key had = record {
 }
 
 -- the waits that the last event ended have their keys behind it
-keys_now : (p : Past) (ended : List WaitEnd) → EndedLast p ended → AllZip (HadKey p) ended (map (key_of p.events) ended)
+keys_now : (p : Past) (ended : List WaitEnd) → EndedLast p ended → AllZip (HadKeyIn p) ended (map (key_of p.events) ended)
 keys_now p [] all = tt
 keys_now p (w ∷ ws) all = (
   record { before = p.events; rest = []; split = sym (append-nil p.events); is_key = record { ended = all.0; is = refl } },
@@ -53,8 +53,8 @@ keys_now p (w ∷ ws) all = (
 )
 
 -- the keys of the waits so far, with those that an event ended
-pub keys_more : (p : Past) (e : Event) (ws : List WaitEnd) (keys : List BoundKey) (ended : List WaitEnd) → AllZip (HadKey p) ws keys → EndedLast (with_event p e) ended
-    → AllZip (HadKey (with_event p e)) (ws ++ ended) (keys ++ map (key_of (p.events ++ e ∷ [])) ended)
+pub keys_more : (p : Past) (e : Event) (ws : List WaitEnd) (keys : List BoundKey) (ended : List WaitEnd) → AllZip (HadKeyIn p) ws keys → EndedLast (with_event p e) ended
+    → AllZip (HadKeyIn (with_event p e)) (ws ++ ended) (keys ++ map (key_of (p.events ++ e ∷ [])) ended)
 keys_more p e [] [] ended had all = keys_now (with_event p e) ended all
 keys_more p e [] (key ∷ keys) ended had all = absurd had
 keys_more p e (w ∷ ws) [] ended had all = absurd had
@@ -66,10 +66,10 @@ none_of [] is = refl
 none_of (w ∷ ws) is = absurd (omega (arith, is))
 
 -- and where an event ended none, the keys stay those of the waits so far
-pub keys_same : (p : Past) (e : Event) (ws ended : List WaitEnd) (keys : List BoundKey) → ended ≡ [] → AllZip (HadKey p) ws keys → AllZip (HadKey (with_event p e)) (ws ++ ended) keys
-keys_same p e ws ended keys none had = subst (λ (es : List WaitEnd). AllZip (HadKey (with_event p e)) (ws ++ es) keys) (sym none) (all_later ws keys had)
+pub keys_same : (p : Past) (e : Event) (ws ended : List WaitEnd) (keys : List BoundKey) → ended ≡ [] → AllZip (HadKeyIn p) ws keys → AllZip (HadKeyIn (with_event p e)) (ws ++ ended) keys
+keys_same p e ws ended keys none had = subst (λ (es : List WaitEnd). AllZip (HadKeyIn (with_event p e)) (ws ++ es) keys) (sym none) (all_later ws keys had)
   where
-    all_later : (ws : List WaitEnd) (keys : List BoundKey) → AllZip (HadKey p) ws keys → AllZip (HadKey (with_event p e)) (ws ++ []) keys
+    all_later : (ws : List WaitEnd) (keys : List BoundKey) → AllZip (HadKeyIn p) ws keys → AllZip (HadKeyIn (with_event p e)) (ws ++ []) keys
     all_later [] [] had = tt
     all_later [] (key ∷ keys) had = absurd had
     all_later (w ∷ ws) [] had = absurd had
@@ -96,29 +96,29 @@ key_more f ended i d old sofar now key within were is grown =
 -- ---- the bounds
 
 -- there are as many waits as keys
-pub as_many : (p : Past) (ws : List WaitEnd) (keys : List BoundKey) → AllZip (HadKey p) ws keys → length keys ≡ length ws
-as_many p ws keys had = AllZip-long (HadKey p) ws keys had
+pub as_many : (p : Past) (ws : List WaitEnd) (keys : List BoundKey) → AllZip (HadKeyIn p) ws keys → length keys ≡ length ws
+as_many p ws keys had = AllZip-long (HadKeyIn p) ws keys had
 
 -- whose key stands at a place
 pub record IsFound (p : Past) (ws : List WaitEnd) (i : ℕ) (key : BoundKey) : Type 0 where
   pub wait : WaitEnd
   pub at : slice_get ws i ≡ Some wait
-  pub had : HadKey p wait key
+  pub had : HadKeyIn p wait key
 
-pub found_at : (p : Past) (ws : List WaitEnd) (keys : List BoundKey) (i : ℕ) (key : BoundKey) → AllZip (HadKey p) ws keys → i < length ws → key ≡ get_or keys i key → IsFound p ws i key
+pub found_at : (p : Past) (ws : List WaitEnd) (keys : List BoundKey) (i : ℕ) (key : BoundKey) → AllZip (HadKeyIn p) ws keys → i < length ws → key ≡ get_or keys i key → IsFound p ws i key
 found_at p [] keys i key had within at = absurd (omega (arith, within))
 found_at p (w ∷ ws) [] i key had within at = absurd had
-found_at p (w ∷ ws) (k ∷ keys) zero key had within at = record { wait = w; at = refl; had = subst (HadKey p w) (sym at) had.0 }
+found_at p (w ∷ ws) (k ∷ keys) zero key had within at = record { wait = w; at = refl; had = subst (HadKeyIn p w) (sym at) had.0 }
 found_at p (w ∷ ws) (k ∷ keys) (suc i) key had within at =
     let rest = found_at p ws keys i key had.1 (omega (arith, within)) at in
     record { wait = rest.wait; at = rest.at; had = rest.had }
 
 -- the bound by all events, from those behind which the key was had on
-pub found_bound : (p : Past) (w : WaitEnd) (key : BoundKey) (had : HadKey p w key) → bound_by_events p.groups p.seats p.cap (had.before ++ had.rest) w ≡ bound_by p w
+pub found_bound : (p : Past) (w : WaitEnd) (key : BoundKey) (had : HadKeyIn p w key) → bound_by_events p.groups p.seats p.cap (had.before ++ had.rest) w ≡ bound_by p w
 unfolding bound_by
 found_bound p w key had = ap (λ (es : List Event). bound_by_events p.groups p.seats p.cap es w) (sym had.split)
 
 -- there are as many bounds as gaps, whatever is known of the same keys
-pub bounds_many : (p : Past) (ws : List WaitEnd) (keys : List BoundKey) → AllZip (HadKey p) ws keys → (q : Past) (vs : List WaitEnd) (gaps : List ℕ) → AllZip (HadKey q) vs keys → length ws ≡ length gaps
+pub bounds_many : (p : Past) (ws : List WaitEnd) (keys : List BoundKey) → AllZip (HadKeyIn p) ws keys → (q : Past) (vs : List WaitEnd) (gaps : List ℕ) → AllZip (HadKeyIn q) vs keys → length ws ≡ length gaps
     → length (map (bound_by q) vs) ≡ length gaps
 bounds_many p ws keys had q vs gaps has each = length-map vs (bound_by q) ∙ sym (as_many q vs keys has) ∙ as_many p ws keys had ∙ each

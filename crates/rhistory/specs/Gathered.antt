@@ -1,10 +1,9 @@
 -- What is gathered of a history beside its text: what it needs, and by what the bound of each wait that it ended is found.
-use Rattle.std.specs.Prelude.{◌≡◌, List, ◌++◌}
+use Rattle.std.specs.Prelude.{List}
 use Rattle.std.specs.List.{AllZip, AllByRecursion}
-use Rattle.rclaim.specs.declared.event.Event.{Event}
 use Rattle.rcover.specs.declared.wait_end.WaitEnd.{WaitEnd}
 use Rattle.rmodel.specs.Steps.{AreAccepted}
-use Rattle.rneeds.specs.Keys.{IsLastEnded, IsKeyOf}
+use Rattle.rneeds.specs.Keys.{IsLastEnded, HadKey}
 use Rattle.rneeds.specs.Knows.{Knows, AreBoundsOf}
 use Rattle.rneeds.specs.declared.bounds.WaitBounds.{WaitBounds}
 use Rattle.rneeds.specs.declared.key.BoundKey.{BoundKey}
@@ -16,17 +15,14 @@ abbrev pub EndedLast : Past → List WaitEnd → Type 0
 EndedLast p ws = AllByRecursion (IsLastEnded p.groups p.seats p.cap p.events) ws
 
 -- a wait had this key behind the event that ended it, which is one of these
-pub record HadKey (p : Past) (w : WaitEnd) (key : BoundKey) : Type 0 where
-  pub before : List Event
-  pub rest : List Event
-  pub split : p.events ≡ before ++ rest
-  pub is_key : IsKeyOf p.groups p.seats p.cap before w key
+abbrev pub HadKeyIn : Past → WaitEnd → BoundKey → Type 0
+HadKeyIn p w key = HadKey p.groups p.seats p.cap p.events w key
 
 -- it was told these events one after another, and that they ended these waits
 pub record KnowsGathered (gathered : Gathered) (p : Past) (ws : List WaitEnd) : Type 0 where
   pub accepted : AreAccepted (start_of p) p.events
   pub needs : Knows gathered.needs p.seats p.events
-  pub keys : AllZip (HadKey p) ws gathered.keys.items
+  pub keys : AllZip (HadKeyIn p) ws gathered.keys.items
 
 -- these are the bounds of a history of which it was told just these events, and that they ended these waits
 pub record AreBoundsIn (bounds : WaitBounds) (gathered : Gathered) (p : Past) (ws : List WaitEnd) : Type 0 where

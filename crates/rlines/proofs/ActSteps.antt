@@ -39,10 +39,6 @@ use Rattle.rlines.proofs.Steps.{groups_on, events_push}
 pub not_six : (n : ℕ) → (n ≡ 6 → ⊥) → ((n == 6) ≡ false) × ((nat_le 6 n && nat_le n 6) ≡ false)
 not_six n h = (grind (arith, nat_tests), grind (arith, nat_tests))
 
-pub and_false : (b : Bool) → (b && false) ≡ false
-and_false true = refl
-and_false false = refl
-
 -- ---- answers
 
 same_is : (a b : Bool) → same_answer a b ≡ true → a ≡ b

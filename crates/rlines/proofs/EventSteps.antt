@@ -1,20 +1,15 @@
 -- An event in its place.
-use Rattle.std.proofs.Common.{◌≡◌, ◌≢◌, ℕ, ◌≤◌, ◌==◌, Bool, true, false, ◌&&◌, cond, nat_le, List, [], ◌∷◌, ◌++◌, length, map, fold, Option, Some, None, refl, sym, ap, subst, ◌∙◌, arith, true≢false}
+use Rattle.std.proofs.Common.{◌≡◌, ℕ, ◌≤◌, Bool, true, false, ◌&&◌, cond, nat_le, List, [], ◌∷◌, ◌++◌, length, map, Option, Some, None, refl, sym, ap, subst, ◌∙◌, arith, true≢false}
 use Rattle.std.specs.Prelude.{option_map}
 use Rattle.std.specs.List.{flat_map}
-use Rattle.std.specs.FinSet.{empty, union, len, empty_of_len}
-use Rattle.std.proofs.lemmas.Bool.Decides.{nat_tests}
-use Rattle.std.proofs.lemmas.List.{map-append, length-map}
-use Rattle.std.proofs.lemmas.List.Sums.{fold_push}
+use Rattle.std.proofs.lemmas.List.{length-map}
 use Rattle.rset.specs.Sets.{Set}
 use Rattle.rset.proofs.SetMembers.{contains_union, contains_empty}
 use Rattle.rclaim.specs.Events.{seat_of}
-use Rattle.rclaim.specs.Requests.{RequestFields, asked_set, first_fits, FitsKind, FitsFirst, IsNormal}
+use Rattle.rclaim.specs.Requests.{RequestFields, IsNormal}
 use Rattle.rclaim.specs.declared.changes.StatusChange.{StatusChange}
 use Rattle.rclaim.specs.declared.claim.Status.{Status}
 use Rattle.rclaim.specs.declared.claim.Status.TheVariants.{Waiting, Entitled, Satisfied}
-use Rattle.rclaim.specs.declared.request.Kind.{Kind}
-use Rattle.rclaim.specs.declared.request.Kind.TheVariants.{Read, Write, Mixed, Upgrade, Nested}
 use Rattle.rclaim.specs.declared.request.RequestErr.TheVariants.{Undeclared}
 use Rattle.rclaim.specs.declared.event.Event.{Event}
 use Rattle.rclaim.specs.declared.event.Event.TheVariants as event
@@ -22,7 +17,7 @@ use Rattle.rmodel.specs.Claims.{is_admitted, active_by}
 use Rattle.rmodel.specs.Changes.{changes_between, AreActive}
 use Rattle.rmodel.specs.Holds.{holds_of}
 use Rattle.rmodel.specs.State.{LockState}
-use Rattle.rmodel.specs.Steps.{refusal, next, after, Fits}
+use Rattle.rmodel.specs.Steps.{refusal, next}
 use Rattle.rmodel.specs.declared.granted.Granted.{Granted}
 use Rattle.rvalue.specs.Lawful.{stands_with, is_held}
 use Rattle.rvalue.specs.Ledgers.{opening_ledger, value_after}
@@ -35,7 +30,7 @@ use Rattle.rwaits.specs.Past.{state_of, with_event}
 use Rattle.rwaits.specs.declared.following.Following.{Following}
 use Rattle.rforms.specs.Heads.{Head, opening_of, read_groups}
 use Rattle.rforms.specs.Lines.{Line, Happens}
-use Rattle.rforms.specs.Reports.{Entry, lock_after, ledger_after, status_lines, status_line, grant_line, wait_line, change_lines, wait_lines}
+use Rattle.rforms.specs.Reports.{Entry, ledger_after, status_lines, status_line, grant_line, wait_line, change_lines, wait_lines}
 use Rattle.rforms.specs.Waits.{events_of, ended_in, no_bounds}
 use Rattle.rforms.specs.Events.{request_refusal, refusal_by, refusal_in}
 use Rattle.rforms.specs.SoFar.{SoFar, head_in, entries_in, lock_in, event_place, bare, with_line}
@@ -46,6 +41,8 @@ use Rattle.rforms.specs.declared.fault.Code.TheVariants.{Refused}
 use Rattle.rforms.specs.declared.fault.Refusal.{Refusal}
 use Rattle.rforms.specs.declared.fault.Refusal.TheVariants.{Request, Step}
 use Rattle.rforms.proofs.facts.Choices.{some_is}
+use Rattle.rforms.proofs.facts.Coming.{some_set, fitting_first}
+use Rattle.rforms.proofs.written.Reaching.{lock-push, after_is}
 use Rattle.rlines.specs.declared.reading.Reading.{Reading}
 use Rattle.rdue.specs.Due.{due_list}
 use Rattle.rlines.specs.Knows.{Knows, may_do, due_left, past_in}
@@ -55,34 +52,11 @@ use Rattle.rlines.proofs.Steps.{groups_on, events_push}
 
 -- ---- requests
 
-has_members : (s : Set) → s ≢ empty → (len s == 0) ≡ false
-has_members s h = elim (len s == 0) as (λ b. (len s == 0) ≡ b → b ≡ false) [ true ↦ λ e. absurd (h (empty_of_len s (grind (arith, nat_tests)))) | false ↦ λ _. refl ] refl
-
-some_set : (kind : Kind) (reads writes : Set) → FitsKind kind reads writes → (len (asked_set kind reads writes) == 0) ≡ false
-some_set Read reads writes fits = has_members reads fits.0
-some_set Write reads writes fits = has_members writes fits.1
-some_set Mixed reads writes fits = has_members writes fits.1
-some_set Upgrade reads writes fits = has_members reads fits.0
-some_set Nested reads writes fits = has_members writes fits.1
-
-fitting_first : (kind : Kind) (reads writes first : Set) → FitsFirst kind (union reads writes) first → first_fits kind reads writes first ≡ true
-fitting_first Read reads writes first fits = refl
-fitting_first Write reads writes first fits = refl
-fitting_first Mixed reads writes first fits = refl
-fitting_first Upgrade reads writes first fits = refl
-fitting_first Nested reads writes first fits = fits
-
 refusal_is : (groups : List Set) (r : RequestFields) (admitted : Bool) → IsNormal r → is_admitted groups r ≡ admitted → request_refusal groups r ≡ cond admitted None (Some Undeclared)
 refusal_is groups r admitted normal is =
     let some = some_set r.kind r.reads r.writes normal.sets in
     let part = fitting_first r.kind r.reads r.writes r.first normal.first in
     rw (some, part, is) refl
-
-pub fits_admitted : (s : LockState) (e : Event) → FitsTold s e → event_admitted s.groups.groups e ≡ true → Fits s e
-fits_admitted s (event.Issue seat r) fits admitted = record { seat_there = fits.0; reads = fits.1; writes = fits.2; admitted = admitted; stamps = fits.4 }
-fits_admitted s (event.Finish seat) fits admitted = fits
-fits_admitted s (event.Rise seat) fits admitted = fits
-fits_admitted s (event.Ask seat part) fits admitted = fits
 
 pub refused_undeclared : (s : LockState) (e : Event) → FitsTold s e → event_admitted s.groups.groups e ≡ false → refusal_in s e ≡ Some (Request Undeclared)
 unfolding refusal_in
@@ -115,9 +89,6 @@ unfolding change_lines wait_lines
 due_is true head earlier s e active =
     ap (λ (lines : List Line). (lines ++ map grant_line (changes_between s (next s e)).grants) ++ map (wait_line no_bounds) (ended_in head earlier e)) (all_told (changes_between s (next s e)).statuses active)
 due_is false head earlier s e active = refl
-
-lock_push : (head : Head) (entries : List Entry) (x : Entry) → lock_after head (entries ++ x ∷ []) ≡ next (lock_after head entries) x.event
-lock_push head entries x = ap (fold next (opening_of head)) (map-append (λ (z : Entry). z.event) entries (x ∷ [])) ∙ fold_push next (opening_of head) (map (λ (z : Entry). z.event) entries) x.event
 
 bare_within : (entries : List Entry) (e : Event) (l : ℕ) → ledger_after (entries ++ bare e ∷ []) l ≡ ledger_after entries l
 bare_within entries (event.Issue seat r) l = value_of-longer value_after opening_ledger entries (bare (event.Issue seat r)) l
@@ -180,7 +151,7 @@ module _ (whole : Bool) (old : Reading) (s : SoFar) (h : Knows whole old s) (e :
           some_task = λ _. h.some_task both.0;
           idle = λ early. absurd (omega (arith, early, low));
           untold = λ _. refl;
-          lock = ap (λ (l : LockState). next l e) is ∙ sym (lock_push (head_in s) (entries_in s) (bare e));
+          lock = ap (λ (l : LockState). next l e) is ∙ sym (lock-push (head_in s) (entries_in s) (bare e));
           stand = (refl, subst (λ (es : List Event). Follows follower (record { groups = read_groups (head_in s); seats = length s.tasks; cap = (head_in s).cap; events = es })) (sym (events_push (entries_in s) (bare e))) follows);
           due = λ _. ap (λ (l : LockState). change_lines whole l e ++ wait_lines whole no_bounds (head_in s) (entries_in s) e) (sym is) ∙ due_is whole (head_in s) (entries_in s) state e active;
           changes = λ entry same. (λ i. changes_between (is i) (next (is i) ((some_is same) i).event));
@@ -204,11 +175,6 @@ event_misplaced whole s e code h =
     (λ due. ap (λ d. cond d None (refusal_in (lock_in s) e)) due) h
 
 -- ---- the events so far
-
--- the state behind events is the same, whichever way they are gone over
-after_is : (s : LockState) (es : List Event) → after s es ≡ fold next s es
-after_is s [] = refl
-after_is s (e ∷ es) = after_is (next s e) es
 
 pub past_state : (s : SoFar) → state_of (past_in s) ≡ lock_in s
 past_state s = after_is (opening_of (head_in s)) (events_of (entries_in s))

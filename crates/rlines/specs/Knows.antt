@@ -26,7 +26,7 @@ use Rattle.rforms.specs.Lines.{Line}
 use Rattle.rforms.specs.Reports.{Entry, lock_after, ledger_after, reads_of, writes_of, ledger_lines}
 use Rattle.rforms.specs.ToldWaits.{tells_wait}
 use Rattle.rforms.specs.Waits.{events_of, ended_in}
-use Rattle.rforms.specs.SoFar.{SoFar, at_groups, head_in, lock_in, entries_in}
+use Rattle.rforms.specs.SoFar.{SoFar, at_resources, at_groups, at_tasks, at_cap, at_acts, at_changes, at_ledgers, at_end, head_in, lock_in, entries_in}
 use Rattle.rlines.specs.declared.reading.Reading.{Reading}
 
 -- the groups that are known, once no resource can follow
@@ -93,23 +93,23 @@ pub record KnowsLedgers (reading : Reading) (s : SoFar) : Type 0 where
 pub record Knows (whole : Bool) (reading : Reading) (s : SoFar) : Type 0 where
   pub kind : reading.whole ≡ whole
   pub last : reading.last ≡ s.last
-  pub most : s.last ≤ 9
+  pub most : s.last ≤ at_end
   pub resources : reading.resources ≡ s.resources
   pub tasks : reading.tasks ≡ s.tasks
   pub cap : reading.cap ≡ s.cap
   pub capped : IfSome s.cap (λ n. (1 ≤ n) × (n ≤ SEATS))
   pub groups : reading.groups ≡ known_groups s
-  pub no_groups : s.last ≤ 2 → s.groups ≡ []
-  pub some_resource : 2 ≤ s.last → 0 < length s.resources
-  pub some_task : 4 ≤ s.last → 0 < length s.tasks
-  pub idle : s.last ≤ 5 → (reading.machine ≡ None) × (s.earlier ≡ []) × (s.latest ≡ None) × (reading.told ≡ 0) × (reading.shown ≡ empty) × (reading.edited ≡ empty)
+  pub no_groups : s.last ≤ at_resources → s.groups ≡ []
+  pub some_resource : at_resources ≤ s.last → 0 < length s.resources
+  pub some_task : at_tasks ≤ s.last → 0 < length s.tasks
+  pub idle : s.last ≤ at_cap → (reading.machine ≡ None) × (s.earlier ≡ []) × (s.latest ≡ None) × (reading.told ≡ 0) × (reading.shown ≡ empty) × (reading.edited ≡ empty)
   pub untold : whole ≡ false → reading.told ≡ 0
   pub lock : state_in s reading.machine ≡ lock_in s
   pub stand : StandBehind reading.machine reading.following s.latest (past_in s)
-  pub due : s.last ≤ 7 → s.due ≡ due_left whole reading.told (due_list (changes_in reading.machine) (last_ended s))
+  pub due : s.last ≤ at_changes → s.due ≡ due_left whole reading.told (due_list (changes_in reading.machine) (last_ended s))
   pub changes : (entry : Entry) → s.latest ≡ Some entry
       → changes_in reading.machine ≡ changes_between (lock_after (head_in s) s.earlier) (next (lock_after (head_in s) s.earlier) entry.event)
   pub active : AreActive (changes_in reading.machine).statuses
   pub ledgers : KnowsLedgers reading s
-  pub acts : whole ≡ true → s.last ≡ 6 → IsOpen reading s
-  pub left : s.last ≡ 8 → s.due ≡ drop reading.told (ledger_lines whole (head_in s) (entries_in s))
+  pub acts : whole ≡ true → s.last ≡ at_acts → IsOpen reading s
+  pub left : s.last ≡ at_ledgers → s.due ≡ drop reading.told (ledger_lines whole (head_in s) (entries_in s))

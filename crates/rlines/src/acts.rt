@@ -3,6 +3,7 @@ ghost use Rattle.std.specs.Prelude.{◌≡◌, ◌<◌, OnOk, OnErr, IfErr, true
 ghost use Rattle.rset.specs.declared.TheConstants.{RESOURCES};
 ghost use Rattle.rvalue.specs.Acts.{place_of};
 ghost use Rattle.rforms.specs.Lines.{Does};
+ghost use Rattle.rforms.specs.SoFar.{at_acts};
 ghost use Rattle.rlines.specs.Knows.{may_do};
 ghost use Rattle.rlines.specs.Takes.{Takes, Refuses};
 
@@ -23,7 +24,7 @@ impl Reading {
         requires below { place_of act.now < length self.old.ledgers.items }
         requires few { place_of act.now < RESOURCES }
         ensures taken { OnOk result (Takes self.old self.new (Does act.now)) }
-        ensures placed { OnOk result (self.old.last ≡ 6) }
+        ensures placed { OnOk result (self.old.last ≡ at_acts) }
         ensures bad { IfErr result (λ code. Refuses self.old (Does act.now) code) }
         ensures still { OnErr result (self.new ≡ self.old) }
     {

@@ -188,7 +188,10 @@ fn add_group(
     }
 }
 
-// Adds a declared name to its table.
+// A table of names holds as many as there are resources, which must be the limit of tasks too: one function declares both.
+const _: () = prove!(rset::SEATS as u16 == rset::RESOURCES);
+
+// Adds a declared name, of a resource or of a task, to its table.
 fn declare(table: &mut NameTable, name: &[u8]) -> Result<(), RowErr>
     ensures ok { OnOk result ((is_bad_name RESOURCES table.old name.now ≡ false) × (table.new ≡ table.old ++ name.now ∷ [])) }
     ensures bad { (code : Code) → result ≡ Err (RowErr.Bad code) → (is_bad_name RESOURCES table.old name.now ≡ true) × (code ≡ Code.BadField) }

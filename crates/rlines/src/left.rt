@@ -59,8 +59,8 @@ impl Reading {
         Ok(())
     }
 
-    // How many ledgers were told.
-    fn ledgers_told(&self) -> usize
+    /// How many ledgers were told.
+    pub fn ledgers_told(&self) -> usize
         ensures { result ≡ ledgers_told self.now }
     {
         if self.last == AT_LEDGERS {

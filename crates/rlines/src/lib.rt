@@ -13,5 +13,5 @@ mod left;
 mod place;
 mod reading;
 
-pub use place::{AT_CHANGES, AT_TASKS};
+pub use place::{AT_CHANGES, AT_LEDGERS, AT_TASKS};
 pub use reading::Reading;

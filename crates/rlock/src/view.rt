@@ -3,6 +3,7 @@ use std::collections::LinkedList;
 
 /// How far a pass is with its turn. A ticket is counted without end, where the words count modulo 2^64.
 pub enum Mode<S> {
+    /// It is in no turn.
     Idle,
     /// It has drawn this ticket.
     Waiting(u64),
@@ -14,7 +15,9 @@ pub enum Mode<S> {
 
 /// A pass, as what it is known by.
 pub struct Member<S, O, E> {
+    /// Its number among the passes.
     pub number: u64,
+    /// The opening of the state behind the gate.
     pub opening: O,
     /// The entries that it has made.
     pub mine: LinkedList<E>,
@@ -24,6 +27,7 @@ pub struct Member<S, O, E> {
 
 /// What a seat at the table knows.
 pub struct View<S, O, E> {
+    /// How far it is with its turn.
     pub mode: Mode<S>,
     /// How many tickets it has drawn.
     pub turns: u64,

@@ -23,7 +23,7 @@ use Rattle.rlongest.specs.Tables.{key_of, is_under, together, cell_at}
 use Rattle.rlongest.specs.AllTables.{AreTables}
 use Rattle.rlongest.specs.Two.{no_length, only, two_at}
 use Rattle.rlongest.specs.Leaders.{leaders_at, led_beside}
-use Rattle.rlongest.specs.Delays.{all_leaders, readers_of, held}
+use Rattle.rlongest.specs.Delays.{all_leaders, readers_of, delayed}
 use Rattle.rlongest.specs.declared.table.Cell.{Cell}
 use Rattle.rlongest.specs.declared.table.Key.TheVariants.{Reads, Writes, Halves}
 use Rattle.rlongest.specs.declared.tables.Tables.{Tables}
@@ -187,8 +187,8 @@ module _ (ns : List Needed) (tasks : ℕ) (are : AreSound ns tasks) where
         any_and (not (n.claim.seat == me)) (λ m. not (n.claim.seat == s) && contains n.claim.reads m) (rising b)
         ∙ ap (λ c. not (n.claim.seat == me) && c) (any_and (not (n.claim.seat == s)) (contains n.claim.reads) (rising b) ∙ ap (λ c. not (n.claim.seat == s) && c) (meets_rising n.claim.reads b below)))
 
-    held_is : (l s me : ℕ) → l < RESOURCES → s < tasks → two_at (held tables tasks s l) me ≡ longest (λ n. not (n.claim.seat == me) && list_any (holds l s n) ns) ns
-    held_is l s me within writer =
+    delayed_is : (l s me : ℕ) → l < RESOURCES → s < tasks → two_at (delayed tables tasks s l) me ≡ longest (λ n. not (n.claim.seat == me) && list_any (holds l s n) ns) ns
+    delayed_is l s me within writer =
         let readers = readers_of (all_leaders tables.reads.items tasks) s in
         let half = (cell_at tables.halves.items s l).longest in
         let b = (cell_at tables.writes.items s l).beside in
@@ -223,8 +223,8 @@ module _ (ns : List Needed) (tasks : ℕ) (are : AreSound ns tasks) where
         any_among (λ s. not (s == me) && (not (n.claim.seat == me) && list_any (holds l s n) ns)) (range_with_len 0 tasks) v.0.claim.seat (range_has 0 tasks v.0.claim.seat (omega arith) (omega arith))
         (and_from _ _ d.0 (and_from _ _ a.0 (any_among (holds l v.0.claim.seat n) ns v.0 v.1 (and_from _ _ c.0 (and_from _ _ (eq-eqb v.0.claim.seat v.0.claim.seat refl) d.1))))))
 
-    pub delays_is : (l me : ℕ) → l < RESOURCES → beside tasks me (λ s. two_at (held tables tasks s l) me) ≡ longest (λ n. not (n.claim.seat == me) && list_any (holds_beside l me n) ns) ns
+    pub delays_is : (l me : ℕ) → l < RESOURCES → beside tasks me (λ s. two_at (delayed tables tasks s l) me) ≡ longest (λ n. not (n.claim.seat == me) && list_any (holds_beside l me n) ns) ns
     delays_is l me within =
-        beside_same tasks me (λ s. two_at (held tables tasks s l) me) (λ s. longest (λ n. not (n.claim.seat == me) && list_any (holds l s n) ns) ns) (λ s writer. held_is l s me within writer)
+        beside_same tasks me (λ s. two_at (delayed tables tasks s l) me) (λ s. longest (λ n. not (n.claim.seat == me) && list_any (holds l s n) ns) ns) (λ s writer. delayed_is l s me within writer)
         ∙ beside_longest ns tasks me (λ s n. not (n.claim.seat == me) && list_any (holds l s n) ns)
         ∙ longest_same (λ n. list_any (λ s. not (s == me) && (not (n.claim.seat == me) && list_any (holds l s n) ns)) (range_with_len 0 tasks)) (λ n. not (n.claim.seat == me) && list_any (holds_beside l me n) ns) ns (delays_by l me)

@@ -12,7 +12,7 @@ use Rattle.rset.specs.declared.TheConstants.{RESOURCES}
 use Rattle.rset.proofs.SetLemmas.{union_associative, union_same, rising_has, rising_below}
 use Rattle.rbound.specs.Needs.{Needed}
 use Rattle.rbound.specs.Longest.{longer, longest}
-use Rattle.rlongest.specs.Tables.{together, is_under, nothing, cell_of, raised, cell_at, with_member, with_claim, with_claims, IsTable}
+use Rattle.rlongest.specs.Tables.{together, is_under, no_claims, cell_of, raised, cell_at, with_member, with_claim, with_claims, IsTable}
 use Rattle.rlongest.specs.declared.table.Cell.{Cell}
 
 all_small : (xs : List ℕ) → ((l : ℕ) → list_any (λ y. y == l) xs ≡ true → l < RESOURCES) → list_all (λ l. nat_lt l RESOURCES) xs ≡ true
@@ -38,18 +38,18 @@ member_at t key len cells x u l long small within =
       | inl task ↦ elim (eqb_tells x l) [
         | inl here ↦
             let same : u * RESOURCES + l ≡ t * RESOURCES + x = (λ i. sym task.1 i * RESOURCES + sym here.1 i) in
-            ap (λ k. get_or (with_member t key len cells x) k nothing) same
-            ∙ get_or-set_same cells (t * RESOURCES + x) (raised key len (cell_at cells t x)) nothing (omega arith)
+            ap (λ k. get_or (with_member t key len cells x) k no_claims) same
+            ∙ get_or-set_same cells (t * RESOURCES + x) (raised key len (cell_at cells t x)) no_claims (omega arith)
             ∙ (λ i. raised key len (cell_at cells (task.1 i) (here.1 i)))
             ∙ sym (λ i. cond (task.0 i && here.0 i) (raised key len (cell_at cells u l)) (cell_at cells u l))
         | inr apart ↦
             let differs : u * RESOURCES + l ≢ t * RESOURCES + x = λ e. apart.1 (let tasks : t ≡ u = task.1 in omega arith) in
-            get_or-set_other cells (t * RESOURCES + x) (u * RESOURCES + l) (raised key len (cell_at cells t x)) nothing differs
+            get_or-set_other cells (t * RESOURCES + x) (u * RESOURCES + l) (raised key len (cell_at cells t x)) no_claims differs
             ∙ sym (λ i. cond (task.0 i && apart.0 i) (raised key len (cell_at cells u l)) (cell_at cells u l))
       ]
       | inr other ↦
           let differs : u * RESOURCES + l ≢ t * RESOURCES + x = λ e. other.1 (omega arith) in
-          get_or-set_other cells (t * RESOURCES + x) (u * RESOURCES + l) (raised key len (cell_at cells t x)) nothing differs
+          get_or-set_other cells (t * RESOURCES + x) (u * RESOURCES + l) (raised key len (cell_at cells t x)) no_claims differs
           ∙ sym (ap (λ b. cond (b && (x == l)) (raised key len (cell_at cells u l)) (cell_at cells u l)) other.0)
     ]
 
@@ -81,7 +81,7 @@ length_claims key [] cells = refl
 length_claims key (n ∷ ns) cells = length_members n.claim.seat (key n) n.len (rising (key n)) (with_claims key ns cells) ∙ length_claims key ns cells
 
 claims_at : (key : Needed → Set) (ns : List Needed) (cells : List Cell) (tasks : ℕ) → AllByRecursion (λ n. n.claim.seat < tasks) ns → AllByRecursion (λ n. IsTrue (all_below RESOURCES (key n))) ns
-    → length cells ≡ tasks * RESOURCES → (t l : ℕ) → l < RESOURCES → cell_at cells t l ≡ nothing → cell_at (with_claims key ns cells) t l ≡ cell_of key ns t l
+    → length cells ≡ tasks * RESOURCES → (t l : ℕ) → l < RESOURCES → cell_at cells t l ≡ no_claims → cell_at (with_claims key ns cells) t l ≡ cell_of key ns t l
 claims_at key [] cells tasks seats below long t l within none = none
 claims_at key (n ∷ ns) cells tasks seats below long t l within none =
     let rest = claims_at key ns cells tasks seats.1 below.1 long t l within none in
@@ -98,14 +98,14 @@ claims_at key (n ∷ ns) cells tasks seats below long t l within none =
 
 -- *A filled table*
 pub table_filled : (key : Needed → Set) (ns : List Needed) (tasks : ℕ) (cells first : List Cell) → AllByRecursion (λ n. n.claim.seat < tasks) ns → AllByRecursion (λ n. IsTrue (all_below RESOURCES (key n))) ns
-    → first ≡ replicate (tasks * RESOURCES) nothing → length first ≡ tasks * RESOURCES → cells ≡ with_claims key ns first → IsTable key ns tasks cells
+    → first ≡ replicate (tasks * RESOURCES) no_claims → length first ≡ tasks * RESOURCES → cells ≡ with_claims key ns first → IsTable key ns tasks cells
 table_filled key ns tasks cells first seats below none long is = record {
   below = below;
   long = ap length is ∙ length_claims key ns first ∙ long;
   has = λ t l some within.
       ap (λ cs. cell_at cs t l) is
       ∙ claims_at key ns first tasks seats below long t l within
-      (ap (λ cs. cell_at cs t l) none ∙ get_or-replicate (tasks * RESOURCES) (t * RESOURCES + l) nothing nothing (omega arith));
+      (ap (λ cs. cell_at cs t l) none ∙ get_or-replicate (tasks * RESOURCES) (t * RESOURCES + l) no_claims no_claims (omega arith));
 }
 
 -- ---- while it is filled

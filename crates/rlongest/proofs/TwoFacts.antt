@@ -7,7 +7,7 @@ use Rattle.rmodel.specs.WellFormed.{Among}
 use Rattle.rbound.specs.Longest.{longer, longest_of}
 use Rattle.rbound.specs.ZoneRows.{beside}
 use Rattle.rbound.proofs.LongestClaims.{longer_none, longer_assoc}
-use Rattle.rlongest.specs.Two.{only, no_length, two_at, is_longer, led_by, both, two_of, two_beside}
+use Rattle.rlongest.specs.Two.{only, no_length, two_at, is_longer, led_by, two_of_both, two_of, two_beside}
 use Rattle.rlongest.specs.declared.two.TwoLongest.{TwoLongest}
 
 absorbs : (a b : Option ℕ) → is_longer a b ≡ true → longer a b ≡ a
@@ -63,21 +63,21 @@ led_fair a b first second most =
     sym (longer_assoc a.longest a.next (two_at b a.task)) ∙ ap (λ x. longer x (two_at b a.task)) first ∙ beyond a b a.task second most
 
 -- *Of both, it is the longer of what each tells*
-pub both_at : (a b : TwoLongest) (me : ℕ) → IsFair a → IsFair b → two_at (both a b) me ≡ longer (two_at a me) (two_at b me)
+pub both_at : (a b : TwoLongest) (me : ℕ) → IsFair a → IsFair b → two_at (two_of_both a b) me ≡ longer (two_at a me) (two_at b me)
 both_at a b me first second = at (is_longer b.longest a.longest) refl
   where
     at : (c : Bool) → is_longer b.longest a.longest ≡ c → two_at (cond c (led_by b a) (led_by a b)) me ≡ longer (two_at a me) (two_at b me)
     at true h = led_at b a me first (absorbs b.longest a.longest h) ∙ swapped (two_at b me) (two_at a me)
     at false h = led_at a b me second (absorbed b.longest a.longest h)
 
-pub both_fair : (a b : TwoLongest) → IsFair a → IsFair b → IsFair (both a b)
+pub both_fair : (a b : TwoLongest) → IsFair a → IsFair b → IsFair (two_of_both a b)
 both_fair a b first second = at (is_longer b.longest a.longest) refl
   where
     at : (c : Bool) → is_longer b.longest a.longest ≡ c → IsFair (cond c (led_by b a) (led_by a b))
     at true h = led_fair b a second first (absorbs b.longest a.longest h)
     at false h = led_fair a b first second (absorbed b.longest a.longest h)
 
-both_longest : (a b : TwoLongest) → (both a b).longest ≡ longer a.longest b.longest
+both_longest : (a b : TwoLongest) → (two_of_both a b).longest ≡ longer a.longest b.longest
 both_longest a b = at (is_longer b.longest a.longest) refl
   where
     at : (c : Bool) → is_longer b.longest a.longest ≡ c → (cond c (led_by b a) (led_by a b)).longest ≡ longer a.longest b.longest
@@ -99,23 +99,23 @@ not_mine true m o = longer_none m
 not_mine false m o = refl
 
 twos_from : (writer me : ℕ) (f : ℕ → Option ℕ) (ks : List ℕ) (two : TwoLongest) → IsFair two
-    → IsFair (fold (λ two t. cond (t == writer) two (both two (only t (f t)))) two ks)
-    × (two_at (fold (λ two t. cond (t == writer) two (both two (only t (f t)))) two ks) me ≡ fold (λ most t. cond (t == me) most (longer most (cond (t == writer) None (f t)))) (two_at two me) ks)
+    → IsFair (fold (λ two t. cond (t == writer) two (two_of_both two (only t (f t)))) two ks)
+    × (two_at (fold (λ two t. cond (t == writer) two (two_of_both two (only t (f t)))) two ks) me ≡ fold (λ most t. cond (t == me) most (longer most (cond (t == writer) None (f t)))) (two_at two me) ks)
 twos_from writer me f [] two fair = (fair, refl)
 twos_from writer me f (k ∷ ks) two fair = at (k == writer) (twos_from writer me f ks)
   where
     at : (b : Bool)
         → ((two : TwoLongest) → IsFair two
-        → IsFair (fold (λ two t. cond (t == writer) two (both two (only t (f t)))) two ks)
-        × (two_at (fold (λ two t. cond (t == writer) two (both two (only t (f t)))) two ks) me ≡ fold (λ most t. cond (t == me) most (longer most (cond (t == writer) None (f t)))) (two_at two me) ks))
-        → IsFair (fold (λ two t. cond (t == writer) two (both two (only t (f t)))) (cond b two (both two (only k (f k)))) ks)
-        × (two_at (fold (λ two t. cond (t == writer) two (both two (only t (f t)))) (cond b two (both two (only k (f k)))) ks) me
+        → IsFair (fold (λ two t. cond (t == writer) two (two_of_both two (only t (f t)))) two ks)
+        × (two_at (fold (λ two t. cond (t == writer) two (two_of_both two (only t (f t)))) two ks) me ≡ fold (λ most t. cond (t == me) most (longer most (cond (t == writer) None (f t)))) (two_at two me) ks))
+        → IsFair (fold (λ two t. cond (t == writer) two (two_of_both two (only t (f t)))) (cond b two (two_of_both two (only k (f k)))) ks)
+        × (two_at (fold (λ two t. cond (t == writer) two (two_of_both two (only t (f t)))) (cond b two (two_of_both two (only k (f k)))) ks) me
         ≡ fold (λ most t. cond (t == me) most (longer most (cond (t == writer) None (f t)))) (cond (k == me) (two_at two me) (longer (two_at two me) (cond b None (f k)))) ks)
     at true rest =
         let r = rest two fair in
         (r.0, r.1 ∙ ap (λ m. fold (λ most t. cond (t == me) most (longer most (cond (t == writer) None (f t)))) m ks) (none_more (k == me) (two_at two me)))
     at false rest =
-        let r = rest (both two (only k (f k))) (both_fair two (only k (f k)) fair (only_fair k (f k))) in (
+        let r = rest (two_of_both two (only k (f k))) (both_fair two (only k (f k)) fair (only_fair k (f k))) in (
           r.0,
           r.1
               ∙ ap (λ m. fold (λ most t. cond (t == me) most (longer most (cond (t == writer) None (f t)))) m ks)
@@ -134,10 +134,10 @@ two_beside_fair tasks writer f = (twos_from writer 0 f (range_with_len 0 tasks) 
 -- ---- of all tasks
 
 all_from : (me : ℕ) (f : ℕ → Option ℕ) (ks : List ℕ) (two : TwoLongest) → IsFair two
-    → two_at (fold (λ two t. both two (only t (f t))) two ks) me ≡ fold (λ most t. cond (t == me) most (longer most (f t))) (two_at two me) ks
+    → two_at (fold (λ two t. two_of_both two (only t (f t))) two ks) me ≡ fold (λ most t. cond (t == me) most (longer most (f t))) (two_at two me) ks
 all_from me f [] two fair = refl
 all_from me f (k ∷ ks) two fair =
-    all_from me f ks (both two (only k (f k))) (both_fair two (only k (f k)) fair (only_fair k (f k)))
+    all_from me f ks (two_of_both two (only k (f k))) (both_fair two (only k (f k)) fair (only_fair k (f k)))
     ∙ ap (λ m. fold (λ most t. cond (t == me) most (longer most (f t))) m ks)
     (both_at two (only k (f k)) me fair (only_fair k (f k)) ∙ not_mine (k == me) (two_at two me) (f k))
 
@@ -148,10 +148,10 @@ two_of_at tasks me f =
     ∙ ap (λ m. fold (λ most t. cond (t == me) most (longer most (f t))) m (range_with_len 0 tasks)) (either (0 == me) None)
 
 -- their longest is the longest of all
-longest_from : (f : ℕ → Option ℕ) (ks : List ℕ) (two : TwoLongest) → (fold (λ two t. both two (only t (f t))) two ks).longest ≡ longer two.longest (longest_of f ks)
+longest_from : (f : ℕ → Option ℕ) (ks : List ℕ) (two : TwoLongest) → (fold (λ two t. two_of_both two (only t (f t))) two ks).longest ≡ longer two.longest (longest_of f ks)
 longest_from f [] two = sym (longer_none two.longest)
 longest_from f (k ∷ ks) two =
-    longest_from f ks (both two (only k (f k))) ∙ ap (λ x. longer x (longest_of f ks)) (both_longest two (only k (f k))) ∙ longer_assoc two.longest (f k) (longest_of f ks)
+    longest_from f ks (two_of_both two (only k (f k))) ∙ ap (λ x. longer x (longest_of f ks)) (both_longest two (only k (f k))) ∙ longer_assoc two.longest (f k) (longest_of f ks)
 
 pub longest_is_of_all : (tasks : ℕ) (f : ℕ → Option ℕ) → (two_of tasks f).longest ≡ longest_of f (range_with_len 0 tasks)
 longest_is_of_all tasks f = longest_from f (range_with_len 0 tasks) no_length
@@ -160,9 +160,9 @@ longest_is_of_all tasks f = longest_from f (range_with_len 0 tasks) no_length
 abbrev pub Leads : (ℕ → Option ℕ) → List ℕ → TwoLongest → Type 0
 Leads f all two = (two.longest ≡ None) ⊎ (Among two.task all × (f two.task ≡ two.longest))
 
-leads_from : (f : ℕ → Option ℕ) (all ks : List ℕ) (two : TwoLongest) → ((k : ℕ) → Among k ks → Among k all) → Leads f all two → Leads f all (fold (λ two t. both two (only t (f t))) two ks)
+leads_from : (f : ℕ → Option ℕ) (all ks : List ℕ) (two : TwoLongest) → ((k : ℕ) → Among k ks → Among k all) → Leads f all two → Leads f all (fold (λ two t. two_of_both two (only t (f t))) two ks)
 leads_from f all [] two within leads = leads
-leads_from f all (k ∷ ks) two within leads = leads_from f all ks (both two (only k (f k))) (λ m there. within m (inr there)) (at (is_longer (f k) two.longest))
+leads_from f all (k ∷ ks) two within leads = leads_from f all ks (two_of_both two (only k (f k))) (λ m there. within m (inr there)) (at (is_longer (f k) two.longest))
   where
     at : (c : Bool) → Leads f all (cond c (led_by (only k (f k)) two) (led_by two (only k (f k))))
     at true = inr (within k (inl refl), refl)
@@ -174,9 +174,9 @@ two_of_leads tasks f = leads_from f (range_with_len 0 tasks) (range_with_len 0 t
 -- ---- of many
 
 pub joined_at : (g : ℕ → TwoLongest) (me : ℕ) (ks : List ℕ) (two : TwoLongest) → IsFair two → ((k : ℕ) → Among k ks → IsFair (g k))
-    → two_at (fold (λ two m. both two (g m)) two ks) me ≡ longer (two_at two me) (longest_of (λ m. two_at (g m) me) ks)
+    → two_at (fold (λ two m. two_of_both two (g m)) two ks) me ≡ longer (two_at two me) (longest_of (λ m. two_at (g m) me) ks)
 joined_at g me [] two fair all = sym (longer_none (two_at two me))
 joined_at g me (k ∷ ks) two fair all =
-    joined_at g me ks (both two (g k)) (both_fair two (g k) fair (all k (inl refl))) (λ m there. all m (inr there))
+    joined_at g me ks (two_of_both two (g k)) (both_fair two (g k) fair (all k (inl refl))) (λ m there. all m (inr there))
     ∙ ap (λ x. longer x (longest_of (λ m. two_at (g m) me) ks)) (both_at two (g k) me fair (all k (inl refl)))
     ∙ longer_assoc (two_at two me) (two_at (g k) me) (longest_of (λ m. two_at (g m) me) ks)

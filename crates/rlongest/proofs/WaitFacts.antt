@@ -20,7 +20,7 @@ use Rattle.rlongest.specs.Tables.{key_of, cell_at, IsTable}
 use Rattle.rlongest.specs.AllTables.{AreTables}
 use Rattle.rlongest.specs.Lengths.{others_at, others_in, length_at, longest_over}
 use Rattle.rlongest.specs.Two.{no_length, two_at}
-use Rattle.rlongest.specs.Delays.{held, holders_in, holders_at, delay_at, delays_in}
+use Rattle.rlongest.specs.Delays.{delayed, delayers_in, delayers_at, delay_at, delays_in}
 use Rattle.rlongest.specs.declared.table.Cell.{Cell}
 use Rattle.rlongest.specs.declared.table.Key.TheVariants.{Reads, Writes}
 use Rattle.rlongest.specs.declared.tables.Tables.{Tables}
@@ -48,13 +48,13 @@ module _ (ns : List Needed) (tasks : ℕ) (are : AreSound ns tasks) (tables : Ta
   pub barrer_is : (bars : List (List (Option ℕ))) → bars ≡ others_in tables.reads.items tasks → (s : Set) → all_below RESOURCES s ≡ true → longest_over bars me s ≡ longest (λ n. not (n.claim.seat == me) && meets n.claim.reads s) ns
   barrer_is bars rs s below = others_are (key_of Reads) tables.reads.items bars ts.reads rs s below
 
-  holder_is : (s l : ℕ) → s < tasks → l < RESOURCES → holders_at (holders_in tables tasks) s l ≡ held tables tasks s l
-  holder_is s l writer within = nth_row (held tables tasks) no_length (holders_in tables tasks) tasks RESOURCES s l refl writer within
+  delayer_is : (s l : ℕ) → s < tasks → l < RESOURCES → delayers_at (delayers_in tables tasks) s l ≡ delayed tables tasks s l
+  delayer_is s l writer within = nth_row (delayed tables tasks) no_length (delayers_in tables tasks) tasks RESOURCES s l refl writer within
 
   delay_is : (delays : List (List (Option ℕ))) → delays ≡ delays_in tables tasks → (l : ℕ) → l < RESOURCES → length_at delays l me ≡ longest (λ n. not (n.claim.seat == me) && list_any (holds_beside ns tasks are l me n) ns) ns
   delay_is delays rs l within =
-      nth_row (delay_at (holders_in tables tasks) tasks) None delays RESOURCES tasks l me rs within some
-      ∙ beside_same tasks me (λ s. two_at (holders_at (holders_in tables tasks) s l) me) (λ s. two_at (held tables tasks s l) me) (λ s writer. ap (λ two. two_at two me) (holder_is s l writer within))
+      nth_row (delay_at (delayers_in tables tasks) tasks) None delays RESOURCES tasks l me rs within some
+      ∙ beside_same tasks me (λ s. two_at (delayers_at (delayers_in tables tasks) s l) me) (λ s. two_at (delayed tables tasks s l) me) (λ s writer. ap (λ two. two_at two me) (delayer_is s l writer within))
       ∙ delays_is ns tasks are tables ts l me within
 
   module _ (r : Claim) (mine : r.seat ≡ me) (none : r.writes ≡ empty) (below : all_below RESOURCES r.reads ≡ true) where

@@ -7,7 +7,7 @@ use Rattle.rset.specs.declared.TheConstants.{RESOURCES}
 use Rattle.rbound.specs.Longest.{longer}
 use Rattle.rbound.specs.ZoneRows.{beside}
 use Rattle.rlongest.specs.Tables.{cell_at}
-use Rattle.rlongest.specs.Two.{no_length, only, two_at, both}
+use Rattle.rlongest.specs.Two.{no_length, only, two_at, two_of_both}
 use Rattle.rlongest.specs.Leaders.{leaders_at, led_beside}
 use Rattle.rlongest.specs.declared.table.Cell.{Cell}
 use Rattle.rlongest.specs.declared.tables.Tables.{Tables}
@@ -24,33 +24,33 @@ readers_of leaders writer = map (λ l. led_beside l writer) leaders
 
 -- by these, the two longest that can hold up what the writer writes with a resource: the read halves of its own upgrades, and what others read of
 -- all that it writes with the resource
-abbrev pub held_by : Tables → List TwoLongest → ℕ → ℕ → TwoLongest
-held_by tables readers writer l =
-    fold (λ two m. both two (slice_index_or readers m no_length)) (only writer (cell_at tables.halves.items writer l).longest) (rising (cell_at tables.writes.items writer l).beside)
+abbrev pub delayed_by : Tables → List TwoLongest → ℕ → ℕ → TwoLongest
+delayed_by tables readers writer l =
+    fold (λ two m. two_of_both two (slice_index_or readers m no_length)) (only writer (cell_at tables.halves.items writer l).longest) (rising (cell_at tables.writes.items writer l).beside)
 
-abbrev pub held : Tables → ℕ → ℕ → ℕ → TwoLongest
-held tables tasks writer l = held_by tables (readers_of (all_leaders tables.reads.items tasks) writer) writer l
+abbrev pub delayed : Tables → ℕ → ℕ → ℕ → TwoLongest
+delayed tables tasks writer l = delayed_by tables (readers_of (all_leaders tables.reads.items tasks) writer) writer l
 
 -- of each writer, at each resource
-abbrev pub holders_in : Tables → ℕ → List (List TwoLongest)
-holders_in tables tasks = map (λ writer. map (held tables tasks writer) (range_with_len 0 RESOURCES)) (range_with_len 0 tasks)
+abbrev pub delayers_in : Tables → ℕ → List (List TwoLongest)
+delayers_in tables tasks = map (λ writer. map (delayed tables tasks writer) (range_with_len 0 RESOURCES)) (range_with_len 0 tasks)
 
 -- of a writer, at a resource
-abbrev pub holders_at : List (List TwoLongest) → ℕ → ℕ → TwoLongest
-holders_at rows writer l = slice_index_or (slice_index_or rows writer []) l no_length
+abbrev pub delayers_at : List (List TwoLongest) → ℕ → ℕ → TwoLongest
+delayers_at rows writer l = slice_index_or (slice_index_or rows writer []) l no_length
 
 -- the longest of other tasks that can hold up a write of another task
 abbrev pub delay_at : List (List TwoLongest) → ℕ → ℕ → ℕ → Option ℕ
-delay_at rows tasks l me = beside tasks me (λ writer. two_at (holders_at rows writer l) me)
+delay_at rows tasks l me = beside tasks me (λ writer. two_at (delayers_at rows writer l) me)
 
 -- the longest of all that can hold up a write of the resource
 abbrev pub top_at : List (List TwoLongest) → ℕ → ℕ → Option ℕ
-top_at rows tasks l = fold (λ most writer. longer most (longer (holders_at rows writer l).longest (holders_at rows writer l).next)) None (range_with_len 0 tasks)
+top_at rows tasks l = fold (λ most writer. longer most (longer (delayers_at rows writer l).longest (delayers_at rows writer l).next)) None (range_with_len 0 tasks)
 
 -- the first writer whose writes of the resource a claim of this length can hold up, where there is one
-abbrev pub writer_held : List (List TwoLongest) → ℕ → ℕ → Option ℕ → Option ℕ
-writer_held rows tasks l top = find (λ writer. option_eq (λ a b. a == b) (holders_at rows writer l).longest top) (range_with_len 0 tasks)
+abbrev pub writer_delayed : List (List TwoLongest) → ℕ → ℕ → Option ℕ → Option ℕ
+writer_delayed rows tasks l top = find (λ writer. option_eq (λ a b. a == b) (delayers_at rows writer l).longest top) (range_with_len 0 tasks)
 
 -- at each resource, for each task
 abbrev pub delays_in : Tables → ℕ → List (List (Option ℕ))
-delays_in tables tasks = map (λ l. map (delay_at (holders_in tables tasks) tasks l) (range_with_len 0 tasks)) (range_with_len 0 RESOURCES)
+delays_in tables tasks = map (λ l. map (delay_at (delayers_in tables tasks) tasks l) (range_with_len 0 tasks)) (range_with_len 0 RESOURCES)

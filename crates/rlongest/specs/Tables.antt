@@ -25,8 +25,8 @@ abbrev pub is_under : (Needed → Set) → ℕ → ℕ → Needed → Bool
 is_under key t l n = (n.claim.seat == t) && contains (key n) l
 
 -- what no claims come to
-abbrev pub nothing : Cell
-nothing = record { longest = None; beside = empty }
+abbrev pub no_claims : Cell
+no_claims = record { longest = None; beside = empty }
 
 -- the resources of the claims that pass a test, each with those that it is asked for
 abbrev pub together : (Needed → Set) → (Needed → Bool) → List Needed → Set
@@ -43,7 +43,7 @@ raised key len c = record { longest = longer (Some len) c.longest; beside = unio
 
 -- what a table has of a task and a resource
 abbrev pub cell_at : List Cell → ℕ → ℕ → Cell
-cell_at cells t l = slice_index_or cells (t * RESOURCES + l) nothing
+cell_at cells t l = slice_index_or cells (t * RESOURCES + l) no_claims
 
 -- a table in which a claim of a task, of this key and length, is found under one resource more
 abbrev pub with_member : ℕ → Set → ℕ → List Cell → ℕ → List Cell

@@ -27,13 +27,13 @@ abbrev pub led_by : TwoLongest → TwoLongest → TwoLongest
 led_by a b = record { task = a.task; longest = a.longest; next = longer a.next (two_at b a.task) }
 
 -- of both: led by the one with the longest
-abbrev pub both : TwoLongest → TwoLongest → TwoLongest
-both a b = if is_longer b.longest a.longest then led_by b a else led_by a b
+abbrev pub two_of_both : TwoLongest → TwoLongest → TwoLongest
+two_of_both a b = if is_longer b.longest a.longest then led_by b a else led_by a b
 
 -- the two longest of these lengths, of all tasks
 abbrev pub two_of : ℕ → (ℕ → Option ℕ) → TwoLongest
-two_of tasks f = fold (λ two t. both two (only t (f t))) no_length (range_with_len 0 tasks)
+two_of tasks f = fold (λ two t. two_of_both two (only t (f t))) no_length (range_with_len 0 tasks)
 
 -- of all tasks but one
 abbrev pub two_beside : ℕ → ℕ → (ℕ → Option ℕ) → TwoLongest
-two_beside tasks but f = fold (λ two t. if t == but then two else both two (only t (f t))) no_length (range_with_len 0 tasks)
+two_beside tasks but f = fold (λ two t. if t == but then two else two_of_both two (only t (f t))) no_length (range_with_len 0 tasks)

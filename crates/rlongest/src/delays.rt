@@ -4,12 +4,12 @@ ghost use Rattle.std.specs.List.{range_with_len};
 ghost use Rattle.rset.specs.declared.TheConstants.{RESOURCES};
 ghost use Rattle.rlongest.specs.Two.{no_length};
 ghost use Rattle.rlongest.specs.Lengths.{rows_in};
-ghost use Rattle.rlongest.specs.Delays.{all_leaders, readers_of, held_by, held, holders_in, holders_at, delay_at, top_at, writer_held, delays_in};
+ghost use Rattle.rlongest.specs.Delays.{all_leaders, readers_of, delayed_by, delayed, delayers_in, delayers_at, delay_at, top_at, writer_delayed, delays_in};
 
 use crate::leaders::{Leaders, leaders_at, led_beside};
 use crate::table::{Cell, cell_at};
 use crate::tables::Tables;
-use crate::two::{TwoLongest, both, no_length, only, two_at};
+use crate::two::{TwoLongest, no_length, only, two_at, two_of_both};
 use rbound::longer;
 use rset::RESOURCES;
 use std::alloc::{AllocError, Global};
@@ -18,8 +18,8 @@ use std::alloc::{AllocError, Global};
 fn all_leaders(alloc: Global, cells: &[Cell], tasks: u8) -> Result<Vec<Leaders>, AllocError>
     ensures { IfOk result (λ all. all.items ≡ all_leaders cells.now tasks) }
 {
-    (0..RESOURCES as u8)
-        .map(|m| leaders_at(cells, tasks, m))
+    (0..RESOURCES)
+        .map(|m| leaders_at(cells, tasks, m as u8))
         .collect(alloc)
 }
 
@@ -45,44 +45,51 @@ fn nth_two(row: &[TwoLongest], at: u8) -> TwoLongest
 
 /// The two longest that can hold up what the writer writes with a resource: of other tasks by what they read, of its own the
 /// read halves of upgrades.
-fn held(tables: &Tables, readers: &[TwoLongest], writer: u8, l: u8) -> TwoLongest
-    ensures { result ≡ held_by tables.now readers.now writer l }
+fn delayed(tables: &Tables, readers: &[TwoLongest], writer: u8, l: u8) -> TwoLongest
+    ensures { result ≡ delayed_by tables.now readers.now writer l }
 {
     let half = cell_at(&tables.halves, writer, l).longest;
     let written = cell_at(&tables.writes, writer, l).beside;
-    written.iter().fold(only(writer, half), |two, m| both(two, nth_two(readers, m)))
+    written.iter().fold(
+        only(writer, half),
+        |two, m| two_of_both(two, nth_two(readers, m)),
+    )
 }
 
 /// The same at each resource.
-fn held_row(
+fn delayed_row(
     alloc: Global,
     tables: &Tables,
     readers: &[TwoLongest],
     writer: u8,
 ) -> Result<Vec<TwoLongest>, AllocError>
-    ensures { IfOk result (λ row. row.items ≡ map (held_by tables.now readers.now writer) (range_with_len 0 RESOURCES)) }
+    ensures { IfOk result (λ row. row.items ≡ map (delayed_by tables.now readers.now writer) (range_with_len 0 RESOURCES)) }
 {
-    (0..RESOURCES as u8)
-        .map(|l| held(tables, readers, writer, l))
+    (0..RESOURCES)
+        .map(|l| delayed(tables, readers, writer, l as u8))
         .collect(alloc)
 }
 
 /// The same of each writer.
-fn holders_of(alloc: Global, tables: &Tables, tasks: u8) -> Result<Vec<Vec<TwoLongest>>, AllocError>
-    ensures { IfOk result (λ rows. rows_in rows.items ≡ holders_in tables.now tasks) }
+fn delayers_of(
+    alloc: Global,
+    tables: &Tables,
+    tasks: u8,
+) -> Result<Vec<Vec<TwoLongest>>, AllocError>
+    ensures { IfOk result (λ rows. rows_in rows.items ≡ delayers_in tables.now tasks) }
 {
     let leaders = all_leaders(alloc, &tables.reads, tasks)?;
     let mut rows = Vec::new(alloc);
     for writer in 0..tasks {
         let readers = readers_of(alloc, &leaders, writer)?;
-        rows.push(held_row(alloc, tables, &readers, writer)?)?;
+        rows.push(delayed_row(alloc, tables, &readers, writer)?)?;
     }
     Ok(rows)
 }
 
 /// Those of a writer at a resource.
-fn holders_at(rows: &[Vec<TwoLongest>], writer: u8, l: u8) -> TwoLongest
-    ensures { result ≡ holders_at (rows_in rows.now) writer l }
+fn delayers_at(rows: &[Vec<TwoLongest>], writer: u8, l: u8) -> TwoLongest
+    ensures { result ≡ delayers_at (rows_in rows.now) writer l }
 {
     let at = usize::from(writer);
     if at < rows.len() {
@@ -100,7 +107,7 @@ fn delay_at(rows: &[Vec<TwoLongest>], tasks: u8, l: u8, me: u8) -> Option<u32>
         if writer == me {
             most
         } else {
-            longer(most, two_at(holders_at(rows, writer, l), me))
+            longer(most, two_at(delayers_at(rows, writer, l), me))
         }
     })
 }
@@ -110,17 +117,17 @@ fn top_at(rows: &[Vec<TwoLongest>], tasks: u8, l: u8) -> Option<u32>
     ensures { result ≡ top_at (rows_in rows.now) tasks l }
 {
     (0..tasks).fold(None, |most, writer| {
-        let two = holders_at(rows, writer, l);
+        let two = delayers_at(rows, writer, l);
         longer(most, longer(two.longest, two.next))
     })
 }
 
 /// The first writer whose writes of the resource a claim of this length can hold up, where there is one.
-fn writer_held(rows: &[Vec<TwoLongest>], tasks: u8, l: u8, top: Option<u32>) -> Option<u8>
+fn writer_delayed(rows: &[Vec<TwoLongest>], tasks: u8, l: u8, top: Option<u32>) -> Option<u8>
     ensures within { IfSome result (λ writer. writer < tasks) }
-    ensures value { result ≡ writer_held (rows_in rows.now) tasks l top }
+    ensures value { result ≡ writer_delayed (rows_in rows.now) tasks l top }
 {
-    (0..tasks).find(|writer| holders_at(rows, *writer, l).longest == top)
+    (0..tasks).find(|writer| delayers_at(rows, *writer, l).longest == top)
 }
 
 /// What `delay_at` finds: the longest of all, where it is of another task and holds up a further one.
@@ -137,7 +144,7 @@ fn delay_by(
     ensures { result ≡ delay_at (rows_in rows.now) tasks l me }
 {
     match writer {
-        Some(w) if w != me && two_at(holders_at(rows, w, l), me) == top => top,
+        Some(w) if w != me && two_at(delayers_at(rows, w, l), me) == top => top,
         _ => delay_at(rows, tasks, l, me),
     }
 }
@@ -152,7 +159,7 @@ fn delay_row(
     ensures { IfOk result (λ row. row.items ≡ map (delay_at (rows_in rows.now) tasks l) (range_with_len 0 tasks)) }
 {
     let top = top_at(rows, tasks, l);
-    let writer = writer_held(rows, tasks, l, top);
+    let writer = writer_delayed(rows, tasks, l, top);
     (0..tasks)
         .map(|me| delay_by(rows, tasks, l, me, top, writer))
         .collect(alloc)
@@ -166,10 +173,10 @@ pub(crate) fn delays_of(
 ) -> Result<Vec<Vec<Option<u32>>>, AllocError>
     ensures { IfOk result (λ rows. rows_in rows.items ≡ delays_in tables.now tasks) }
 {
-    let holders = holders_of(alloc, tables, tasks)?;
+    let delayers = delayers_of(alloc, tables, tasks)?;
     let mut rows = Vec::new(alloc);
-    for l in 0..RESOURCES as u8 {
-        rows.push(delay_row(alloc, &holders, tasks, l)?)?;
+    for l in 0..RESOURCES {
+        rows.push(delay_row(alloc, &delayers, tasks, l as u8)?)?;
     }
     Ok(rows)
 }

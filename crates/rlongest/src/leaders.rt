@@ -5,7 +5,7 @@ ghost use Rattle.rlongest.specs.Leaders.{beside_at, leaders_at, led_beside};
 
 use crate::lengths::two_longest_at;
 use crate::table::{Cell, cell_at};
-use crate::two::{TwoLongest, both, no_length, only, two_at};
+use crate::two::{TwoLongest, no_length, only, two_at, two_of_both};
 
 /// The two longest of all tasks, and the two longest of all others than the one that has the longest.
 #[derive(Clone, Copy)]
@@ -22,7 +22,7 @@ fn beside_at(cells: &[Cell], tasks: u8, but: u8, m: u8) -> TwoLongest
         if task == but {
             two
         } else {
-            both(two, only(task, cell_at(cells, task, m).longest))
+            two_of_both(two, only(task, cell_at(cells, task, m).longest))
         }
     })
 }

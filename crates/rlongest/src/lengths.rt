@@ -8,7 +8,7 @@ ghost use Rattle.rlongest.specs.Tables.{cell_at};
 ghost use Rattle.rlongest.specs.Lengths.{rows_in, two_longest_at, others_at, others_in, length_at, longest_over};
 
 use crate::table::{Cell, cell_at};
-use crate::two::{TwoLongest, both, no_length, only, two_at};
+use crate::two::{TwoLongest, no_length, only, two_at, two_of_both};
 use rbound::longer;
 use rset::{RESOURCES, ResourceSet};
 use std::alloc::{AllocError, Global};
@@ -18,7 +18,7 @@ pub(crate) fn two_longest_at(cells: &[Cell], tasks: u8, l: u8) -> TwoLongest
     ensures { result ≡ two_longest_at cells.now tasks l }
 {
     (0..tasks).fold(no_length(), |two, task| {
-        both(two, only(task, cell_at(cells, task, l).longest))
+        two_of_both(two, only(task, cell_at(cells, task, l).longest))
     })
 }
 
@@ -55,8 +55,8 @@ pub(crate) fn others_of(
     ensures { IfOk result (λ rows. rows_in rows.items ≡ others_in cells.now tasks) }
 {
     let mut rows = Vec::new(alloc);
-    for l in 0..RESOURCES as u8 {
-        rows.push(others_row(alloc, cells, tasks, l)?)?;
+    for l in 0..RESOURCES {
+        rows.push(others_row(alloc, cells, tasks, l as u8)?)?;
     }
     Ok(rows)
 }

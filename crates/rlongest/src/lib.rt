@@ -16,4 +16,4 @@ pub use lengths::{longest_over, nth_length};
 pub use other_lengths::{OtherLengths, other_lengths_of};
 pub use table::{Cell, Key, longest_in};
 pub use tables::{Tables, tables_of};
-pub use two::{TwoLongest, both, no_length, only, two_at};
+pub use two::{TwoLongest, no_length, only, two_at, two_of_both};

@@ -4,7 +4,7 @@ ghost use Rattle.std.specs.List.{AllByRecursion};
 ghost use Rattle.std.specs.FinSet as finset;
 ghost use Rattle.rset.specs.Sets.{all_below};
 ghost use Rattle.rset.specs.declared.TheConstants.{RESOURCES};
-ghost use Rattle.rlongest.specs.Tables.{key_of, nothing, raised, cell_at, with_claim, with_claims, longest_in, IsTable};
+ghost use Rattle.rlongest.specs.Tables.{key_of, no_claims, raised, cell_at, with_claim, with_claims, longest_in, IsTable};
 
 use rbound::{Needed, longer};
 use rmodel::{is_read_half, is_upgrade};
@@ -63,8 +63,8 @@ fn set_if(is: bool, set: ResourceSet) -> ResourceSet
 }
 
 /// What no claims come to.
-fn nothing() -> Cell
-    ensures { result ≡ nothing }
+fn no_claims() -> Cell
+    ensures { result ≡ no_claims }
 {
     Cell {
         longest: None,
@@ -120,7 +120,7 @@ pub(crate) fn table_of(
     requires { AllByRecursion (λ n. n.claim.seat < tasks) needs.now }
     ensures { IfOk result (λ cells. IsTable (key_of key) needs.now tasks cells.items) }
 {
-    let mut cells = vec![in alloc; nothing(); usize::from(tasks) * WIDTH]?;
+    let mut cells = vec![in alloc; no_claims(); usize::from(tasks) * WIDTH]?;
     take_claims(cells.as_mut_slice(), needs, key, tasks);
     Ok(cells)
 }
@@ -131,7 +131,7 @@ pub(crate) fn cell_at(cells: &[Cell], task: u8, l: u8) -> Cell
 {
     match cells.get(usize::from(task) * WIDTH + usize::from(l)) {
         Some(cell) => *cell,
-        None => nothing(),
+        None => no_claims(),
     }
 }
 

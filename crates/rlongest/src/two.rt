@@ -1,6 +1,6 @@
 // The two longest of some lengths of tasks: they tell the longest of all tasks but any one.
 ghost use Rattle.std.specs.Prelude.{◌≡◌};
-ghost use Rattle.rlongest.specs.Two.{no_length, only, two_at, is_longer, led_by, both};
+ghost use Rattle.rlongest.specs.Two.{no_length, only, two_at, is_longer, led_by, two_of_both};
 
 use rbound::longer;
 
@@ -67,8 +67,8 @@ fn led_by(a: TwoLongest, b: TwoLongest) -> TwoLongest
 }
 
 /// The two longest of both, where each tells of some tasks.
-pub fn both(a: TwoLongest, b: TwoLongest) -> TwoLongest
-    ensures { result ≡ both a b }
+pub fn two_of_both(a: TwoLongest, b: TwoLongest) -> TwoLongest
+    ensures { result ≡ two_of_both a b }
 {
     if is_longer(b.longest, a.longest) {
         led_by(b, a)

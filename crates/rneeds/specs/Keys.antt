@@ -56,3 +56,10 @@ pub record IsLastEnded (groups : ReadGroups) (seats cap : ℕ) (es : List Event)
 pub record IsKeyOf (groups : ReadGroups) (seats cap : ℕ) (es : List Event) (w : WaitEnd) (key : BoundKey) : Type 0 where
   pub ended : IsLastEnded groups seats cap es w
   pub is : key ≡ key_of es w
+
+-- this was the key of a wait when one of these events had just ended it
+pub record HadKey (groups : ReadGroups) (seats cap : ℕ) (es : List Event) (w : WaitEnd) (key : BoundKey) : Type 0 where
+  pub before : List Event
+  pub rest : List Event
+  pub split : es ≡ before ++ rest
+  pub is_key : IsKeyOf groups seats cap before w key

@@ -200,7 +200,7 @@ impl Page {
         Ok(())
     }
 
-    // Appends the line of what is left in a resource.
+    // Appends the line of what is left in a resource. `rexpected` spells it too: a field more goes into both.
     pub(crate) fn push_ledger(
         &mut self,
         names: &NameRows,

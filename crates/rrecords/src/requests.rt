@@ -92,7 +92,11 @@ fn later_of(kind: Kind, fields: &ByteRecord, at: u8) -> Option<u32>
     }
 }
 
-/// The request of this kind for these sets and lengths, or what refuses it whatever read groups there are.
+/// The request of this kind for these sets and lengths.
+///
+/// # Errors
+///
+/// What refuses it whatever read groups there are: those of [`Request::new`], in their order.
 pub fn request_of(
     kind: Kind,
     sets: &RequestSets,

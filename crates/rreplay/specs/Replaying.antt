@@ -2,7 +2,7 @@
 use Rattle.std.specs.Prelude.{◌≡◌, ◌≤◌, ℕ, true, false, List, [], Option, None, IfSome}
 use Rattle.rforms.specs.Faults.{is_ended}
 use Rattle.rforms.specs.Reports.{history_lines}
-use Rattle.rforms.specs.SoFar.{SoFar, entries_in, head_in, names_in}
+use Rattle.rforms.specs.SoFar.{SoFar, at_acts, entries_in, head_in, names_in}
 use Rattle.rforms.specs.Waits.{all_ended, no_bounds}
 use Rattle.rhistory.specs.Behind.{past_in}
 use Rattle.rhistory.specs.Gathered.{KnowsGathered}
@@ -19,7 +19,7 @@ history_text s = open_told (names_in s) (history_lines true no_bounds (head_in s
 -- what tells events has the names that were declared, none can follow, and it was told the events so far and the waits that they ended
 pub record KnowsTelling (telling : Telling) (s : SoFar) : Type 0 where
   pub names : telling.names ≡ names_in s
-  pub far : 6 ≤ s.last
+  pub far : at_acts ≤ s.last
   pub gathered : KnowsGathered telling.gathered (past_in (head_in s) (entries_in s)) (all_ended (head_in s) (entries_in s))
 
 -- the reader knows what was said, the text is that of the history so far, and what tells events is there from the first event on

@@ -7,6 +7,7 @@ use Rattle.rforms.specs.Heads.{is_nil}
 use Rattle.rforms.specs.Walks.{first_of}
 use Rattle.rscript_records.specs.Statements.{section_next}
 use Rattle.rscript_records.specs.Causes.{groups_in}
+use Rattle.rscript_records.specs.Places.{at_resources, at_tasks}
 use Rattle.rscript_records.specs.declared.code.Code.{Code}
 use Rattle.rscript_records.specs.declared.statement.Statement.{Statement}
 use Rattle.rscript_records.specs.declared.word.Word.{Word}
@@ -29,13 +30,13 @@ pub record Knows (reader : Reading) (s : SoFar) : Type 0 where
   pub resources : reader.resources ≡ s.resources
   pub groups : groups_in reader.groups ≡ s.groups
   pub over : IfSome reader.groups (λ groups. groups.q ≡ length reader.resources)
-  pub no_groups : s.last ≤ 2 → reader.groups ≡ None
+  pub no_groups : s.last ≤ at_resources → reader.groups ≡ None
   pub tasks : reader.tasks ≡ s.tasks
   pub earlier : statements_in reader.steps.items ≡ s.earlier
   pub latest : s.latest ≡ latest_in (is_nil s.tasks) reader.latest.items
   pub fresh : is_nil s.tasks ≡ true → reader.latest.items ≡ []
   pub section : reader.section ≡ section_of s.latest
-  pub task : s.last ≡ 4 → is_nil s.tasks ≡ false
+  pub task : s.last ≡ at_tasks → is_nil s.tasks ≡ false
 
 -- one statement more of the latest task is kept, and the section that is open behind it
 pub record Adds (old new : Reading) (s : Statement) : Type 0 where

@@ -1,6 +1,7 @@
 // The reader of a script, record by record.
 ghost use Rattle.std.specs.Prelude.{◌≡◌, ◌≤◌, ◌==◌, None, Some, true, OnOk, IfErr};
 ghost use Rattle.csv.specs.Records.{fields_of};
+ghost use Rattle.rscript_records.specs.Places.{at_resources, at_tasks};
 ghost use Rattle.rscript_records.specs.Words.{word_in};
 ghost use Rattle.rscript_records.specs.Told.{is_statement};
 ghost use Rattle.rscript.specs.SoFar.{SoFar, nothing_yet};
@@ -12,8 +13,9 @@ use rexpand::Groups;
 use rforms::{RowErr, field_of};
 use rrecords::set_of;
 use rscript_records::{
-    Code, Section, Statement, Word, add_group, declare, fault_of, has_all_groups, is_there,
-    make_groups, section_after, stand_of, statement_of,
+    AT_END, AT_GROUPS, AT_RESOURCES, AT_START, AT_TASKS, AT_VERSION, Code, Section, Statement,
+    Word, add_group, declare, fault_of, has_all_groups, is_there, make_groups, section_after,
+    stand_of, statement_of,
 };
 use rset::NameTable;
 use std::alloc::Global;
@@ -22,17 +24,21 @@ use std::mem;
 /// What the records so far have said.
 #[derive(Drop)]
 pub struct Reading {
+    /// From which the room for statements comes.
     pub alloc: Global,
-    // The place of the last record.
+    /// The place of the last record.
     pub last: u8,
+    /// The names of the resources.
     pub resources: NameTable,
-    // Made at the first group or task: no resource is declared behind it.
+    /// The read groups, made at the first group or task: no resource is declared behind it.
     pub groups: Option<Groups>,
+    /// The names of the tasks.
     pub tasks: NameTable,
-    // The statements of all tasks but the latest, and those of the latest.
+    /// The statements of each task but the latest.
     pub steps: Vec<Vec<Statement>>,
+    /// The statements of the latest task.
     pub latest: Vec<Statement>,
-    // The section that is open.
+    /// The section that is open.
     pub section: Option<Section>,
 }
 
@@ -43,7 +49,7 @@ impl Reading {
     {
         Reading {
             alloc,
-            last: 0,
+            last: AT_START,
             resources: NameTable::new(alloc),
             groups: None,
             tasks: NameTable::new(alloc),
@@ -87,27 +93,27 @@ impl Reading {
     // Takes the record of the version.
     fn take_version(&mut self, fields: &ByteRecord) -> Result<(), RowErr<Code>>
         requires form { word_in (fields_of fields.now) ≡ Some Word.Version }
-        requires early { self.old.last ≤ 2 }
+        requires early { self.old.last ≤ at_resources }
         ensures taken { OnOk result (Takes self.old self.new (fields_of fields.now) Word.Version) }
         ensures bad { (cause : Code) → result ≡ Err (RowErr.Bad cause) → Refuses self.old (fields_of fields.now) Word.Version cause }
         ensures still { (cause : Code) → result ≡ Err (RowErr.Bad cause) → self.new ≡ self.old }
     {
         // Its fields are its word alone: only the contract speaks of them.
         let _ = fields;
-        self.last = 1;
+        self.last = AT_VERSION;
         Ok(())
     }
 
     // Takes a resource.
     fn take_resource(&mut self, fields: &ByteRecord) -> Result<(), RowErr<Code>>
         requires form { word_in (fields_of fields.now) ≡ Some Word.Resource }
-        requires early { self.old.last ≤ 2 }
+        requires early { self.old.last ≤ at_resources }
         ensures taken { OnOk result (Takes self.old self.new (fields_of fields.now) Word.Resource) }
         ensures bad { (cause : Code) → result ≡ Err (RowErr.Bad cause) → Refuses self.old (fields_of fields.now) Word.Resource cause }
         ensures still { (cause : Code) → result ≡ Err (RowErr.Bad cause) → self.new ≡ self.old }
     {
         declare(&mut self.resources, field_of(fields, 1))?;
-        self.last = 2;
+        self.last = AT_RESOURCES;
         Ok(())
     }
 
@@ -129,7 +135,7 @@ impl Reading {
             return Err(RowErr::Bad(Code::EmptyGroup));
         }
         add_group(self.alloc, &mut self.groups, self.resources.len(), set)?;
-        self.last = 3;
+        self.last = AT_GROUPS;
         Ok(())
     }
 
@@ -150,7 +156,7 @@ impl Reading {
         declare(&mut self.tasks, field_of(fields, 1))?;
         make_groups(self.alloc, &mut self.groups, q)?;
         self.close_task(first)?;
-        self.last = 4;
+        self.last = AT_TASKS;
         Ok(())
     }
 
@@ -188,7 +194,7 @@ impl Reading {
         if self.tasks.len() == 0 {
             return Err(RowErr::Bad(Code::NoTask));
         }
-        self.last = 5;
+        self.last = AT_END;
         Ok(())
     }
 
@@ -196,7 +202,7 @@ impl Reading {
     fn take_statement(&mut self, word: Word, fields: &ByteRecord) -> Result<(), RowErr<Code>>
         requires form { word_in (fields_of fields.now) ≡ Some word }
         requires kind { is_statement word ≡ true }
-        requires behind { self.old.last ≡ 4 }
+        requires behind { self.old.last ≡ at_tasks }
         ensures taken { OnOk result (Takes self.old self.new (fields_of fields.now) word) }
         ensures bad { (cause : Code) → result ≡ Err (RowErr.Bad cause) → Refuses self.old (fields_of fields.now) word cause }
         ensures still { (cause : Code) → result ≡ Err (RowErr.Bad cause) → self.new ≡ self.old }

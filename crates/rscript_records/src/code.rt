@@ -25,13 +25,13 @@ pub enum Code {
     BadNumber,
     /// Its group has no member.
     EmptyGroup,
-    /// Its request is about no resource.
+    /// Its request, a read or an upgrade, has nothing to read, or, of another kind, nothing to write.
     EmptyRequest,
     /// The set of its read or upgrade is not declared.
     Undeclared,
     /// The first part of its request is empty, or not within the request.
     FirstOutside,
-    /// It shows or edits what the section does not hold, or asks for nothing or for more than the request.
+    /// It shows or edits what the section does not hold, or what it asks for is empty, or not within the request.
     NotHeld,
     /// It edits what the section holds for reading only.
     NotWritable,

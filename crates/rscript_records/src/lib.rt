@@ -18,7 +18,10 @@ mod word;
 
 pub use code::Code;
 pub use faults::fault_of;
-pub use place::{Stand, Where, is_there, stand_of};
+pub use place::{
+    AT_END, AT_GROUPS, AT_RESOURCES, AT_START, AT_TASKS, AT_VERSION, Stand, Where, is_there,
+    stand_of,
+};
 pub use record::word_in;
 pub use section::{Section, section_after};
 pub use statement::Statement;

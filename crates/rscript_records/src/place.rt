@@ -31,17 +31,25 @@ pub struct Stand {
     pub inside: Where,
 }
 
-// The places in the order in which records may stand: before the first record, behind the version, the resources, the
-// groups, and the tasks.
-const AT_START: u8 = 0;
+// The places of records: where the last one stands, in the order in which they may stand.
 
-const AT_VERSION: u8 = 1;
+/// Nothing was read.
+pub const AT_START: u8 = 0;
 
-const AT_RESOURCES: u8 = 2;
+/// The version was read.
+pub const AT_VERSION: u8 = 1;
 
-const AT_GROUPS: u8 = 3;
+/// The last record declares a resource.
+pub const AT_RESOURCES: u8 = 2;
 
-const AT_TASKS: u8 = 4;
+/// The last record declares a group.
+pub const AT_GROUPS: u8 = 3;
+
+/// The last record declares a task, or is a statement of one.
+pub const AT_TASKS: u8 = 4;
+
+/// The end was read.
+pub const AT_END: u8 = 5;
 
 /// Where a record of a word may stand.
 pub fn stand_of(word: Word) -> Stand

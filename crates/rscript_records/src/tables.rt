@@ -13,12 +13,15 @@ use rforms::RowErr;
 use rset::{NameErr, NameTable, ResourceSet};
 use std::alloc::Global;
 
-/// Adds a name that a record declares to its table, behind the others.
+// A table of names holds as many as there are resources, which must be the limit of tasks too: one function declares both.
+const _: () = prove!(rset::SEATS as u16 == rset::RESOURCES);
+
+/// Adds a name that a record declares, of a resource or of a task, to its table, behind the others.
 ///
 /// # Errors
 ///
-/// The first that is wrong with it (`BadName`, `Repeated`, or `TooMany` where the table has `RESOURCES` names already), or
-/// want of memory. The table is then as it was.
+/// The first that is wrong with it (`BadName`, `Repeated`, or `TooMany` where the table has `RESOURCES` names already, which
+/// are as many as there may be tasks), or want of memory. The table is then as it was.
 pub fn declare(table: &mut NameTable, name: &[u8]) -> Result<(), RowErr<Code>>
     ensures ok { OnOk result ((first_of (name_causes RESOURCES table.old name.now) ≡ None) × (table.new ≡ table.old ++ name.now ∷ [])) }
     ensures bad { (cause : Code) → result ≡ Err (RowErr.Bad cause) → first_of (name_causes RESOURCES table.old name.now) ≡ Some cause }

@@ -13,7 +13,8 @@ pub use members::Members;
 pub use names::{NameErr, NameTable};
 pub use resources::ResourceSet;
 
-/// The number of resources that there may be: they are numbered from 0.
+/// The number of resources that there may be: they are numbered from 0. Its type is wider than that of their numbers, as 256 is no
+/// `u8`.
 pub const RESOURCES: u16 = 64;
 
 /// The number of seats that there may be: they are numbered from 0.

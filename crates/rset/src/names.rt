@@ -77,7 +77,12 @@ impl NameTable {
         }
     }
 
-    /// Adds `name` and gives its number. Refusals come in the order of [`NameErr`], and leave the table as it was.
+    /// Adds `name` and gives its number.
+    ///
+    /// # Errors
+    ///
+    /// The first of [`NameErr`], in its order: `BadName` where it is no name, `Repeated` where it is in the table, `TooMany`
+    /// where the table has [`RESOURCES`] names, and `Memory` where memory runs out. The table is then as it was.
     pub fn add(&mut self, name: &[u8]) -> Result<u8, NameErr>
         ensures ok { IfOk result (λ n. self.new ≡ self.old ++ name.now ∷ []) }
         ensures number { IfOk result (λ n. n ≡ length self.old) }
@@ -149,7 +154,11 @@ impl NameTable {
         self.names.len() as u8
     }
 
-    /// A table with the same names, or an error where memory runs out.
+    /// A table with the same names.
+    ///
+    /// # Errors
+    ///
+    /// Want of memory.
     pub fn copy(&self, alloc: Global) -> Result<NameTable, AllocError>
         ensures { IfOk result (λ table. table ≡ self.now) }
     {

@@ -81,8 +81,8 @@ fn push_new(table: &mut Table, task: u8, request: &Request)
     let alloc = *table.entries.allocator();
     let number = table.counts[usize::from(task)];
     table.counts[usize::from(task)] = number + 1;
-    let _pushed = table.numbers.push(number);
-    let _entered = table.entries.push(Entry {
+    table.numbers.push_reserved(number);
+    table.entries.push_reserved(Entry {
         task,
         request: *request,
         asks: IndexSet::new(alloc),

@@ -7,6 +7,7 @@ ghost use Rattle.rneeds.specs.Keys.{IsLastEnded};
 ghost use Rattle.rbound_told.specs.Told.{Told, AreBefore};
 ghost use Rattle.rforms.specs.Records.{Row};
 ghost use Rattle.rforms.specs.Faults.{read_all};
+ghost use Rattle.rforms.specs.SoFar.{at_end};
 ghost use Rattle.rforms.specs.WrongBounds.{first_wrong_bound, wrong_bound};
 ghost use Rattle.rlines.specs.Knows.{Knows};
 ghost use Rattle.rtrace.specs.ToldBounds.{AreTold, IsMade, KnowsBounds, HasRead};
@@ -117,8 +118,8 @@ impl BoundsKept {
     ///
     /// Want of memory.
     pub fn first_wrong(&self, alloc: Global, reading: &Reading) -> Result<Option<u64>, AllocError>
-        requires { (rows : List Row) × KnowsBounds self.now rows × Knows true reading.now (read_all true rows) × ((read_all true rows).last ≡ 9) }
-        ensures { IfOk result (λ number. (rows : List Row) → KnowsBounds self.now rows → Knows true reading.now (read_all true rows) → (read_all true rows).last ≡ 9 → option_map wrong_bound number ≡ first_wrong_bound true rows) }
+        requires { (rows : List Row) × KnowsBounds self.now rows × Knows true reading.now (read_all true rows) × ((read_all true rows).last ≡ at_end) }
+        ensures { IfOk result (λ number. (rows : List Row) → KnowsBounds self.now rows → Knows true reading.now (read_all true rows) → (read_all true rows).last ≡ at_end → option_map wrong_bound number ≡ first_wrong_bound true rows) }
     {
         match (&self.told, &reading.groups) {
             (Some(told), Some(groups)) => {

@@ -19,7 +19,9 @@ use std::mem;
 /// Takes the records of an event list, and keeps all that they say; what a report says is kept in it too.
 #[derive(Drop)]
 pub struct Collecting {
+    /// From which the room for what is kept comes.
     pub alloc: Global,
+    /// The reader of the records so far.
     pub reading: Reading,
     /// All entries but the latest.
     pub history: History<Edit>,
@@ -145,7 +147,8 @@ impl Collecting {
         self.finished()
     }
 
-    // The report of what is kept, which is given away; an error where the head has no task.
+    // The report of what is kept, which is given away; an error where no read groups were made, as they are in every text
+    // that has ended.
     fn finished(&mut self) -> Result<Report, TextErr>
         ensures report { IfOk result (IsFinished self.old) }
         ensures memory { IfErr result (λ e. e ≡ TextErr.Memory) }

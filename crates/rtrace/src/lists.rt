@@ -25,7 +25,9 @@ use std::alloc::{AllocError, Global};
 /// Takes the records of a report, and keeps what they say, and what they tell of bounds.
 #[derive(Drop)]
 pub struct ReportTaker {
+    /// What the records said, without the bounds of waits.
     pub inner: Collecting,
+    /// What they told of bounds.
     pub bounds: BoundsKept,
 }
 

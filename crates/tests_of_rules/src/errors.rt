@@ -43,7 +43,7 @@ fn groups(alloc: Global) -> Result<bool, Fail> {
 }
 
 fn requests(alloc: Global) -> Result<bool, Fail> {
-    let empty = "the request names no resource that it is about";
+    let empty = "the request has nothing to read, or nothing to write";
     let undeclared = "the resources to read are not declared together";
     let outside = "the first part is empty or not within the request";
     Ok(

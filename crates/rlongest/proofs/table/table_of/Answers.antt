@@ -2,7 +2,7 @@ use Rattle.std.proofs.Common.{◌≡◌, ◌*◌, List, length, ap, sym, subst, 
 use Rattle.std.specs.Prelude.{replicate}
 use Rattle.std.proofs.lemmas.List.{length-replicate}
 use Rattle.rset.specs.declared.TheConstants.{RESOURCES}
-use Rattle.rlongest.specs.Tables.{key_of, nothing, with_claims, IsTable}
+use Rattle.rlongest.specs.Tables.{key_of, no_claims, with_claims, IsTable}
 use Rattle.rlongest.specs.declared.table.Cell.{Cell}
 use Rattle.rlongest.proofs.TableFacts.{table_filled, whole}
 use Rattle.rlongest.proofs.table.table_of.Goals as goal
@@ -12,9 +12,9 @@ returns c =
     let key = key_of c.args.key in
     let items = c.in_ok-cells.cells.items in
     let tasks = c.args.tasks in
-    let empty : items ≡ replicate (tasks * RESOURCES) nothing =
-    c.in_ok-cells.ensures.items_if_clones_equal (λ y e. e) ∙ (λ i. replicate (c.from.ensures i * RESOURCES) (c.nothing.ensures i)) in
-    let long : length items ≡ tasks * RESOURCES = ap length empty ∙ length-replicate (tasks * RESOURCES) nothing in
+    let empty : items ≡ replicate (tasks * RESOURCES) no_claims =
+    c.in_ok-cells.ensures.items_if_clones_equal (λ y e. e) ∙ (λ i. replicate (c.from.ensures i * RESOURCES) (c.no_claims.ensures i)) in
+    let long : length items ≡ tasks * RESOURCES = ap length empty ∙ length-replicate (tasks * RESOURCES) no_claims in
     let filled = table_filled key c.args.needs.now tasks c.take_claims.new.cells items c.requires c.take_claims.ensures.below empty long (c.take_claims.ensures.cells ∙ ap (with_claims key c.args.needs.now) c.as_mut_slice.ensures.value) in
     subst (λ (cells : List Cell). IsTable key c.args.needs.now tasks cells)
     (sym (whole c.in_ok-cells.cells.len c.take_claims.new.cells items (filled.long ∙ sym long) (omega (arith, c.in_ok-cells.cells.ok.0)))) filled

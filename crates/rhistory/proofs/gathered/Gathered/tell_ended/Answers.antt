@@ -4,7 +4,7 @@ use Rattle.std.proofs.lemmas.Result.{on_ok_weaker}
 use Rattle.rcover.specs.declared.wait_end.WaitEnd.{WaitEnd}
 use Rattle.rneeds.specs.declared.key.BoundKey.{BoundKey}
 use Rattle.rwaits.specs.Past.{Past, with_event}
-use Rattle.rhistory.specs.Gathered.{HadKey}
+use Rattle.rhistory.specs.Gathered.{HadKeyIn}
 use Rattle.rhistory.proofs.Gathering.{accepted_next, ended_last, keys_more}
 use Rattle.rhistory.proofs.gathered.Gathered.tell_ended.Goals as goal
 
@@ -32,10 +32,10 @@ returns c =
     let accepted = accepted_next p e ended known.accepted coming in
     let needs = c.in_ok-told.ensures.ok p.groups p.seats p.cap p.events known.needs accepted in
     let last = ended_last p e ended known.accepted coming in
-    let had = subst (λ (keys : List BoundKey). AllZip (HadKey p) ws keys) (sym c.reserve.ensures.items) known.keys in
+    let had = subst (λ (keys : List BoundKey). AllZip (HadKeyIn p) ws keys) (sym c.reserve.ensures.items) known.keys in
     record {
       accepted = accepted;
       needs = needs;
-      keys = subst (λ (keys : List BoundKey). AllZip (HadKey (with_event p e)) (ws ++ ended) keys) (sym (kept (with_event p e) needs last)) (keys_more p e ws c.reserve.new.self.items ended had last);
+      keys = subst (λ (keys : List BoundKey). AllZip (HadKeyIn (with_event p e)) (ws ++ ended) keys) (sym (kept (with_event p e) needs last)) (keys_more p e ws c.reserve.new.self.items ended had last);
     })
     c.keep_keys.ensures

@@ -1,8 +1,9 @@
 use Rattle.std.proofs.Common.{get_or, refl, sym, ap, ◌∙◌, arith}
 use Rattle.std.proofs.Math.ListN.{set}
 use Rattle.std.specs.Vec.{with_item}
+use Rattle.rforms.proofs.back.FineLines.{and_false}
 use Rattle.rlines.proofs.Codes.{act_misplaced}
-use Rattle.rlines.proofs.ActSteps.{not_six, answered_is, act_barred, act_wrong, act_taken, and_false}
+use Rattle.rlines.proofs.ActSteps.{not_six, answered_is, act_barred, act_wrong, act_taken}
 use Rattle.rlines.proofs.reading.Reading.act.Goals as goal
 
 pub returns-then-is_change_due-clause-bad : goal.returns-then-is_change_due-clause-bad

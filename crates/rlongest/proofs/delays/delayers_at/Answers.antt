@@ -2,7 +2,7 @@ use Rattle.std.proofs.Common.{[], get_or, ap, ◌∙◌}
 use Rattle.rlongest.specs.Two.{no_length}
 use Rattle.rlongest.specs.Lengths.{rows_in}
 use Rattle.rlongest.proofs.RowFacts.{row_there, no_row}
-use Rattle.rlongest.proofs.delays.holders_at.Goals as goal
+use Rattle.rlongest.proofs.delays.delayers_at.Goals as goal
 
 pub returns-then-at-rows : goal.returns-then-at-rows
 returns-then-at-rows c =
