@@ -1,5 +1,6 @@
 -- What a follower knows of the events that it followed.
-use Rattle.std.specs.Prelude.{◌≡◌, ◌≤◌, ◌<◌, ◌*◌, ℕ, false, List, [], ◌++◌, length, slice_index, vec_capacity}
+use Rattle.std.specs.Prelude.{◌≡◌, ◌≤◌, ◌<◌, ◌*◌, ℕ, false, List, [], ◌++◌, length, replicate, slice_index, vec_capacity}
+use Rattle.std.specs.FinSet.{empty}
 use Rattle.std.specs.List.{AllByRecursion}
 use Rattle.rset.specs.declared.TheConstants.{SEATS}
 use Rattle.rclaim.specs.declared.event.Event.{Event}
@@ -34,6 +35,20 @@ pub record HaveRoom (a : Following) : Type 0 where
   pub heads : HasPlaces a.heads
   pub places : length a.places ≡ SEATS
   pub wanted : length a.wanted ≡ SEATS
+
+-- a follower that followed no event notes nothing of any seat
+pub record NotesNothing (a : Following) : Type 0 where
+  pub waiting : a.waiting ≡ empty
+  pub rising : a.rising ≡ empty
+  pub asking : a.asking ≡ empty
+  pub reading : a.reading ≡ empty
+  pub wanted : a.wanted ≡ replicate SEATS empty
+  pub last : a.last.items ≡ []
+  pub there : a.there ≡ 0
+  pub lengths : a.lengths ≡ replicate SEATS (record { len = 0; later = 0 })
+  pub asks : a.asks ≡ replicate SEATS 0
+  pub places : a.places ≡ replicate SEATS 0
+  pub scratch : IsEmpty a.scratch
 
 -- a follower followed these events
 pub record Follows (a : Following) (p : Past) : Type 0 where

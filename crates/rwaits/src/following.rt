@@ -9,7 +9,7 @@ ghost use Rattle.rmodel.specs.Changes.{changes_between, AreActive};
 ghost use Rattle.rmodel.specs.Steps.{Fits, Accepts, Steps, next, refusal};
 ghost use Rattle.rstretch.specs.Kept.{HasRoom};
 ghost use Rattle.rwaits.specs.declared.following.Following.{Following};
-ghost use Rattle.rwaits.specs.Follows.{IsEmpty, Follows, IsAhead};
+ghost use Rattle.rwaits.specs.Follows.{IsEmpty, NotesNothing, Follows, IsAhead};
 ghost use Rattle.rwaits.specs.Past.{Past, begun, state_of, with_event, AreLastEnded};
 ghost use Rattle.rwaits.specs.Stages.{HasTold, HasNoted};
 ghost use Rattle.rwaits.specs.Waiting.{ends_none};
@@ -107,13 +107,14 @@ fn copy_claims(to: &mut Vec<Claimed>, from: &[Claimed])
 }
 
 impl Following {
-    /// A follower that followed no event. Any machine that took none yet may be followed.
+    /// A follower that followed no event, and notes nothing of any seat. Any machine that took none yet may be followed.
     ///
     /// # Errors
     ///
     /// Want of memory.
     pub fn new(alloc: Global) -> Result<Following, AllocError>
-        ensures { IfOk result (λ made. (groups : ReadGroups) (seats cap : ℕ) → seats ≤ SEATS → 1 ≤ cap → cap ≤ SEATS → Follows made (begun groups seats cap)) }
+        ensures follows { IfOk result (λ made. (groups : ReadGroups) (seats cap : ℕ) → seats ≤ SEATS → 1 ≤ cap → cap ≤ SEATS → Follows made (begun groups seats cap)) }
+        ensures nothing { IfOk result (λ made. NotesNothing made) }
     {
         Ok(Following {
             waiting: ResourceSet::empty(),

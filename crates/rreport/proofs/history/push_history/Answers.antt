@@ -9,7 +9,7 @@ pub push_followed-requires-clause-followed : goal.push_followed-requires-clause-
 push_followed-requires-clause-followed c =
     let r : ReportFields = c.args.report.now in
     let may = c.requires.may in
-    c.in_ok-following.ensures (read_groups (told_by r).head) (length r.tasks) r.cap (table_length SEATS r.tasks may.head.tasks_named) may.cap_low may.cap_high
+    c.in_ok-following.ensures.follows (read_groups (told_by r).head) (length r.tasks) r.cap (table_length SEATS r.tasks may.head.tasks_named) may.cap_low may.cap_high
 
 pub returns-clause-text : goal.returns-clause-text
 returns-clause-text c = c.push_followed.ensures.text

@@ -15,6 +15,6 @@ returns c =
       seats = omega arith;
       accepted = tt;
       state = c.requires.state;
-      followed = c.in_ok-following.ensures c.args.groups 4 4 (omega arith) (omega arith) (omega arith);
+      followed = c.in_ok-following.ensures.follows c.args.groups 4 4 (omega arith) (omega arith) (omega arith);
       told = subst (λ (g : ReadGroups). Knows c.in_ok-covers.covers (past g 4 [])) c.in_ok-copy.ensures c.in_ok-covers.ensures;
     })

@@ -39,4 +39,4 @@ returns-clause-followed c = λ whole s h.
     let cap = cap_fits s.cap (length s.tasks) h.capped (omega (arith, some)) few in
     let never = none_behind c.args.self.now.machine c.args.self.now.following s.latest (past_in s) h.stand c.requires.none in
     subst (λ (es : List Event). Follows c.in_ok-new.field-0 (record { groups = read_groups (head_in s); seats = length s.tasks; cap = (head_in s).cap; events = es })) (sym never.2)
-    (c.in_ok-new.ensures (read_groups (head_in s)) (length s.tasks) (head_in s).cap few cap.0 cap.1)
+    (c.in_ok-new.ensures.follows (read_groups (head_in s)) (length s.tasks) (head_in s).cap few cap.0 cap.1)
