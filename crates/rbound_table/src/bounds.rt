@@ -9,8 +9,8 @@ use rbound::{Bound, Needs, Which};
 use std::alloc::{AllocError, Global};
 use std::marker::Model;
 
-/// The bounds of all waits of what tasks need, where no more than a cap of requests may be incomplete. All claims are looked
-/// through once, when this is made; then a bound is looked up.
+/// The bounds of all waits of what tasks need, where no more than a cap of requests may be incomplete. The claims are gone over
+/// when this is made; then a bound is looked up.
 #[derive(Drop)]
 pub struct Bounds {
     needs: Needs,

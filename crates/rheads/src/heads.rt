@@ -192,7 +192,7 @@ impl Heads {
         ensures rest { self.new ≡ record self.old { now = self.new.now; behind = self.new.behind; moved = self.new.moved; risen = self.new.risen } }
         ensures places_len { length places.new ≡ length places.old }
         ensures placed { (m : Moment) → TellAt self.old.now.items m moment.now → AllByRecursion (GoesBy self.old.lost gone came touched m moment.now) moment.now → ArePlaced places.new self.new.moved self.new.risen moment.now }
-        ensures told { (m : Moment) → TellAt self.old.now.items m moment.now → HoldBehind self.old.behind.items m moment.now → AllByRecursion (GoesBy self.old.lost gone came touched m moment.now) moment.now → TellsNow self.new moment.now }
+        ensures told { (m : Moment) → TellAt self.old.now.items m moment.now → HoldBehind self.old.behind.items m moment.now → AllByRecursion (GoesBy self.old.lost gone came touched m moment.now) moment.now → IsTold self.new.now.items self.new.behind.items moment.now }
         ensures tell { (m : Moment) → TellAt self.old.now.items m moment.now → AllByRecursion (GoesBy self.old.lost gone came touched m moment.now) moment.now → AllByRecursion (HeadsTell self.new.now.items self.new.lost self.new.moved self.new.risen m moment.now) moment.now }
     {
         forget(&mut self.behind, self.lost.claim.seat);

@@ -214,7 +214,8 @@ fn with_touched(touched: ResourceSet, behind: &[ResourceSet], s: &StatusChange) 
     }
 }
 
-/// The seats of the writes whose least claims are of a seat that is lost, or of one of which a write is told to be satisfied.
+/// The seats of the writes whose least claims are of a seat that is lost, or of one of which a write is told to be satisfied; with
+/// others maybe, as the sets behind a seat may have others.
 pub fn touched_by(behind: &[ResourceSet], lost: u8, statuses: &[StatusChange]) -> ResourceSet
     ensures { (seat : ℕ) → contains result seat ≡ is_touched behind.now lost statuses.now seat }
 {

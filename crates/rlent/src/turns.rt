@@ -168,7 +168,8 @@ impl<'a, T: Editable, M: Machine> Section<'a, T, M> {
         self.lent.reserve(usize::from(RESOURCES))
     }
 
-    /// Asks for a further part, in one turn, and waits for it. All room is made before.
+    /// Asks for a further part, in one turn, and waits for it. Room for what it may be lent is made before, room for what the history
+    /// gets in that turn.
     ///
     /// # Errors
     ///

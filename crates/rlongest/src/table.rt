@@ -34,7 +34,7 @@ pub enum Key {
 /// What the claims come to that are found at one place.
 #[derive(Clone, Copy)]
 pub struct Cell {
-    /// The length of the longest, in turns; none where there is no claim.
+    /// The length of the longest; none where there is no claim.
     pub longest: Option<u32>,
     /// All resources under which they are found.
     pub beside: ResourceSet,

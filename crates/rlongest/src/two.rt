@@ -9,7 +9,7 @@ use rbound::longer;
 pub struct TwoLongest {
     /// A task that has the longest; where no task has any, one of those told of, or 0.
     pub task: u8,
-    /// The longest of all tasks, in turns; none where no task has any.
+    /// The longest of all tasks; none where no task has any.
     pub longest: Option<u32>,
     /// The longest of all tasks but that one.
     pub next: Option<u32>,

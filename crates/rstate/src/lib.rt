@@ -2,7 +2,7 @@
 //!
 //! A [`State`] keeps that they agree. A seat takes what it holds out of it as a [`Lent`], and gives it back with the event
 //! that ends its section or lets its upgrade rise. The value of each resource is in [`Shares`], made beforehand, so that
-//! nothing is made while the state is held. The module [`laws`] says what holds of every lawful history.
+//! no share is made while the state is held. The module [`laws`] says what holds of every lawful history.
 #![tactic(auto)]
 
 mod keep;

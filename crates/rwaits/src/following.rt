@@ -41,7 +41,7 @@ const CLAIMS: usize = 2 * PLACES;
 pub struct Following {
     // The seats that wait, with others maybe.
     waiting: ResourceSet,
-    // The seats of the upgrades that rose.
+    // The seats of the upgrades that rose, with others maybe of which no claim is there.
     rising: ResourceSet,
     // The seats of the requests of which an ask is pending, with others maybe.
     asking: ResourceSet,

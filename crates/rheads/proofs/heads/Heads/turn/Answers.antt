@@ -17,7 +17,7 @@ but_from lost ss ss' same m (z ∷ zs) hold =
     ((λ write other. ap (λ (s : Set). contains s z.claim.seat) (same (least_of z.claim m).seat other) ∙ hold.0 write), but_from lost ss ss' same m zs hold.1)
 
 pub returns-clause-told : goal.returns-clause-told
-returns-clause-told c = λ m tell hold by _.
+returns-clause-told c = λ m tell hold by.
     let n = c.args.moment.now in
     let v = c.args.self.now.behind in
     let ss = c.forget.new.behind in

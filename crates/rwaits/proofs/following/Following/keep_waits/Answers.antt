@@ -22,8 +22,8 @@ use Rattle.rstretch.specs.declared.run.Run.{Run}
 use Rattle.rstretch.proofs.over.Tracking.{told_are_ended}
 use Rattle.rheads.specs.declared.lines.Head.{Head}
 use Rattle.rheads.specs.declared.shares.Share.{Share}
-use Rattle.rheads.specs.Heads.{IsMoment, TellsNow}
-use Rattle.rheads.specs.Lines.{ArePlaced, GoesBy, HoldBehind, IsTouched, TellAt, TellHeads, HeadsTell}
+use Rattle.rheads.specs.Heads.{IsMoment}
+use Rattle.rheads.specs.Lines.{ArePlaced, GoesBy, HoldBehind, IsTold, IsTouched, TellAt, TellHeads, HeadsTell}
 use Rattle.rheads.specs.Shares.{AreLeft, TellWrites}
 use Rattle.rheads.proofs.told.Turns.{touched_all}
 use Rattle.rwaits.specs.declared.following.Following.{Following}
@@ -264,7 +264,7 @@ returns c = λ a p t.
     (subst (λ (n : Moment). AreOf (length_by b.lengths) (length_in (es ++ e ∷ rest)) n) (sym at_n) (lengths_come a p k e comes (length_by b.lengths) t.lengths rest))
     (subst (λ (rs : List Run). AllByRecursion (AreLong (length_in (es ++ e ∷ rest))) rs) (sym are) (k.long (e ∷ rest)))))
     t.lengths t.asks t.waiting t.rising t.asking t.reading (wanted_on a b c.args.machine.now p e t)
-    (subst (TellsNow c.turn.new.self) is_n (c.turn.ensures.told m both.0
+    (λ _. subst (IsTold c.turn.new.self.now.items c.turn.new.self.behind.items) is_n (c.turn.ensures.told m both.0
     (behind_turn a p k e comes plain c.lose-gone.new.self.behind.items m c.claims.result.now refl is_n
     (subst (λ (v : Vec Set Global). HoldBehind v.items m m) (sym c.lose-gone.ensures.behind) t.told.heads.behind)) both.1))
     (λ _. writes_turn a p k e comes plain b.heads.writers c.turn.new.self.writers c.turn.new.self.shares m (next (state_of p) e).claims refl refl
