@@ -25,6 +25,7 @@ impl Reading {
         requires few { place_of act.now < RESOURCES }
         ensures taken { OnOk result (Takes self.old self.new (Does act.now)) }
         ensures placed { OnOk result (self.old.last ≡ at_acts) }
+        ensures others { OnOk result (self.new ≡ record self.old { ledgers = self.new.ledgers }) }
         ensures bad { IfErr result (λ code. Refuses self.old (Does act.now) code) }
         ensures still { OnErr result (self.new ≡ self.old) }
     {
