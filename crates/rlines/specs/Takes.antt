@@ -3,11 +3,13 @@ use Rattle.std.specs.Prelude.{◌≡◌, ◌⊎◌, ◌<◌, ◌^◌, ℕ, Bool,
 use Rattle.std.specs.FinSet.{union, empty}
 use Rattle.rset.specs.Sets.{Set, all_below}
 use Rattle.rexpand.specs.Groups.{ReadGroups, no_groups}
+use Rattle.rclaim.specs.Events.{seat_of}
 use Rattle.rclaim.specs.Requests.{IsNormal}
 use Rattle.rclaim.specs.declared.event.Event.{Event}
 use Rattle.rclaim.specs.declared.event.Event.TheVariants.{Issue, Finish, Rise, Ask}
 use Rattle.rmodel.specs.Changes.{changes_between}
 use Rattle.rmodel.specs.Claims.{is_admitted}
+use Rattle.rmodel.specs.Holds.{holds_of}
 use Rattle.rplain.specs.Machine.{Standing}
 use Rattle.rmodel.specs.State.{LockState}
 use Rattle.rmodel.specs.Steps.{next}
@@ -109,9 +111,17 @@ IsPlaced reading = (whole : Bool) (s : SoFar) → Knows whole reading s → plac
 abbrev pub Allows : Set → Set → Event → Granted → Type 0
 Allows shown edited e held = (shown ≡ shown_by held) × (edited ≡ edited_by held e)
 
+-- whatever was said, acts behind this event may show and edit what its seat, by what it held before, may
+abbrev pub AllowsBehind : Reading → Reading → Event → Type 0
+AllowsBehind old new e = (whole : Bool) (s : SoFar) → Knows whole old s → Allows new.shown new.edited e (holds_of (lock_in s).claims (seat_of e))
+
 -- the reader behind an accepted event, of which nothing was told yet
 abbrev pub noted : Reading → Event → Reading
 noted reading e = record reading { last = event_place e; told = 0 }
+
+-- behind an event that was taken nothing was told of it yet, and what no event changes is as it was
+abbrev pub NotesEvent : Reading → Reading → Event → Type 0
+NotesEvent old new e = new ≡ noted (record old { machine = new.machine; following = new.following; shown = new.shown; edited = new.edited }) e
 
 -- ---- ledgers
 

@@ -10,7 +10,7 @@ ghost use Rattle.rforms.specs.Lines.{Happens};
 ghost use Rattle.rforms.specs.SoFar.{SoFar, lock_in, entries_in, event_place};
 ghost use Rattle.rforms.specs.declared.fault.Code.{Code};
 ghost use Rattle.rlines.specs.Knows.{Knows, state_in, changes_in, past_in};
-ghost use Rattle.rlines.specs.Takes.{Takes, Refuses, StillDue, IsReady, IsPlaced, FitsTold, Allows, event_admitted, edited_by, stepped};
+ghost use Rattle.rlines.specs.Takes.{Takes, Refuses, StillDue, IsReady, IsPlaced, FitsTold, Allows, AllowsBehind, NotesEvent, event_admitted, edited_by, stepped};
 
 use crate::place::{AT_ACTS, AT_CHANGES};
 use crate::reading::Reading;
@@ -67,6 +67,8 @@ impl Reading {
         requires placed { IsPlaced self.old }
         requires fits { (whole : Bool) (s : SoFar) → Knows whole self.old s → length (entries_in s) < 2 ^ 62 → FitsTold (lock_in s) event.now }
         ensures taken { OnOk result (Takes self.old self.new (Happens event.now)) }
+        ensures counted { OnOk result (NotesEvent self.old self.new event.now) }
+        ensures allowed { OnOk result (self.old.whole ≡ true → AllowsBehind self.old self.new event.now) }
         ensures bad { (code : Code) → result ≡ Err (RowErr.Bad code) → Refuses self.old (Happens event.now) code }
         ensures still { (code : Code) → result ≡ Err (RowErr.Bad code) → StillDue self.old self.new }
         ensures names { (code : Code) → result ≡ Err (RowErr.Bad code) → (self.new.resources ≡ self.old.resources) × (self.new.tasks ≡ self.old.tasks) }

@@ -61,6 +61,22 @@ returns-in-Ok-apply-clause-taken c = λ whole s h.
     stands done.0 done.2
     (λ w. subst (λ (o : Option Standing). IfSome o (λ machine. Allows shown edited e (holds_of machine.state.claims (seat_of e)))) there (c.allowed-shown.ensures.allowed (told ∙ w))))
 
+pub returns-in-Ok-apply-clause-counted : goal.returns-in-Ok-apply-clause-counted
+returns-in-Ok-apply-clause-counted c =
+    let made = c.make_machine.ensures.others in
+    λ i. record (made i) { machine = Some c.apply.new.machine; following = Some c.apply.new.following; shown = c.allowed-shown.result.0; edited = c.allowed-shown.result.1; last = c.place_behind-self.ensures i; told = 0 }
+
+pub returns-in-Ok-apply-clause-allowed : goal.returns-in-Ok-apply-clause-allowed
+returns-in-Ok-apply-clause-allowed c = λ report whole s h.
+    let shown = c.allowed-shown.result.0 in
+    let edited = c.allowed-shown.result.1 in
+    let e = c.args.event.now in
+    let there = c.in-Some.is in
+    let stands = sym (ap (state_in s) there) ∙ (c.in-Ok.ensures.made.1 whole s h).0 in
+    let allows = c.allowed-shown.ensures.allowed (ap (λ (r : Reading). r.whole) c.make_machine.ensures.others ∙ report) in
+    subst (λ (l : LockState). Allows shown edited e (holds_of l.claims (seat_of e))) stands
+    (subst (λ (o : Option Standing). IfSome o (λ machine. Allows shown edited e (holds_of machine.state.claims (seat_of e)))) there allows)
+
 pub returns-in-Err-clause-bad : goal.returns-in-Err-clause-bad
 returns-in-Err-clause-bad c = λ code is whole s h.
     let stands = sym (c.in-Ok.ensures.made.1 whole s h).0 ∙ ap (state_in s) c.in-Some.is in
