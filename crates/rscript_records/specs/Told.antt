@@ -10,6 +10,7 @@ use Rattle.rscript_records.specs.Words.{fields_of}
 use Rattle.rscript_records.specs.Lines.{Does, names_of, meant_as}
 use Rattle.rscript_records.specs.Causes.{said_causes}
 use Rattle.rscript_records.specs.declared.code.Code.{Code}
+use Rattle.rscript_records.specs.declared.code.Code.TheVariants.{UnknownName, BadNumber, EmptyRequest, Undeclared, FirstOutside}
 use Rattle.rscript_records.specs.declared.section.Section.{Section}
 use Rattle.rscript_records.specs.declared.statement.Statement.{Statement}
 use Rattle.rscript_records.specs.declared.statement.Statement.TheVariants as statement
@@ -56,3 +57,12 @@ pub record Tells (resources : List (List ℕ)) (w : Word) (row : Row) (s : State
 -- a record of this word is wrong as this code tells, whatever read groups there are and whichever section is open
 abbrev pub IsWrong : List (List ℕ) → Word → Row → Code → Type 0
 IsWrong resources w row code = (groups : List Set) (section : Option Section) → first_of (said_causes resources groups section row w) ≡ Some code
+
+-- the codes of a record's fields, and of the request that they tell: none of them tells of the section that is open
+abbrev pub is_of_fields : Code → Bool
+is_of_fields UnknownName = true
+is_of_fields BadNumber = true
+is_of_fields EmptyRequest = true
+is_of_fields Undeclared = true
+is_of_fields FirstOutside = true
+is_of_fields _ = false

@@ -4,7 +4,7 @@ ghost use Rattle.csv.specs.Records.{fields_of};
 ghost use Rattle.rset.specs.declared.TheConstants.{RESOURCES};
 ghost use Rattle.rscript_records.specs.Causes.{request_code};
 ghost use Rattle.rscript_records.specs.Words.{word_in};
-ghost use Rattle.rscript_records.specs.Told.{is_edit, is_statement, edit_by, HasPlace, Tells, IsWrong};
+ghost use Rattle.rscript_records.specs.Told.{is_edit, is_statement, edit_by, HasPlace, Tells, IsWrong, is_of_fields};
 
 use crate::word::Word;
 use crate::{Code, Statement};
@@ -34,6 +34,7 @@ pub fn statement_of(
     ensures told { IfOk result (λ statement. Tells resources.now word (fields_of fields.now) statement) }
     ensures place { IfOk result (HasPlace RESOURCES) }
     ensures wrong { IfErr result (IsWrong resources.now word (fields_of fields.now)) }
+    ensures fields { IfErr result (λ code. is_of_fields code ≡ true) }
 {
     match word {
         Word::Begin(kind) => begin_of(resources, kind, fields),
@@ -53,6 +54,7 @@ fn begin_of(resources: &NameTable, kind: Kind, fields: &ByteRecord) -> Result<St
     ensures told { IfOk result (λ statement. Tells resources.now (Word.Begin kind) (fields_of fields.now) statement) }
     ensures place { IfOk result (HasPlace RESOURCES) }
     ensures wrong { IfErr result (IsWrong resources.now (Word.Begin kind) (fields_of fields.now)) }
+    ensures fields { IfErr result (λ code. is_of_fields code ≡ true) }
 {
     let Some(sets) = sets_of(resources, kind, fields, FIRST_SET) else {
         return Err(Code::UnknownName);
@@ -83,6 +85,7 @@ fn show_of(resources: &NameTable, fields: &ByteRecord) -> Result<Statement, Code
     ensures told { IfOk result (λ statement. Tells resources.now Word.Show (fields_of fields.now) statement) }
     ensures place { IfOk result (HasPlace RESOURCES) }
     ensures wrong { IfErr result (IsWrong resources.now Word.Show (fields_of fields.now)) }
+    ensures fields { IfErr result (λ code. is_of_fields code ≡ true) }
 {
     match resources.number_of(field_of(fields, 1)) {
         Some(place) => Ok(Statement::Show { place }),
@@ -97,6 +100,7 @@ fn edit_of(resources: &NameTable, word: Word, fields: &ByteRecord) -> Result<Sta
     ensures told { IfOk result (λ statement. Tells resources.now word (fields_of fields.now) statement) }
     ensures place { IfOk result (HasPlace RESOURCES) }
     ensures wrong { IfErr result (IsWrong resources.now word (fields_of fields.now)) }
+    ensures fields { IfErr result (λ code. is_of_fields code ≡ true) }
 {
     let Some(place) = resources.number_of(field_of(fields, 1)) else {
         return Err(Code::UnknownName);
@@ -127,6 +131,7 @@ fn ask_of(resources: &NameTable, fields: &ByteRecord) -> Result<Statement, Code>
     ensures told { IfOk result (λ statement. Tells resources.now Word.Ask (fields_of fields.now) statement) }
     ensures place { IfOk result (HasPlace RESOURCES) }
     ensures wrong { IfErr result (IsWrong resources.now Word.Ask (fields_of fields.now)) }
+    ensures fields { IfErr result (λ code. is_of_fields code ≡ true) }
 {
     match set_of(resources, field_of(fields, 1)) {
         Some(set) => Ok(Statement::Ask { set }),

@@ -5,6 +5,7 @@ use Rattle.rset.specs.Sets.{Set}
 use Rattle.rclaim.specs.declared.request.Kind.{Kind}
 use Rattle.rclaim.specs.declared.request.Kind.TheVariants.{Read, Write, Mixed, Upgrade, Nested}
 use Rattle.rclaim.specs.declared.request.RequestErr.{RequestErr}
+use Rattle.rclaim.specs.declared.request.RequestErr.TheVariants.{EmptyRequest, Undeclared, FirstOutside}
 use Rattle.rforms.specs.Records.{Row}
 use Rattle.rforms.specs.Decided.{field_of}
 use Rattle.rforms.specs.Events.{request_refusal}
@@ -18,7 +19,7 @@ use Rattle.rscript_records.specs.Lines.{names_of, line_by, Does}
 use Rattle.rrecords.specs.Requests.{no_part, with_part, request_sets, request_lengths, request_told}
 use Rattle.rrecords.proofs.Lengths.{AreLengths, lengths_are, none_one, none_two}
 use Rattle.rscript_records.specs.Causes.{request_code}
-use Rattle.rscript_records.specs.Told.{Tells, IsWrong}
+use Rattle.rscript_records.specs.Told.{Tells, IsWrong, is_of_fields}
 use Rattle.rscript_records.specs.declared.code.Code.TheVariants.{UnknownName, BadNumber}
 use Rattle.rrecords.specs.declared.requests.RequestSets.{RequestSets}
 use Rattle.rrecords.specs.declared.requests.RequestLengths.{RequestLengths}
@@ -165,3 +166,9 @@ module _ (rs : List (List ℕ)) (row : Row) where
     begin_refused sets lengths cause h k refused = λ groups section.
         told_causes rs (word.Begin kind) row (statement.Begin (request_told kind sets lengths)) (begin_tells sets lengths h k) groups section
         ∙ ap (λ (o : Option RequestErr). first_of (option_map request_code o ∷ [])) (refused groups)
+
+-- the code of a refused request is one of its record's fields
+pub request_of_fields : (cause : RequestErr) → is_of_fields (request_code cause) ≡ true
+request_of_fields EmptyRequest = refl
+request_of_fields Undeclared = refl
+request_of_fields FirstOutside = refl

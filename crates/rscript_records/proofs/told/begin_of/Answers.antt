@@ -1,11 +1,11 @@
-use Rattle.std.proofs.Common.{sym, subst, ◌∙◌}
+use Rattle.std.proofs.Common.{sym, ap, subst, ◌∙◌}
 use Rattle.csv.specs.Records.{fields_of}
 use Rattle.rclaim.specs.Requests.{RequestFields}
-use Rattle.rscript_records.specs.Told.{Tells, IsWrong}
+use Rattle.rscript_records.specs.Told.{Tells, IsWrong, is_of_fields}
 use Rattle.rscript_records.specs.declared.code.Code.{Code}
 use Rattle.rscript_records.specs.declared.statement.Statement.TheVariants as statement
 use Rattle.rscript_records.specs.declared.word.Word.TheVariants as word
-use Rattle.rscript_records.proofs.facts.Begins.{begin_unknown, begin_uncounted, begin_tells, begin_refused}
+use Rattle.rscript_records.proofs.facts.Begins.{begin_unknown, begin_uncounted, begin_tells, begin_refused, request_of_fields}
 use Rattle.rscript_records.proofs.told.begin_of.Goals as goal
 
 pub returns-in_default-clause-wrong : goal.returns-in_default-clause-wrong
@@ -26,3 +26,6 @@ returns-in-Err-clause-wrong c =
     subst (λ (code : Code). IsWrong c.args.resources.now (word.Begin c.args.kind) (fields_of c.args.fields.now) code) (sym c.request_code.ensures)
     (begin_refused c.args.resources.now (fields_of c.args.fields.now) c.args.kind c.requires c.in-Some.sets c.in-Some-lengths_of.lengths c.in-Err.cause (sym c.sets_of.ensures.value ∙ c.in-Some.is)
     (sym c.lengths_of.ensures.value ∙ c.in-Some-lengths_of.is) c.in-Err.ensures)
+
+pub returns-in-Err-clause-fields : goal.returns-in-Err-clause-fields
+returns-in-Err-clause-fields c = ap is_of_fields c.request_code.ensures ∙ request_of_fields c.in-Err.cause
