@@ -125,7 +125,7 @@ NotesEvent old new e = new ≡ noted (record old { machine = new.machine; follow
 
 -- ---- ledgers
 
--- how many ledgers were told
+-- how many ledgers were told, where the last line is one of them; elsewhere none
 abbrev pub ledgers_told : Reading → ℕ
 ledgers_told reading = if reading.last == at_ledgers then reading.told else 0
 

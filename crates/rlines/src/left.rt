@@ -59,7 +59,7 @@ impl Reading {
         Ok(())
     }
 
-    /// How many ledgers were told.
+    /// How many ledgers were told so far: none before the first one, and none behind the end.
     pub fn ledgers_told(&self) -> usize
         ensures { result ≡ ledgers_told self.now }
     {

@@ -12,7 +12,7 @@ use rset::ResourceSet;
 /// More than a number takes as one field more.
 pub const NUMBER_ROOM: usize = 41;
 
-/// More than a set takes as one field more: the names of all resources.
+/// The most that a set takes as one field more: the names of all resources, each behind its separator.
 pub const SET_ROOM: usize = 64 * 17;
 
 /// Puts bytes of known length.

@@ -4,7 +4,7 @@ ghost use Rattle.std.specs.Prelude.{◌≡◌};
 use crate::reading::Reading;
 use csv::ByteRecord;
 use rforms::{Records, RowErr};
-use rscript_records::{Code, word_in};
+use rscript_records::{AT_END, Code, word_in};
 
 impl Records for Reading {
     ghost use Rattle.rscript.specs.Reading.{Knows};
@@ -34,7 +34,7 @@ impl Records for Reading {
     }
 
     fn has_ended(&self) -> bool {
-        self.last == 5
+        self.last == AT_END
     }
 
     fn no_end(&self) -> Code {
