@@ -25,8 +25,9 @@ use std::alloc::Global;
 /// # Errors
 ///
 /// The source failed, or had more than `limit` bytes: then the taker knows the records of a front of what came, or stands where
-/// one of them was refused. The first fault of a text that is none of the taker's kind, and then the taker stands where the
-/// faulty record would be due (`StandsAt`); or want of memory.
+/// one of them was refused. How long that front is is not said: it may have no record. The first fault of a text that is none
+/// of the taker's kind, and then the taker stands where the faulty record would be due (`StandsAt`). Or want of memory: then
+/// nothing is said of the taker.
 pub fn take_source<S: Source, T: Records>(
     alloc: Global,
     source: &mut S,

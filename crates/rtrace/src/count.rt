@@ -159,7 +159,8 @@ pub fn audit_stream<S: Source>(
 /// The same, by a reader that has read nothing. Where the report is right, the reader knows in the end what all of it said,
 /// and so it does where only a bound is wrong. Where a record has a fault, the reader stands where that record would be due
 /// (`StandsAt`): so it can be told what was due. Where the source failed or had too much, the reader knows the records of a
-/// front of what came, or stands where one of them was refused.
+/// front of what came, or stands where one of them was refused; how long that front is is not said: it may have no record. Where
+/// memory is wanting, nothing is said of the reader.
 ///
 /// # Errors
 ///
