@@ -1,5 +1,5 @@
 -- What it is to take a record, and to tell what is wrong with it.
-use Rattle.std.specs.Prelude.{◌≡◌, ◌⊎◌, ℕ, Bool, List, ◌∷◌, Option, Some, None, IsSome, option_map}
+use Rattle.std.specs.Prelude.{◌≡◌, ◌⊎◌, ◌+◌, ℕ, Bool, true, false, List, ◌∷◌, Option, Some, None, IsSome, option_map}
 use Rattle.rclaim.specs.declared.event.Event.{Event}
 use Rattle.rclaim.specs.declared.request.RequestErr.{RequestErr}
 use Rattle.rforms.specs.Records.{Row}
@@ -9,7 +9,7 @@ use Rattle.rforms.specs.declared.word.Word.{Word}
 use Rattle.rforms.specs.declared.word.Word.TheVariants as word
 use Rattle.rbound.specs.Bounds.{Numbers, numbers_in}
 use Rattle.rforms.specs.WrongBounds.{bound_said}
-use Rattle.rforms.specs.SoFar.{SoFar, names_in, entries_in, bare, with_act, with_row}
+use Rattle.rforms.specs.SoFar.{SoFar, at_changes, at_ledgers, at_end, names_in, entries_in, bare, with_act, with_row}
 use Rattle.rforms.specs.Faults.{code_of}
 use Rattle.rforms.specs.declared.fault.Code.{Code}
 use Rattle.rrecords.specs.Told.{IsTold}
@@ -18,7 +18,7 @@ use Rattle.rlines.specs.declared.reading.Reading.{Reading}
 use Rattle.rreading.specs.declared.taken.Taken.{Taken}
 use Rattle.rreading.specs.declared.taken.Taken.TheVariants as taken
 use Rattle.rlines.specs.Knows.{Knows, waits_due}
-use Rattle.rlines.specs.Takes.{MayStand}
+use Rattle.rlines.specs.Takes.{MayStand, AllowsBehind, NotesEvent, ledgers_told}
 
 -- what was taken adds this to the entries; a wait is the first of those that are due, and due no more
 abbrev pub Adds : Taken → SoFar → SoFar → Type 0
@@ -64,3 +64,34 @@ TellsBound old row what = (whole : Bool) (s : SoFar) → Knows whole old s → b
 abbrev pub IsKept : Option RequestErr → Taken → Event → Type 0
 IsKept None what e = (what ≡ taken.Event e) × IsTold (event_told.Event e) e
 IsKept (Some cause) what e = IsTold (event_told.Refused cause) e
+
+-- ---- what is counted
+
+-- one more of the latest event's changes, or of the waits that it ended, was told, and all else is as it was
+abbrev pub OneMoreTold : Reading → Reading → Type 0
+OneMoreTold old new = new ≡ record old { last = at_changes; told = old.told + 1 }
+
+-- a record of this word that tells nothing of the history is counted, and all else is as it was: a change, a ledger, the end. Those of the head tell nothing that is counted
+abbrev pub CountsWord : Option Word → Reading → Reading → Type 0
+CountsWord (Some (word.Entitled half)) old new = OneMoreTold old new
+CountsWord (Some (word.Satisfied half)) old new = OneMoreTold old new
+CountsWord (Some word.Grant) old new = OneMoreTold old new
+CountsWord (Some word.Ledger) old new = new ≡ record old { last = at_ledgers; told = ledgers_told old + 1 }
+CountsWord (Some word.End) old new = new ≡ record old { last = at_end }
+CountsWord _ old new = Unit {0}
+
+-- the same, by what was taken: behind an event nothing was told of it yet, a wait is one more, and an act changes ledgers alone
+abbrev pub Counts : Option Word → Taken → Reading → Reading → Type 0
+Counts w (taken.Event e) old new = NotesEvent old new e
+Counts w (taken.Act act) old new = new ≡ record old { ledgers = new.ledgers }
+Counts w (taken.Wait told) old new = OneMoreTold old new
+Counts w taken.Other old new = CountsWord w old new
+
+-- a record that was taken is counted, and behind the head what it does not change is as it was
+abbrev pub CountsRow : Reading → Reading → Row → Taken → Type 0
+CountsRow old new row what = Counts (word_in old.whole row) what old new
+
+-- behind an event of a report acts may be as what its seat held before it lets them be; an event of a list changes nothing there
+abbrev pub AllowsActs : Reading → Reading → Taken → Type 0
+AllowsActs old new (taken.Event e) = (old.whole ≡ true → AllowsBehind old new e) × (old.whole ≡ false → (new.shown ≡ old.shown) × (new.edited ≡ old.edited))
+AllowsActs old new _ = Unit {0}

@@ -7,7 +7,7 @@ ghost use Rattle.rforms.specs.Words.{word_in};
 ghost use Rattle.rforms.specs.declared.fault.Code.{Code};
 ghost use Rattle.rrecords.specs.Told.{is_event, is_act, is_status, is_wait};
 ghost use Rattle.rlines.specs.Knows.{Knows};
-ghost use Rattle.rreading.specs.Takes.{TakesRow, RefusesRow, TellsBound, NamesStay};
+ghost use Rattle.rreading.specs.Takes.{TakesRow, RefusesRow, TellsBound, NamesStay, CountsRow, AllowsActs};
 ghost use Rattle.rlines.specs.Takes.{StillDue, IsReady, IsAsBefore};
 
 use crate::taken::Taken;
@@ -39,6 +39,8 @@ pub fn take_plain(
     requires wait { is_wait word ≡ false }
     ensures taken { OnOk result (TakesRow reading.old reading.new (fields_of fields.now) taken.new) }
     ensures bound { OnOk result (TellsBound reading.old (fields_of fields.now) taken.new) }
+    ensures counted { OnOk result (CountsRow reading.old reading.new (fields_of fields.now) taken.new) }
+    ensures allowed { OnOk result (AllowsActs reading.old reading.new taken.new) }
     ensures bad { (code : Code) → result ≡ Err (RowErr.Bad code) → RefusesRow reading.old (fields_of fields.now) code }
     ensures still { (code : Code) → result ≡ Err (RowErr.Bad code) → StillDue reading.old reading.new }
     ensures names { (code : Code) → result ≡ Err (RowErr.Bad code) → NamesStay reading.old reading.new (fields_of fields.now) }
@@ -66,6 +68,7 @@ fn take_other(
     requires act { is_act word ≡ false }
     requires wait { is_wait word ≡ false }
     ensures taken { OnOk result (TakesRow reading.old reading.new (fields_of fields.now) Taken.Other) }
+    ensures counted { OnOk result (CountsRow reading.old reading.new (fields_of fields.now) Taken.Other) }
     ensures bad { (code : Code) → result ≡ Err (RowErr.Bad code) → RefusesRow reading.old (fields_of fields.now) code }
     ensures still { (code : Code) → result ≡ Err (RowErr.Bad code) → StillDue reading.old reading.new }
     ensures names { (code : Code) → result ≡ Err (RowErr.Bad code) → NamesStay reading.old reading.new (fields_of fields.now) }
@@ -92,6 +95,7 @@ fn take_status(reading: &mut Reading, word: Word, fields: &ByteRecord) -> Result
     requires word { word_in reading.old.whole (fields_of fields.now) ≡ Some word }
     requires change { is_status word ≡ true }
     ensures taken { OnOk result (TakesRow reading.old reading.new (fields_of fields.now) Taken.Other) }
+    ensures counted { OnOk result (CountsRow reading.old reading.new (fields_of fields.now) Taken.Other) }
     ensures bad { (code : Code) → result ≡ Err (RowErr.Bad code) → RefusesRow reading.old (fields_of fields.now) code }
     ensures still { (code : Code) → result ≡ Err (RowErr.Bad code) → StillDue reading.old reading.new }
     ensures unchanged { OnErr result (reading.new ≡ reading.old) }
@@ -109,6 +113,7 @@ fn take_status(reading: &mut Reading, word: Word, fields: &ByteRecord) -> Result
 fn take_grant(reading: &mut Reading, fields: &ByteRecord) -> Result<(), RowErr>
     requires { word_in reading.old.whole (fields_of fields.now) ≡ Some Word.Grant }
     ensures taken { OnOk result (TakesRow reading.old reading.new (fields_of fields.now) Taken.Other) }
+    ensures counted { OnOk result (CountsRow reading.old reading.new (fields_of fields.now) Taken.Other) }
     ensures bad { (code : Code) → result ≡ Err (RowErr.Bad code) → RefusesRow reading.old (fields_of fields.now) code }
     ensures still { (code : Code) → result ≡ Err (RowErr.Bad code) → StillDue reading.old reading.new }
     ensures unchanged { OnErr result (reading.new ≡ reading.old) }
@@ -126,6 +131,7 @@ fn take_grant(reading: &mut Reading, fields: &ByteRecord) -> Result<(), RowErr>
 fn take_ledger(reading: &mut Reading, fields: &ByteRecord) -> Result<(), RowErr>
     requires { word_in reading.old.whole (fields_of fields.now) ≡ Some Word.Ledger }
     ensures taken { OnOk result (TakesRow reading.old reading.new (fields_of fields.now) Taken.Other) }
+    ensures counted { OnOk result (CountsRow reading.old reading.new (fields_of fields.now) Taken.Other) }
     ensures bad { (code : Code) → result ≡ Err (RowErr.Bad code) → RefusesRow reading.old (fields_of fields.now) code }
     ensures still { (code : Code) → result ≡ Err (RowErr.Bad code) → StillDue reading.old reading.new }
     ensures unchanged { OnErr result (reading.new ≡ reading.old) }
@@ -144,6 +150,7 @@ fn take_group(reading: &mut Reading, alloc: Global, fields: &ByteRecord) -> Resu
     requires ready { IsReady reading.old }
     requires word { word_in reading.old.whole (fields_of fields.now) ≡ Some Word.Group }
     ensures taken { OnOk result (TakesRow reading.old reading.new (fields_of fields.now) Taken.Other) }
+    ensures counted { OnOk result (CountsRow reading.old reading.new (fields_of fields.now) Taken.Other) }
     ensures bad { (code : Code) → result ≡ Err (RowErr.Bad code) → RefusesRow reading.old (fields_of fields.now) code }
     ensures still { (code : Code) → result ≡ Err (RowErr.Bad code) → StillDue reading.old reading.new }
     ensures unchanged { OnErr result (reading.new ≡ reading.old) }
@@ -164,6 +171,7 @@ fn take_group(reading: &mut Reading, alloc: Global, fields: &ByteRecord) -> Resu
 fn take_version(reading: &mut Reading, fields: &ByteRecord) -> Result<(), RowErr>
     requires { word_in reading.old.whole (fields_of fields.now) ≡ Some Word.Version }
     ensures taken { OnOk result (TakesRow reading.old reading.new (fields_of fields.now) Taken.Other) }
+    ensures counted { OnOk result (CountsRow reading.old reading.new (fields_of fields.now) Taken.Other) }
     ensures bad { (code : Code) → result ≡ Err (RowErr.Bad code) → RefusesRow reading.old (fields_of fields.now) code }
     ensures still { (code : Code) → result ≡ Err (RowErr.Bad code) → StillDue reading.old reading.new }
     ensures unchanged { OnErr result (reading.new ≡ reading.old) }
@@ -178,6 +186,7 @@ fn take_version(reading: &mut Reading, fields: &ByteRecord) -> Result<(), RowErr
 fn take_resource(reading: &mut Reading, fields: &ByteRecord) -> Result<(), RowErr>
     requires { word_in reading.old.whole (fields_of fields.now) ≡ Some Word.Resource }
     ensures taken { OnOk result (TakesRow reading.old reading.new (fields_of fields.now) Taken.Other) }
+    ensures counted { OnOk result (CountsRow reading.old reading.new (fields_of fields.now) Taken.Other) }
     ensures bad { (code : Code) → result ≡ Err (RowErr.Bad code) → RefusesRow reading.old (fields_of fields.now) code }
     ensures still { (code : Code) → result ≡ Err (RowErr.Bad code) → StillDue reading.old reading.new }
     ensures names { (code : Code) → result ≡ Err (RowErr.Bad code) → NamesStay reading.old reading.new (fields_of fields.now) }
@@ -193,6 +202,7 @@ fn take_resource(reading: &mut Reading, fields: &ByteRecord) -> Result<(), RowEr
 fn take_task(reading: &mut Reading, alloc: Global, fields: &ByteRecord) -> Result<(), RowErr>
     requires { word_in reading.old.whole (fields_of fields.now) ≡ Some Word.Task }
     ensures taken { OnOk result (TakesRow reading.old reading.new (fields_of fields.now) Taken.Other) }
+    ensures counted { OnOk result (CountsRow reading.old reading.new (fields_of fields.now) Taken.Other) }
     ensures bad { (code : Code) → result ≡ Err (RowErr.Bad code) → RefusesRow reading.old (fields_of fields.now) code }
     ensures still { (code : Code) → result ≡ Err (RowErr.Bad code) → StillDue reading.old reading.new }
     ensures names { (code : Code) → result ≡ Err (RowErr.Bad code) → NamesStay reading.old reading.new (fields_of fields.now) }
@@ -208,6 +218,7 @@ fn take_task(reading: &mut Reading, alloc: Global, fields: &ByteRecord) -> Resul
 fn take_cap(reading: &mut Reading, fields: &ByteRecord) -> Result<(), RowErr>
     requires { word_in reading.old.whole (fields_of fields.now) ≡ Some Word.Cap }
     ensures taken { OnOk result (TakesRow reading.old reading.new (fields_of fields.now) Taken.Other) }
+    ensures counted { OnOk result (CountsRow reading.old reading.new (fields_of fields.now) Taken.Other) }
     ensures bad { (code : Code) → result ≡ Err (RowErr.Bad code) → RefusesRow reading.old (fields_of fields.now) code }
     ensures still { (code : Code) → result ≡ Err (RowErr.Bad code) → StillDue reading.old reading.new }
     ensures unchanged { OnErr result (reading.new ≡ reading.old) }
@@ -225,6 +236,7 @@ fn take_cap(reading: &mut Reading, fields: &ByteRecord) -> Result<(), RowErr>
 fn take_end(reading: &mut Reading, fields: &ByteRecord) -> Result<(), RowErr>
     requires { word_in reading.old.whole (fields_of fields.now) ≡ Some Word.End }
     ensures taken { OnOk result (TakesRow reading.old reading.new (fields_of fields.now) Taken.Other) }
+    ensures counted { OnOk result (CountsRow reading.old reading.new (fields_of fields.now) Taken.Other) }
     ensures bad { (code : Code) → result ≡ Err (RowErr.Bad code) → RefusesRow reading.old (fields_of fields.now) code }
     ensures still { (code : Code) → result ≡ Err (RowErr.Bad code) → StillDue reading.old reading.new }
     ensures unchanged { OnErr result (reading.new ≡ reading.old) }

@@ -6,7 +6,7 @@ ghost use Rattle.rforms.specs.Lines.{Happens};
 ghost use Rattle.rforms.specs.Words.{word_in};
 ghost use Rattle.rforms.specs.declared.fault.Code.{Code};
 ghost use Rattle.rrecords.specs.Told.{IsOf, Says, IsWrong, names_by, is_event, is_act};
-ghost use Rattle.rreading.specs.Takes.{TakesRow, RefusesRow, TellsBound, NamesStay, IsKept};
+ghost use Rattle.rreading.specs.Takes.{TakesRow, RefusesRow, TellsBound, NamesStay, CountsRow, AllowsActs, IsKept};
 ghost use Rattle.rlines.specs.Takes.{StillDue, IsReady, IsAsBefore};
 
 use crate::plain::take_plain;
@@ -34,6 +34,8 @@ pub fn take(
     requires { IsReady reading.old }
     ensures taken { OnOk result (TakesRow reading.old reading.new (fields_of fields.now) taken.new) }
     ensures bound { OnOk result (TellsBound reading.old (fields_of fields.now) taken.new) }
+    ensures counted { OnOk result (CountsRow reading.old reading.new (fields_of fields.now) taken.new) }
+    ensures allowed { OnOk result (AllowsActs reading.old reading.new taken.new) }
     ensures bad { (code : Code) → result ≡ Err (RowErr.Bad code) → RefusesRow reading.old (fields_of fields.now) code }
     ensures still { (code : Code) → result ≡ Err (RowErr.Bad code) → StillDue reading.old reading.new }
     ensures names { (code : Code) → result ≡ Err (RowErr.Bad code) → NamesStay reading.old reading.new (fields_of fields.now) }
@@ -76,6 +78,8 @@ fn take_event(
     requires event { is_event word ≡ true }
     ensures taken { OnOk result (TakesRow reading.old reading.new (fields_of fields.now) taken.new) }
     ensures bound { OnOk result (TellsBound reading.old (fields_of fields.now) taken.new) }
+    ensures counted { OnOk result (CountsRow reading.old reading.new (fields_of fields.now) taken.new) }
+    ensures allowed { OnOk result (AllowsActs reading.old reading.new taken.new) }
     ensures bad { (code : Code) → result ≡ Err (RowErr.Bad code) → RefusesRow reading.old (fields_of fields.now) code }
     ensures still { (code : Code) → result ≡ Err (RowErr.Bad code) → StillDue reading.old reading.new }
     ensures names { (code : Code) → result ≡ Err (RowErr.Bad code) → (reading.new.resources ≡ reading.old.resources) × (reading.new.tasks ≡ reading.old.tasks) }
@@ -143,6 +147,8 @@ fn take_act(
     requires act { is_act word ≡ true }
     ensures taken { OnOk result (TakesRow reading.old reading.new (fields_of fields.now) taken.new) }
     ensures bound { OnOk result (TellsBound reading.old (fields_of fields.now) taken.new) }
+    ensures counted { OnOk result (CountsRow reading.old reading.new (fields_of fields.now) taken.new) }
+    ensures allowed { OnOk result (AllowsActs reading.old reading.new taken.new) }
     ensures bad { (code : Code) → result ≡ Err (RowErr.Bad code) → RefusesRow reading.old (fields_of fields.now) code }
     ensures still { (code : Code) → result ≡ Err (RowErr.Bad code) → StillDue reading.old reading.new }
     ensures unchanged { OnErr result (reading.new ≡ reading.old) }
@@ -169,6 +175,8 @@ fn take_wait(
     requires { word_in reading.old.whole (fields_of fields.now) ≡ Some (Word.Wait stage) }
     ensures taken { OnOk result (TakesRow reading.old reading.new (fields_of fields.now) taken.new) }
     ensures bound { OnOk result (TellsBound reading.old (fields_of fields.now) taken.new) }
+    ensures counted { OnOk result (CountsRow reading.old reading.new (fields_of fields.now) taken.new) }
+    ensures allowed { OnOk result (AllowsActs reading.old reading.new taken.new) }
     ensures bad { (code : Code) → result ≡ Err (RowErr.Bad code) → RefusesRow reading.old (fields_of fields.now) code }
     ensures still { (code : Code) → result ≡ Err (RowErr.Bad code) → StillDue reading.old reading.new }
     ensures unchanged { OnErr result (reading.new ≡ reading.old) }

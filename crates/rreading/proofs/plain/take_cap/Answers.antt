@@ -9,6 +9,7 @@ use Rattle.rreading.specs.declared.taken.Taken.TheVariants as taken
 use Rattle.rlines.proofs.Results.{same_bad}
 use Rattle.rreading.proofs.RowSteps.{is_of, cap_says, cap_uncounted, row_taken, row_code, row_wrong}
 use Rattle.rlines.proofs.Still.{same_still}
+use Rattle.rreading.proofs.Counting.{word_counts}
 use Rattle.rreading.proofs.plain.take_cap.Goals as goal
 
 pub returns-in-Ok-clause-taken : goal.returns-in-Ok-clause-taken
@@ -28,3 +29,6 @@ returns-in-Err-clause-still c = λ code is. same_still c.args.reading.now _ c.in
 
 pub returns-in-None-clause-still : goal.returns-in-None-clause-still
 returns-in-None-clause-still c = λ code is. same_still c.args.reading.now _ refl
+
+pub returns-in-Ok-clause-counted : goal.returns-in-Ok-clause-counted
+returns-in-Ok-clause-counted c = word_counts c.args.reading.now c.limit.new.self (fields_of c.args.fields.now) word.Cap c.requires tt

@@ -6,6 +6,7 @@ use Rattle.rreading.specs.declared.taken.Taken.TheVariants as taken
 use Rattle.rlines.proofs.Results.{same_bad}
 use Rattle.rreading.proofs.RowSteps.{is_of, row_taken, row_code, row_wrong}
 use Rattle.rlines.proofs.Still.{same_still}
+use Rattle.rreading.proofs.Counting.{word_counts}
 use Rattle.rreading.proofs.plain.take_grant.Goals as goal
 
 pub grant_of-requires : goal.grant_of-requires
@@ -27,3 +28,6 @@ returns-in-Err-grant-clause-still c = λ code is. same_still c.args.reading.now 
 
 pub returns-in-Err-clause-still : goal.returns-in-Err-clause-still
 returns-in-Err-clause-still c = λ code is. same_still c.args.reading.now _ refl
+
+pub returns-in-Ok-grant-clause-counted : goal.returns-in-Ok-grant-clause-counted
+returns-in-Ok-grant-clause-counted c = word_counts c.args.reading.now c.grant.new.self (fields_of c.args.fields.now) word.Grant c.requires c.in-Ok-grant.ensures.counted

@@ -7,6 +7,7 @@ use Rattle.rlines.proofs.Results.{same_bad}
 use Rattle.rreading.proofs.Results.{same_err}
 use Rattle.rreading.proofs.RowSteps.{is_of, row_more, row_taken, row_code, row_wrong}
 use Rattle.rlines.proofs.Still.{same_still}
+use Rattle.rreading.proofs.Counting.{word_counts}
 use Rattle.rreading.proofs.plain.take_group.Goals as goal
 
 pub returns-then-has_all_groups-clause-bad : goal.returns-then-has_all_groups-clause-bad
@@ -37,3 +38,6 @@ returns-in-Err-group-clause-still c = λ code is. c.in-Err-group.ensures.still c
 
 pub returns-in-Err-clause-still : goal.returns-in-Err-clause-still
 returns-in-Err-clause-still c = λ code is. same_still c.args.reading.now _ refl
+
+pub returns-in-Ok-group-clause-counted : goal.returns-in-Ok-group-clause-counted
+returns-in-Ok-group-clause-counted c = word_counts c.args.reading.now c.group.new.self (fields_of c.args.fields.now) word.Group c.requires.word tt

@@ -6,6 +6,7 @@ use Rattle.rreading.specs.declared.taken.Taken.TheVariants as taken
 use Rattle.rlines.proofs.Results.{same_bad}
 use Rattle.rreading.proofs.RowSteps.{is_of, ledger_whole, row_taken, row_code, row_wrong}
 use Rattle.rlines.proofs.Still.{same_still}
+use Rattle.rreading.proofs.Counting.{word_counts}
 use Rattle.rreading.proofs.plain.take_ledger.Goals as goal
 
 pub ledger_of-requires : goal.ledger_of-requires
@@ -30,3 +31,6 @@ returns-in-Err-leave-clause-still c = λ code is. same_still c.args.reading.now 
 
 pub returns-in-Err-clause-still : goal.returns-in-Err-clause-still
 returns-in-Err-clause-still c = λ code is. same_still c.args.reading.now _ refl
+
+pub returns-in-Ok-leave-clause-counted : goal.returns-in-Ok-leave-clause-counted
+returns-in-Ok-leave-clause-counted c = word_counts c.args.reading.now c.leave.new.self (fields_of c.args.fields.now) word.Ledger c.requires c.in-Ok-leave.ensures.counted

@@ -6,6 +6,7 @@ use Rattle.rlines.proofs.Codes.{status_changes}
 use Rattle.rlines.proofs.Results.{same_bad}
 use Rattle.rreading.proofs.RowSteps.{is_of, status_no_more, row_taken, row_code, row_wrong, change_adds}
 use Rattle.rlines.proofs.Still.{same_still}
+use Rattle.rreading.proofs.Counting.{word_counts, status_counts}
 use Rattle.rreading.proofs.plain.take_status.Goals as goal
 
 pub change_of-requires-clause-form : goal.change_of-requires-clause-form
@@ -30,3 +31,6 @@ returns-in-Err-status-clause-still c = λ code is. same_still c.args.reading.now
 
 pub returns-in-Err-clause-still : goal.returns-in-Err-clause-still
 returns-in-Err-clause-still c = λ code is. same_still c.args.reading.now _ refl
+
+pub returns-in-Ok-status-clause-counted : goal.returns-in-Ok-status-clause-counted
+returns-in-Ok-status-clause-counted c = word_counts c.args.reading.now c.status.new.self (fields_of c.args.fields.now) c.args.word c.requires.word (status_counts c.args.reading.now c.status.new.self c.args.word c.requires.change c.in-Ok-status.ensures.counted)

@@ -7,6 +7,7 @@ use Rattle.rreading.specs.declared.taken.Taken.TheVariants as taken
 use Rattle.rreading.proofs.Results.{same_err}
 use Rattle.rreading.proofs.RowSteps.{is_of, task_says, row_taken, row_code}
 use Rattle.rreading.proofs.Names.{task_names}
+use Rattle.rreading.proofs.Counting.{word_counts}
 use Rattle.rreading.proofs.plain.take_task.Goals as goal
 
 pub returns-in-Ok-clause-taken : goal.returns-in-Ok-clause-taken
@@ -21,3 +22,6 @@ returns-in-Err-clause-still c = λ code is. c.in-Err.ensures.still code (same_er
 
 pub returns-in-Err-clause-names : goal.returns-in-Err-clause-names
 returns-in-Err-clause-names c = λ code is. task_names c.args.reading.now c.task.new.self (fields_of c.args.fields.now) c.field_of.result.now c.requires c.field_of.ensures (c.in-Err.ensures.names code (same_err is))
+
+pub returns-in-Ok-clause-counted : goal.returns-in-Ok-clause-counted
+returns-in-Ok-clause-counted c = word_counts c.args.reading.now c.task.new.self (fields_of c.args.fields.now) word.Task c.requires tt

@@ -7,6 +7,7 @@ use Rattle.rreading.specs.declared.taken.Taken.TheVariants as taken
 use Rattle.rlines.proofs.Results.{same_bad}
 use Rattle.rreading.proofs.RowSteps.{is_of, version_says, row_taken, row_code}
 use Rattle.rlines.proofs.Still.{same_still}
+use Rattle.rreading.proofs.Counting.{word_counts}
 use Rattle.rreading.proofs.plain.take_version.Goals as goal
 
 pub returns-in-Ok-clause-taken : goal.returns-in-Ok-clause-taken
@@ -18,3 +19,6 @@ returns-in-Err-clause-bad c = λ code is whole s h. row_code whole c.args.readin
 
 pub returns-in-Err-clause-still : goal.returns-in-Err-clause-still
 returns-in-Err-clause-still c = λ code is. same_still c.args.reading.now _ c.in-Err.ensures.still
+
+pub returns-in-Ok-clause-counted : goal.returns-in-Ok-clause-counted
+returns-in-Ok-clause-counted c = word_counts c.args.reading.now c.open.new.self (fields_of c.args.fields.now) word.Version c.requires tt

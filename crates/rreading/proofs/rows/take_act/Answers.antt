@@ -33,3 +33,6 @@ returns-in-Err-act-clause-still c = λ code is. same_still c.args.reading.now _ 
 
 pub returns-in-Err-clause-still : goal.returns-in-Err-clause-still
 returns-in-Err-clause-still c = λ code is. same_still c.args.reading.now _ refl
+
+pub returns-in-Ok-act-clause-counted : goal.returns-in-Ok-act-clause-counted
+returns-in-Ok-act-clause-counted c = c.in-Ok-act.ensures.others

@@ -1,5 +1,6 @@
 use Rattle.std.proofs.Common.{Option, Some, refl, sym, ap, subst, ◌∙◌}
 use Rattle.std.proofs.lemmas.Result.{on_ok_weaker}
+use Rattle.std.specs.Prelude.{OnOk}
 use Rattle.csv.specs.Records.{fields_of}
 use Rattle.rclaim.specs.declared.event.Event.{Event}
 use Rattle.rclaim.specs.declared.request.RequestErr.{RequestErr}
@@ -8,7 +9,7 @@ use Rattle.rforms.specs.Lines.{Happens}
 use Rattle.rforms.specs.SoFar.{lock_in}
 use Rattle.rforms.specs.declared.fault.Refusal.TheVariants.{Request}
 use Rattle.rlines.specs.Takes.{Takes, FitsTold}
-use Rattle.rreading.specs.Takes.{TakesRow, TellsBound, IsKept}
+use Rattle.rreading.specs.Takes.{TakesRow, TellsBound, CountsRow, AllowsActs, IsKept}
 use Rattle.rreading.specs.declared.taken.Taken.{Taken}
 use Rattle.rreading.specs.declared.taken.Taken.TheVariants as taken
 use Rattle.rlines.proofs.EventSteps.{happen_refused, event_misplaced}
@@ -88,3 +89,12 @@ returns-in-Some-clause-still c = λ code is. same_still c.args.reading.now _ ref
 
 pub returns-in-Some-refused-clause-still : goal.returns-in-Some-refused-clause-still
 returns-in-Some-refused-clause-still c = λ code is. same_still c.args.reading.now _ refl
+
+pub returns-clause-counted : goal.returns-clause-counted
+returns-clause-counted c =
+    subst (λ (what : Taken). OnOk c.happen.result (CountsRow c.args.reading.now c.happen.new.self (fields_of c.args.fields.now) what)) (sym c.in-Event.is) c.happen.ensures.counted
+
+pub returns-clause-allowed : goal.returns-clause-allowed
+returns-clause-allowed c =
+    subst (λ (what : Taken). OnOk c.happen.result (AllowsActs c.args.reading.now c.happen.new.self what)) (sym c.in-Event.is)
+    (on_ok_weaker c.happen.result (λ report. (report, c.happen.ensures.listed)) c.happen.ensures.allowed)

@@ -30,3 +30,6 @@ returns-in-Err-wait-clause-still c = λ code is. same_still c.args.reading.now _
 
 pub returns-in-Err-clause-still : goal.returns-in-Err-clause-still
 returns-in-Err-clause-still c = λ code is. same_still c.args.reading.now _ refl
+
+pub returns-in-Ok-wait-clause-counted : goal.returns-in-Ok-wait-clause-counted
+returns-in-Ok-wait-clause-counted c = c.in-Ok-wait.ensures.counted
