@@ -1,6 +1,7 @@
 -- What is known while an event list is read and its report is made.
-use Rattle.std.specs.Prelude.{◌≡◌, ◌≤◌, ℕ, true, false, List, [], Option, None, IfSome}
+use Rattle.std.specs.Prelude.{◌≡◌, ◌⊎◌, ◌≤◌, ℕ, true, false, List, [], Option, None, IfSome}
 use Rattle.rforms.specs.Faults.{is_ended}
+use Rattle.rforms.specs.Records.{Row}
 use Rattle.rforms.specs.Reports.{history_lines}
 use Rattle.rforms.specs.SoFar.{SoFar, at_acts, entries_in, head_in, names_in}
 use Rattle.rforms.specs.Waits.{all_ended, no_bounds}
@@ -8,7 +9,11 @@ use Rattle.rhistory.specs.Behind.{past_in}
 use Rattle.rhistory.specs.Gathered.{KnowsGathered}
 use Rattle.rhistory.specs.Open.{open_told}
 use Rattle.rlines.specs.Knows.{Knows}
+use Rattle.rlines.specs.Takes.{StillDue, IsAsBefore}
 use Rattle.rlines.specs.declared.reading.Reading.{Reading}
+use Rattle.rreading.specs.Takes.{TakesRow, OneMoreAtMost}
+use Rattle.rreading.specs.declared.taken.Taken.{Taken}
+use Rattle.rreading.specs.declared.taken.Taken.TheVariants as taken
 use Rattle.rreplay.specs.declared.replaying.Replaying.{Replaying}
 use Rattle.rreplay.specs.declared.replaying.Telling.{Telling}
 
@@ -35,3 +40,12 @@ pub record IsToldToEnd (text : List (Option ℕ)) (telling : Telling) (reading :
   pub ended : is_ended s ≡ true
   pub history : text ≡ history_text s
   pub told : KnowsTelling telling s
+
+-- a record was refused: it told nothing, what was due to the reader is due still, it knows at most one name more, and the text and what tells events are as they were
+abbrev pub ReplayStays : Replaying → Replaying → Type 0
+ReplayStays was taker =
+    (taker ≡ record was { reading = taker.reading; taken = taker.taken }) × (taker.taken ≡ taken.Other) × StillDue was.reading taker.reading × OneMoreAtMost was.reading taker.reading
+
+-- where memory is wanting: a reader is as before but for the room for ledgers, or it has taken the record
+abbrev pub StandsOrTook : Reading → Reading → Row → Type 0
+StandsOrTook old new row = IsAsBefore old new ⊎ ((what : Taken) × TakesRow old new row what)

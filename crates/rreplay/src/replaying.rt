@@ -26,7 +26,7 @@ ghost use Rattle.rreading.specs.Takes.{Adds, NamesStay};
 ghost use Rattle.rreplay.specs.Followed.{AreFollowed, IsTold};
 ghost use Rattle.rreplay.specs.Names.{names_read};
 ghost use Rattle.rreplay.specs.Parts.{ArePartsOf};
-ghost use Rattle.rreplay.specs.Replaying.{KnowsReplay, IsToldToEnd};
+ghost use Rattle.rreplay.specs.Replaying.{KnowsReplay, IsToldToEnd, StandsOrTook};
 
 use csv::ByteRecord;
 use rclaim::Event;
@@ -94,7 +94,8 @@ impl Replaying {
     ///
     /// The first code of the record, or want of memory. The record has told nothing then. Where it is wrong, what was due to
     /// the reader is due still, it knows no name more but the record's own, and the text and what tells events are as they
-    /// were.
+    /// were. Where memory is wanting, the reader is as before but for the room for ledgers, or it has taken the record; of the
+    /// text and of what tells events nothing is said then.
     pub fn take_record(&mut self, fields: &ByteRecord) -> Result<(), RowErr>
         requires { (s : SoFar) × KnowsReplay self.old s × (length (entries_in s) < 2 ^ 62) }
         ensures taken { OnOk result ((s : SoFar) → KnowsReplay self.old s → (code_of false s (fields_of fields.now) ≡ None) × KnowsReplay self.new (with_row false s (fields_of fields.now))) }
@@ -104,6 +105,7 @@ impl Replaying {
             → (self.new ≡ record self.old { reading = self.new.reading; taken = self.new.taken }) × StillDue self.old.reading self.new.reading }
         ensures names { (code : Code) → result ≡ Err (RowErr.Bad code) → NamesStay self.old.reading self.new.reading (fields_of fields.now) }
         ensures untaken { OnErr result (self.new.taken ≡ Taken.Other) }
+        ensures memory { result ≡ Err RowErr.Memory → StandsOrTook self.old.reading self.new.reading (fields_of fields.now) }
     {
         if let Err(e) = take(&mut self.reading, self.alloc, fields, &mut self.taken) {
             self.taken = Taken::Other;
@@ -261,10 +263,10 @@ fn made_of(
 impl Records for Replaying {
     ghost use Rattle.std.specs.Prelude.{false};
     ghost use Rattle.rforms.specs.Takers.{list_code, is_list_done, KnowsSaid};
+    ghost use Rattle.rforms.specs.Records.{Row};
+    ghost use Rattle.rforms.specs.SoFar.{SoFar, with_row};
     ghost use Rattle.rforms.specs.declared.fault.Code.TheVariants.{NoEnd};
-    ghost use Rattle.rlines.specs.Takes.{StillDue};
-    ghost use Rattle.rreading.specs.Takes.{OneMoreAtMost};
-    ghost use Rattle.rreplay.specs.Replaying.{KnowsReplay};
+    ghost use Rattle.rreplay.specs.Replaying.{KnowsReplay, ReplayStays};
 
     type Code = Code;
 
@@ -276,9 +278,19 @@ impl Records for Replaying {
 
     ghost knows = { KnowsSaid false KnowsReplay };
 
-    ghost stays = { λ was taker. StillDue was.reading taker.reading × OneMoreAtMost was.reading taker.reading };
+    ghost stays = { ReplayStays };
 
-    fn take(&mut self, fields: &ByteRecord) -> Result<(), RowErr> {
+    fn take(&mut self, fields: &ByteRecord) -> Result<(), RowErr>
+        requires { (rows : List Row) × KnowsSaid false KnowsReplay self.old rows × (length rows < 2 ^ 62) }
+        ensures taken { OnOk result ((rows : List Row) → KnowsSaid false KnowsReplay self.old rows
+            → (list_code false rows (fields_of fields.now) ≡ None) × KnowsSaid false KnowsReplay self.new (rows ++ fields_of fields.now ∷ [])) }
+        ensures bad { (cause : Code) → result ≡ Err (RowErr.Bad cause) → (rows : List Row) → KnowsSaid false KnowsReplay self.old rows → list_code false rows (fields_of fields.now) ≡ Some cause }
+        ensures still { (cause : Code) → result ≡ Err (RowErr.Bad cause) → ReplayStays self.old self.new }
+
+        // What it told is kept beside, and no name came in but its own.
+        ensures told { OnOk result ((s : SoFar) → KnowsReplay self.old s → Adds self.new.taken s (with_row false s (fields_of fields.now))) }
+        ensures names { (cause : Code) → result ≡ Err (RowErr.Bad cause) → NamesStay self.old.reading self.new.reading (fields_of fields.now) }
+    {
         self.take_record(fields)
     }
 

@@ -1,4 +1,4 @@
-use Rattle.std.proofs.Common.{false, Err, refl, ap}
+use Rattle.std.proofs.Common.{false, Err, inl, inr, refl, ap}
 use Rattle.csv.specs.Records.{fields_of}
 use Rattle.rforms.specs.SoFar.{entries_in, head_in}
 use Rattle.rforms.specs.Waits.{all_ended}
@@ -103,3 +103,9 @@ returns-in-Other-clause-told c = λ s k. (c.in_default.ensures.taken false s k.r
 
 pub returns-in-Err-clause-names : goal.returns-in-Err-clause-names
 returns-in-Err-clause-names c = λ code e. c.in-Err.ensures.names code (ap Err (one_err e))
+
+pub returns-in-Err-clause-memory : goal.returns-in-Err-clause-memory
+returns-in-Err-clause-memory c = λ e. inl (c.in-Err.ensures.memory (ap Err (one_err e)))
+
+pub returns-in-Err-told-clause-memory : goal.returns-in-Err-told-clause-memory
+returns-in-Err-told-clause-memory c = λ e. inr (c.take.new.taken, c.in_default.ensures.taken)

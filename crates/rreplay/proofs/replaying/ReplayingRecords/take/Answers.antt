@@ -17,4 +17,9 @@ returns-clause-bad c = λ cause e rows k. c.take_record.ensures.bad cause e (rea
 
 pub returns-clause-still : goal.returns-clause-still
 returns-clause-still c = λ cause e.
-    ((c.take_record.ensures.still cause e).1, one_more c.args.self.now.reading c.take_record.new.self.reading (fields_of c.args.fields.now) (c.take_record.ensures.names cause e))
+    let still = c.take_record.ensures.still cause e in (
+      still.0,
+      (rw e at c.take_record.ensures.untaken),
+      still.1,
+      one_more c.args.self.now.reading c.take_record.new.self.reading (fields_of c.args.fields.now) (c.take_record.ensures.names cause e),
+    )
