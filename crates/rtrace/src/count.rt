@@ -40,7 +40,11 @@ pub struct Counting {
 }
 
 impl Records for Counting {
+    ghost use Rattle.std.specs.Prelude.{◌++◌, ◌∷◌, ◌^◌, length, Some, None};
+    ghost use Rattle.csv.specs.Records.{fields_of};
+    ghost use Rattle.rforms.specs.Records.{Row};
     ghost use Rattle.rforms.specs.Takers.{list_code, is_list_done};
+    ghost use Rattle.rreading.specs.Takes.{NamesStay};
     ghost use Rattle.rtrace.specs.Collects.{KnowsCount, CountStays};
 
     type Code = Code;
@@ -55,7 +59,15 @@ impl Records for Counting {
 
     ghost stays = { CountStays };
 
-    fn take(&mut self, fields: &ByteRecord) -> Result<(), RowErr> {
+    fn take(&mut self, fields: &ByteRecord) -> Result<(), RowErr>
+        requires { (rows : List Row) × KnowsCount self.old rows × (length rows < 2 ^ 62) }
+        ensures taken { OnOk result ((rows : List Row) → KnowsCount self.old rows → (list_code true rows (fields_of fields.now) ≡ None) × KnowsCount self.new (rows ++ fields_of fields.now ∷ [])) }
+        ensures bad { (cause : Code) → result ≡ Err (RowErr.Bad cause) → (rows : List Row) → KnowsCount self.old rows → list_code true rows (fields_of fields.now) ≡ Some cause }
+        ensures still { (cause : Code) → result ≡ Err (RowErr.Bad cause) → CountStays self.old self.new }
+
+        // The one name more that may come in is the record's own.
+        ensures names { (cause : Code) → result ≡ Err (RowErr.Bad cause) → NamesStay self.old.reading self.new.reading (fields_of fields.now) }
+    {
         if let Err(e) = take(&mut self.reading, self.alloc, fields, &mut self.taken) {
             return Err(e);
         }

@@ -59,3 +59,6 @@ returns-in-Err-clause-still c = λ cause is. (
   refl,
   refl,
 )
+
+pub returns-in-Err-clause-names : goal.returns-in-Err-clause-names
+returns-in-Err-clause-names c = λ cause is. c.in-Err.ensures.names cause (same_err is)
