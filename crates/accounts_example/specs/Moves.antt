@@ -27,6 +27,10 @@ OpensWithAccounts seat = AsSeen seat (λ b. b.values ≡ replicate RESOURCES ope
 abbrev pub IsNew : SeatOf Account Transfer → Type 0
 IsNew seat = (seat.mine ≡ []) × OpensWithAccounts seat
 
+-- the four accounts
+abbrev pub the_four : Set
+the_four = insert (insert (insert (insert empty 0) 1) 2) 3
+
 -- the acts move 1 from one of the four accounts to one of them
 pub record IsMove (acts : List (Act Transfer)) : Type 0 where
   pub from : ℕ

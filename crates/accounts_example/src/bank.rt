@@ -6,7 +6,7 @@ ghost use Rattle.rguard.specs.Seats.{SeatOf};
 ghost use Rattle.accounts_example.specs.declared.account.Account.{Account};
 ghost use Rattle.accounts_example.specs.declared.account.Transfer.{Transfer};
 ghost use Rattle.accounts_example.specs.Accounts.{balance_of};
-ghost use Rattle.accounts_example.specs.Moves.{HasOnlyMoved, HasTurned, HaveTurned};
+ghost use Rattle.accounts_example.specs.Moves.{the_four, HasOnlyMoved, HasTurned, HaveTurned};
 
 use crate::account::Account;
 use crate::transfers::{OPENING, move_in, opened, read_in};
@@ -46,6 +46,7 @@ fn turn<R: Wait, M: Machine>(
     from: u8,
     to: u8,
 ) -> (Seat<Account, M>, bool)
+    requires group { group ≡ the_four }
     requires seat { HasOnlyMoved group lock.now seat }
     requires from { from < 4 }
     requires to { to < 4 }
@@ -68,6 +69,7 @@ fn run_job<R: Wait, M: Machine>(
     times: u32,
     job: &mut Task<M>,
 )
+    requires group { group ≡ the_four }
     requires seat { IsSomeAnd job.old.seat (HasOnlyMoved group lock.now) }
     requires four { (job.old.from < 4) × (job.old.to ≡ (job.old.from + 1) % 4) }
     ensures moves { IsSomeAnd job.new.seat (HasOnlyMoved group lock.now) }
@@ -93,7 +95,8 @@ fn run_all<R: Threads + Wait + Sync, M: Machine>(
     times: u32,
     mut jobs: Vec<Task<M>>,
 ) -> Vec<Task<M>>
-    requires { All (λ j. IsSomeAnd j.seat (HasOnlyMoved group lock.now) × (j.from < 4) × (j.to ≡ (j.from + 1) % 4)) jobs.items }
+    requires group { group ≡ the_four }
+    requires jobs { All (λ j. IsSomeAnd j.seat (HasOnlyMoved group lock.now) × (j.from < 4) × (j.to ≡ (j.from + 1) % 4)) jobs.items }
     ensures { All (λ j. IsSomeAnd j.seat (HasOnlyMoved group lock.now)) result.items }
 {
     if jobs.is_empty() {
@@ -105,7 +108,7 @@ fn run_all<R: Threads + Wait + Sync, M: Machine>(
         jobs.as_mut_slice(),
         threads,
         &|_task: usize, job: &mut Task<M>|
-            requires { IsSomeAnd job.now.seat (HasOnlyMoved group lock.now) × (job.now.from < 4) × (job.now.to ≡ (job.now.from + 1) % 4) }
+            requires { (group ≡ the_four) × IsSomeAnd job.now.seat (HasOnlyMoved group lock.now) × (job.now.from < 4) × (job.now.to ≡ (job.now.from + 1) % 4) }
             ensures { IsSomeAnd job.exit.now.seat (HasOnlyMoved group lock.entry.now) }
         { run_job(rt, alloc, lock, group, times, job) },
     );
