@@ -212,7 +212,7 @@ fn sum_left<M: Machine>(
 ) -> Option<u64>
     requires rest { All (HasOnlyMoved group lock) seats.items }
     requires count { lock.passes ≡ count }
-    requires some { 0 < count }
+    requires four { count ≡ 4 }
     ensures { IfSome result (λ sum. sum ≡ 4000) }
 {
     // For the proof, as in `jobs_for`.

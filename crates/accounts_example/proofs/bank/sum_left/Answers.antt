@@ -1,4 +1,4 @@
-use Rattle.std.proofs.Common.{rules, ◌≡◌, ◌<◌, ◌%◌, ◌^◌, map, length, take, true, sym, ap, ◌∙◌, subst}
+use Rattle.std.proofs.Common.{rules, ◌≡◌, ◌<◌, ◌%◌, ◌^◌, map, length, take, true, sym, ap, ◌∙◌, subst, arith}
 use Rattle.std.proofs.lemmas.Option.{IfSome_then}
 use Rattle.std.specs.Arc.{arc_value}
 use Rattle.std.specs.List.{sum_by}
@@ -27,6 +27,6 @@ returns g c =
     let four : sum_by balance_of (take 4 values) ≡ 4000 =
     four_together c.args.group c.args.lock c.args.seats.items c.requires.rest
     (λ n low. all_there c.args.seats.items c.as_slice.result.now c.as_slice.ensures.value (c.are_in_order.ensures in_order) n (subst (λ m. n < m) (sym all) low))
-    (subst (λ m. 0 < m) (sym c.requires.count) c.requires.some) c.close-values.result.0.entries values c.close-values.ensures.seats in
+    (subst (λ m. 0 < m) (sym (c.requires.count ∙ c.requires.four)) (omega arith)) c.close-values.result.0.entries values c.close-values.ensures.seats in
     IfSome_then c.sum_of_first.result c.sum_of_first.ensures (λ sum is.
     is ∙ (λ i. sum_by balance_of (take (c.from-2.ensures i) (map arc_value (c.as_slice-2.ensures.value i))) % 2 ^ 64) ∙ ap (λ n. n % 2 ^ 64) four)
