@@ -27,6 +27,10 @@ OpensWithAccounts seat = AsSeen seat (λ b. b.values ≡ replicate RESOURCES ope
 abbrev pub IsNew : SeatOf Account Transfer → Type 0
 IsNew seat = (seat.mine ≡ []) × OpensWithAccounts seat
 
+-- at its lock as many requests may be incomplete at once as there are seats
+abbrev pub HasCapOfSeats : SeatOf Account Transfer → Type 0
+HasCapOfSeats seat = AsSeen seat (λ b. b.cap ≡ b.seats)
+
 -- the four accounts
 abbrev pub the_four : Set
 the_four = insert (insert (insert (insert empty 0) 1) 2) 3

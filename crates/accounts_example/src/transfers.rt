@@ -4,7 +4,7 @@ ghost use Rattle.std.specs.FinSet as finset;
 ghost use Rattle.rset.specs.declared.TheConstants.{SEATS, RESOURCES};
 ghost use Rattle.rguard.specs.Seats.{Goes};
 ghost use Rattle.rguard.specs.Resting.{IsAt, Rests, HoldsAll, MayWriteAll, all_with};
-ghost use Rattle.accounts_example.specs.Moves.{opened_account, IsNew};
+ghost use Rattle.accounts_example.specs.Moves.{opened_account, IsNew, HasCapOfSeats};
 ghost use Rattle.rguard.specs.Sections.{write_of, read_of, HasEntered, HasFinished, MadeSection, MadeNothing};
 ghost use Rattle.accounts_example.specs.Sections.{GoesOnByEdits, taken_by_each, move_acts, IsSumSeen, HasRead};
 
@@ -36,8 +36,10 @@ pub fn opened(
     requires some { 0 < seats }
     requires few { seats ≤ SEATS }
     ensures count { IfOk result (λ r. r.0.passes ≡ seats) }
+    ensures all { IfOk result (λ r. length r.1.items ≡ seats) }
     ensures seats { IfOk result (λ r. All (Rests (all_with group) r.0) r.1.items) }
     ensures new { IfOk result (λ r. All IsNew r.1.items) }
+    ensures cap { IfOk result (λ r. All HasCapOfSeats r.1.items) }
 {
     let groups = declared(alloc, group)?;
     let machine = Plain::new(alloc, groups, seats, seats)?;

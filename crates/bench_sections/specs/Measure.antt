@@ -41,6 +41,10 @@ OpensWithLedgers seat = AsSeen seat (λ b. b.values ≡ replicate RESOURCES open
 abbrev pub IsNew : SeatOf Ledger Edit → Type 0
 IsNew seat = (seat.mine ≡ []) × OpensWithLedgers seat
 
+-- at its lock as many requests may be incomplete at once as there are seats
+abbrev pub HasCapOfSeats : SeatOf Ledger Edit → Type 0
+HasCapOfSeats seat = AsSeen seat (λ b. b.cap ≡ b.seats)
+
 -- a seat at rest that has made so many whole sections and nothing else, each of which added 1 to each of the records of its thread, the members of this set
 pub record HasMade (asked : Asked) (site : Site) (set : Set) (count : ℕ) (seat : SeatOf Ledger Edit) : Type 0 where
   pub rests : Rests (no_groups RESOURCES) site seat

@@ -8,7 +8,7 @@ ghost use Rattle.rguard.specs.Seats.{SeatOf};
 ghost use Rattle.rvalue.specs.declared.ledger.Ledger.{Ledger};
 ghost use Rattle.rvalue.specs.declared.ledger.Edit.{Edit};
 ghost use Rattle.rguard.specs.Resting.{Rests};
-ghost use Rattle.bench_sections.specs.Measure.{records_from, first_record, ones_asked, IsNew, HasMade, HasRun, HasMadeAll, IsSumLeft};
+ghost use Rattle.bench_sections.specs.Measure.{records_from, first_record, ones_asked, IsNew, HasCapOfSeats, HasMade, HasRun, HasMadeAll, IsSumLeft};
 
 use crate::section::add_in;
 use crate::words::Asked;
@@ -43,8 +43,10 @@ fn opened(
     requires some { 0 < seats }
     requires few { seats ≤ SEATS }
     ensures count { IfOk result (λ r. r.0.passes ≡ seats) }
+    ensures all { IfOk result (λ r. length r.1.items ≡ seats) }
     ensures seats { IfOk result (λ r. All (Rests (no_groups RESOURCES) r.0) r.1.items) }
     ensures new { IfOk result (λ r. All IsNew r.1.items) }
+    ensures cap { IfOk result (λ r. All HasCapOfSeats r.1.items) }
 {
     let groups = Groups::new(alloc, RESOURCES as u8)?;
     let machine = Plain::new(alloc, groups, seats, seats)?;
