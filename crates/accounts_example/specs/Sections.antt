@@ -1,6 +1,6 @@
 -- What a section of the example does: the acts that its finish tells, and what its guard sees.
-use Rattle.std.specs.Prelude.{◌≡◌, ℕ, ◌%◌, ◌^◌, Bool, true, List, [], ◌++◌, map}
-use Rattle.std.specs.List.{AllByRecursion, sum_by}
+use Rattle.std.specs.Prelude.{◌≡◌, ◌⊎◌, ℕ, ◌%◌, ◌^◌, true, false, List, [], ◌∷◌, ◌++◌, map}
+use Rattle.std.specs.List.{sum_by}
 use Rattle.std.specs.FinSet.{contains}
 use Rattle.rset.specs.Sets.{Set, rising}
 use Rattle.rvalue.specs.declared.act.Act.{Act}
@@ -18,10 +18,13 @@ use Rattle.accounts_example.specs.declared.account.Transfer.TheVariants.{Deposit
 abbrev pub taken_by_each : Set → Transfer → List (Act Transfer)
 taken_by_each set transfer = map (λ l. Edited l transfer true) (rising set)
 
--- the later acts are the earlier ones, and behind them nothing but this transfer on some accounts, taken or not
-abbrev pub GoesOnByEdits : Transfer → List (Act Transfer) → List (Act Transfer) → Type 0
-GoesOnByEdits transfer earlier later =
-    (more : List (Act Transfer)) × (later ≡ earlier ++ more) × AllByRecursion (λ act. (l : ℕ) × (taken : Bool) × (act ≡ Edited l transfer taken)) more
+-- the edits stopped at the next member of the set: those before it, by rising number, took this transfer, one after another, and it did not take it, or there is no act on it
+pub record StopsAmong (set : Set) (transfer : Transfer) (earlier later : List (Act Transfer)) : Type 0 where
+  pub before : List ℕ
+  pub next : ℕ
+  pub behind : List ℕ
+  pub members : rising set ≡ before ++ next ∷ behind
+  pub acts : (later ≡ earlier ++ map (λ l. Edited l transfer true) before) ⊎ (later ≡ (earlier ++ map (λ l. Edited l transfer true) before) ++ Edited next transfer false ∷ [])
 
 -- a move takes 1 from each of some accounts, and then adds 1 to each of others
 abbrev pub move_acts : Set → Set → List (Act Transfer)

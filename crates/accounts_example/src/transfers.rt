@@ -6,7 +6,7 @@ ghost use Rattle.rguard.specs.Seats.{Goes};
 ghost use Rattle.rguard.specs.Resting.{IsAt, Rests, HoldsAll, MayWriteAll, all_with};
 ghost use Rattle.accounts_example.specs.Moves.{opened_account, IsNew, HasCapOfSeats};
 ghost use Rattle.rguard.specs.Sections.{write_of, read_of, HasEntered, HasFinished, MadeSection, MadeNothing};
-ghost use Rattle.accounts_example.specs.Sections.{GoesOnByEdits, taken_by_each, move_acts, IsSumSeen, HasRead};
+ghost use Rattle.accounts_example.specs.Sections.{StopsAmong, taken_by_each, move_acts, IsSumSeen, HasRead};
 
 use crate::account::{Account, Transfer};
 use rclaim::{Kind, Request};
@@ -146,7 +146,7 @@ pub fn edit_each<M: Machine>(
     requires { MayWriteAll set guard.old.seat }
     ensures seat { guard.new.seat ≡ guard.old.seat }
     ensures acts { IsTrue result → guard.new.acts ≡ guard.old.acts ++ taken_by_each set edit }
-    ensures only { GoesOnByEdits edit guard.old.acts guard.new.acts }
+    ensures stops { result ≡ false → StopsAmong set edit guard.old.acts guard.new.acts }
 {
     for l in set.iter() {
         match guard.edit(alloc, l, edit) {
