@@ -2,6 +2,8 @@
 #![tactic(auto)]
 
 #[cfg(test)]
+mod shelves;
+#[cfg(test)]
 mod signing;
 #[cfg(test)]
 mod states;
