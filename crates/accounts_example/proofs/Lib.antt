@@ -3,4 +3,5 @@ pub mod Conserved
 pub mod Moving
 pub mod Sections
 pub mod Sums
+pub mod Taking
 pub mod Whole

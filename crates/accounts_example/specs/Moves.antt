@@ -1,5 +1,5 @@
 -- What the seats of the example do to the four accounts.
-use Rattle.std.specs.Prelude.{◌≡◌, ◌⊎◌, ℕ, zero, suc, ◌<◌, List, [], replicate, Option, IsSomeAnd}
+use Rattle.std.specs.Prelude.{◌≡◌, ◌⊎◌, ℕ, zero, suc, ◌+◌, ◌%◌, ◌<◌, Bool, IsTrue, List, [], replicate, Option, IsSomeAnd}
 use Rattle.std.specs.FinSet.{insert, empty, union}
 use Rattle.std.specs.List.{AllByRecursion}
 use Rattle.rset.specs.declared.TheConstants.{RESOURCES}
@@ -67,3 +67,21 @@ HasTurnedOften group from to (suc n) seat later = (between : SeatOf Account Tran
 -- so did a seat that was there, and that is there again
 abbrev pub HaveTurned : Set → ℕ → ℕ → ℕ → Option (SeatOf Account Transfer) → Option (SeatOf Account Transfer) → Type 0
 HaveTurned group from to n seat later = IsSomeAnd seat (λ was. IsSomeAnd later (HasTurnedOften group from to n was))
+
+-- a seat at rest that has done nothing yet, and whose own account is this one
+pub record HasOwnAccount (group : Set) (site : Site) (from : ℕ) (seat : SeatOf Account Transfer) : Type 0 where
+  pub moving : HasOnlyMoved group site seat
+  pub new : IsNew seat
+  pub own : from ≡ seat.number % 4
+
+-- a seat at rest: it began with nothing done, turned that often from its own account to the next one, and did nothing else
+pub record HasTurnedAll (group : Set) (site : Site) (times : ℕ) (seat : SeatOf Account Transfer) : Type 0 where
+  pub moving : HasOnlyMoved group site seat
+  pub first : SeatOf Account Transfer
+  pub new : IsNew first
+  pub turned : HasTurnedOften group (first.number % 4) ((first.number % 4 + 1) % 4) times first seat
+
+-- a seat at rest, which has made all of its turns where all was done
+pub record HasRun (group : Set) (site : Site) (times : ℕ) (done : Bool) (seat : SeatOf Account Transfer) : Type 0 where
+  pub moving : HasOnlyMoved group site seat
+  pub all : IsTrue done → HasTurnedAll group site times seat

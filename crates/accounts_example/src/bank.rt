@@ -6,7 +6,7 @@ ghost use Rattle.rguard.specs.Seats.{SeatOf};
 ghost use Rattle.accounts_example.specs.declared.account.Account.{Account};
 ghost use Rattle.accounts_example.specs.declared.account.Transfer.{Transfer};
 ghost use Rattle.accounts_example.specs.Accounts.{balance_of};
-ghost use Rattle.accounts_example.specs.Moves.{the_four, HasOnlyMoved, HasTurned, HaveTurned};
+ghost use Rattle.accounts_example.specs.Moves.{the_four, IsNew, HasOnlyMoved, HasTurned, HaveTurned, HasOwnAccount, HasTurnedAll, HasRun};
 
 use crate::account::Account;
 use crate::transfers::{OPENING, move_in, opened, read_in};
@@ -70,10 +70,11 @@ fn run_job<R: Wait, M: Machine>(
     job: &mut Task<M>,
 )
     requires group { group ≡ the_four }
-    requires seat { IsSomeAnd job.old.seat (HasOnlyMoved group lock.now) }
+    requires seat { IsSomeAnd job.old.seat (HasOwnAccount group lock.now job.old.from) }
     requires four { (job.old.from < 4) × (job.old.to ≡ (job.old.from + 1) % 4) }
     ensures moves { IsSomeAnd job.new.seat (HasOnlyMoved group lock.now) }
     ensures done { IsTrue job.new.done → HaveTurned group job.old.from job.old.to times job.old.seat job.new.seat }
+    ensures run { IsSomeAnd job.new.seat (HasRun group lock.now times job.new.done) }
 {
     let mut seat = job.seat.take().unwrap();
     let mut done = true;
@@ -96,8 +97,8 @@ fn run_all<R: Threads + Wait + Sync, M: Machine>(
     mut jobs: Vec<Task<M>>,
 ) -> Vec<Task<M>>
     requires group { group ≡ the_four }
-    requires jobs { All (λ j. IsSomeAnd j.seat (HasOnlyMoved group lock.now) × (j.from < 4) × (j.to ≡ (j.from + 1) % 4)) jobs.items }
-    ensures { All (λ j. IsSomeAnd j.seat (HasOnlyMoved group lock.now)) result.items }
+    requires jobs { All (λ j. IsSomeAnd j.seat (HasOwnAccount group lock.now j.from) × (j.from < 4) × (j.to ≡ (j.from + 1) % 4)) jobs.items }
+    ensures { All (λ j. IsSomeAnd j.seat (HasRun group lock.now times j.done)) result.items }
 {
     if jobs.is_empty() {
         return jobs;
@@ -108,23 +109,23 @@ fn run_all<R: Threads + Wait + Sync, M: Machine>(
         jobs.as_mut_slice(),
         threads,
         &|_task: usize, job: &mut Task<M>|
-            requires { (group ≡ the_four) × IsSomeAnd job.now.seat (HasOnlyMoved group lock.now) × (job.now.from < 4) × (job.now.to ≡ (job.now.from + 1) % 4) }
-            ensures { IsSomeAnd job.exit.now.seat (HasOnlyMoved group lock.entry.now) }
+            requires { (group ≡ the_four) × IsSomeAnd job.now.seat (HasOwnAccount group lock.now job.now.from) × (job.now.from < 4) × (job.now.to ≡ (job.now.from + 1) % 4) }
+            ensures { IsSomeAnd job.exit.now.seat (HasRun group lock.entry.now times job.exit.now.done) }
         { run_job(rt, alloc, lock, group, times, job) },
     );
     jobs
 }
 
-// What each thread is to do: it moves amounts from its own account to the next one.
+// What each thread is to do: it moves amounts from its own account to the next one. Its seat has done nothing yet.
 fn jobs_for(
     alloc: Global,
     lock: &Rnlp<Account, Plain>,
     group: ResourceSet,
     seats: Vec<Seat<Account, Plain>>,
 ) -> Result<Vec<Task<Plain>>, AllocError>
-    requires { All (HasOnlyMoved group lock.now) seats.items }
-    ensures moves { IfOk result (λ v. All (λ j. IsSomeAnd j.seat (HasOnlyMoved group lock.now) × (j.from < 4) × (j.to ≡ (j.from + 1) % 4)) v.items) }
-    ensures own { IfOk result (λ v. All (λ j. IsSomeAnd j.seat (λ seat. j.from ≡ seat.number % 4)) v.items) }
+    requires moves { All (HasOnlyMoved group lock.now) seats.items }
+    requires new { All IsNew seats.items }
+    ensures { IfOk result (λ v. All (λ j. IsSomeAnd j.seat (HasOwnAccount group lock.now j.from) × (j.from < 4) × (j.to ≡ (j.from + 1) % 4)) v.items) }
 {
     // For the proof: the clauses speak of the lock, and of the set as one of resources.
     let _ = lock;
@@ -154,19 +155,21 @@ fn are_done<M: Machine>(jobs: &[Task<M>]) -> bool
     true
 }
 
-// The seats of the threads.
+// The seats of the threads, each of which made all of its turns.
 fn seats_of(
     alloc: Global,
     lock: &Rnlp<Account, Plain>,
     group: ResourceSet,
+    times: u32,
     jobs: Vec<Task<Plain>>,
 ) -> Result<Vec<Seat<Account, Plain>>, AllocError>
-    requires { All (λ j. IsSomeAnd j.seat (HasOnlyMoved group lock.now)) jobs.items }
-    ensures { IfOk result (λ v. All (HasOnlyMoved group lock.now) v.items) }
+    requires { All (λ j. IsSomeAnd j.seat (HasTurnedAll group lock.now times)) jobs.items }
+    ensures { IfOk result (λ v. All (HasTurnedAll group lock.now times) v.items) }
 {
     // For the proof, as in `jobs_for`.
     let _ = lock;
     let _ = group.len();
+    let _ = times;
     let mut seats = Vec::new(alloc);
     for job in jobs {
         if let Some(seat) = job.seat {
@@ -203,20 +206,22 @@ fn sum_of_first(accounts: &[Arc<Account, Global>], count: usize) -> Option<u64>
     Some(sum)
 }
 
-// Closes the runtime: what is in the four accounts together. None if a seat is not there.
+// Closes the runtime, whose seats made all of their turns: what is in the four accounts together. None if a seat is not there.
 fn sum_left<M: Machine>(
     lock: Rnlp<Account, M>,
     group: ResourceSet,
+    times: u32,
     seats: Vec<Seat<Account, M>>,
     count: u8,
 ) -> Option<u64>
-    requires rest { All (HasOnlyMoved group lock) seats.items }
+    requires turned { All (HasTurnedAll group lock times) seats.items }
     requires count { lock.passes ≡ count }
     requires four { count ≡ 4 }
     ensures { IfSome result (λ sum. sum ≡ 4000) }
 {
     // For the proof, as in `jobs_for`.
     let _ = group.len();
+    let _ = times;
     if seats.len() != usize::from(count) {
         return None;
     }
@@ -236,8 +241,9 @@ pub fn moved<R: Threads + Wait + Sync>(rt: &R, alloc: Global, times: u32) -> Opt
     let (lock, seats) = opened(alloc, group, 4).ok()?;
     let jobs = jobs_for(alloc, &lock, group, seats).ok()?;
     let jobs = run_all(rt, alloc, &lock, group, times, jobs);
-    let done = are_done(jobs.as_slice());
-    let seats = seats_of(alloc, &lock, group, jobs).ok()?;
-    let sum = sum_left(lock, group, seats, 4)?;
-    if done { Some(sum) } else { None }
+    if !are_done(jobs.as_slice()) {
+        return None;
+    }
+    let seats = seats_of(alloc, &lock, group, times, jobs).ok()?;
+    sum_left(lock, group, times, seats, 4)
 }
