@@ -3,5 +3,4 @@ pub mod Conserved
 pub mod Moving
 pub mod Sections
 pub mod Sums
-pub mod Taking
 pub mod Whole

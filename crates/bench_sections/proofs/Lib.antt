@@ -2,6 +2,5 @@ pub mod Ones
 pub mod Records
 pub mod Seats
 pub mod Sums
-pub mod Taking
 pub mod Telling
 pub mod Total

@@ -1,5 +1,5 @@
 -- What is known of the seats as they begin, in their order, and once their jobs have run.
-use Rattle.std.proofs.Common.{Bool, List, get_or, Option, Some, None, arith}
+use Rattle.std.proofs.Common.{Bool, List, get_or, Option, Some, None}
 use Rattle.std.specs.Prelude.{All, IsTrue, IsSomeAnd}
 use Rattle.rlock.specs.Known.{Site}
 use Rattle.rvalue.specs.declared.ledger.Ledger.{Ledger}

@@ -7,3 +7,4 @@ pub mod Resting
 pub mod Acts
 pub mod Closed
 pub mod Sections
+pub mod Taking

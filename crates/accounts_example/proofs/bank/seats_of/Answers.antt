@@ -1,9 +1,9 @@
 use Rattle.std.proofs.Common.{[], ◌∷◌, ◌++◌, ap, ◌∙◌}
 use Rattle.rguard.specs.Seats.{SeatOf}
+use Rattle.rguard.proofs.Taking.{one_taken, others_left}
 use Rattle.accounts_example.specs.declared.account.Account.{Account}
 use Rattle.accounts_example.specs.declared.account.Transfer.{Transfer}
 use Rattle.accounts_example.specs.Moves.{HasTurnedAll}
-use Rattle.accounts_example.proofs.Taking.{one_taken, others_left}
 use Rattle.accounts_example.proofs.bank.seats_of.Goals as goal
 
 pub loop-job-preserved-in-Continue-1 : goal.loop-job-preserved-in-Continue-1

@@ -2,8 +2,8 @@ use Rattle.std.proofs.Common.{[], ◌∷◌, ◌++◌, ap, ◌∙◌}
 use Rattle.rvalue.specs.declared.ledger.Ledger.{Ledger}
 use Rattle.rvalue.specs.declared.ledger.Edit.{Edit}
 use Rattle.rguard.specs.Seats.{SeatOf}
+use Rattle.rguard.proofs.Taking.{one_taken, others_left}
 use Rattle.bench_sections.specs.Measure.{HasMadeAll}
-use Rattle.bench_sections.proofs.Taking.{one_taken, others_left}
 use Rattle.bench_sections.proofs.measure.seats_of.Goals as goal
 
 pub loop-job-preserved-in-Continue-1 : goal.loop-job-preserved-in-Continue-1

@@ -1,4 +1,4 @@
--- Seats that are taken out of jobs one after another.
+-- Seats that are taken out of jobs one after another: for proofs of programs above.
 use Rattle.std.proofs.Common.{◌≡◌, List, [], ◌∷◌, ◌++◌, Option, Some, sym, subst}
 use Rattle.std.specs.Prelude.{All, IsSomeAnd}
 use Rattle.std.proofs.lemmas.List.Elements.{All-head, All-tail, All-push}
