@@ -1,17 +1,20 @@
 -- What the whole program answers.
-use Rattle.std.specs.Prelude.{◌≡◌, ℕ, Bool, true, false, List, [], Option, Some, None, Result, IfOk, IfErr}
+use Rattle.std.specs.Prelude.{◌≡◌, ℕ, Bool, true, false, List, [], ◌∷◌, Option, Some, None, Result, IfOk, IfErr, codes}
 use Rattle.io_ends.specs.Faults.{Rose}
 use Rattle.rforms.specs.Reports.{Entry}
 use Rattle.ranswer.specs.Words.{command_in}
 use Rattle.ranswer.specs.Writing.{IsWritten}
 use Rattle.ranswer.specs.Answer.{ToolAnswer}
+use Rattle.ranswer.specs.Promise.{KeepsItsPromise}
 use Rattle.rwatch.specs.Seen.{Seen}
 use Rattle.ranswer.specs.Receipts.{Receipts}
+use Rattle.ranswer.specs.Status.{status_number}
 use Rattle.ranswer.specs.Told.{Tells}
 use Rattle.ranswer.specs.Watched.{Watched}
 use Rattle.ranswer.specs.declared.command.Command.{Command}
 use Rattle.ranswer.specs.declared.command.Command.TheVariants.{Run, Replay, Audit, Bound, Drill}
 use Rattle.ranswer.specs.declared.status.ToolStatus.{ToolStatus}
+use Rattle.ranswer.specs.declared.status.ToolStatus.TheVariants.{Done}
 use Rattle.ranswer.specs.declared.told.Told.{Told}
 use Rattle.redge.specs.Words.{own_text}
 
@@ -91,3 +94,8 @@ module _ {S K : Type 0} (left : S → Option (List ℕ)) (reads : S → ℕ) (wr
   RunAnswer spelled words on_terminal source source_after sink sink_after receipts receipts_after watchers watchers_after answer =
       IfOk words (λ had. ShownAnswer on_terminal (spelled had) source source_after sink sink_after receipts receipts_after watchers watchers_after answer)
       × IfErr words (λ wanting. (answer ≡ wanting) × IsUntouched source source_after sink sink_after receipts receipts_after watchers watchers_after)
+
+-- *The headline of the program*: where it was started with the word `run` alone and its exit status is that of a run that is done, that run has kept its promise
+abbrev pub KeepsTheHeadline : List (List ℕ) → Option (List ℕ) → Option (List ℕ) → Option (List ℕ) → List (List Entry) → List (List Entry) → ℕ → Type 0
+KeepsTheHeadline words left written written_after receipts receipts_after number =
+    words ≡ codes "run" ∷ [] → number ≡ status_number Done → KeepsItsPromise left written written_after receipts receipts_after

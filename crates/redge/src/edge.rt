@@ -5,7 +5,7 @@ ghost use Rattle.ranswer.specs.Status.{status_number};
 ghost use Rattle.ranswer.specs.Words.{command_in};
 ghost use Rattle.ranswer.specs.declared.told.Told.{Told};
 ghost use Rattle.rmessages.specs.Lines.{told_lines};
-ghost use Rattle.redge.specs.Program.{ProgramAnswer, ProgramTells, RunAnswer, RunTells, ShownAnswer, ShownTells, is_replay, is_unwatched};
+ghost use Rattle.redge.specs.Program.{KeepsTheHeadline, ProgramAnswer, ProgramTells, RunAnswer, RunTells, ShownAnswer, ShownTells, is_replay, is_unwatched};
 
 use crate::own::own_text;
 use crate::telling::explain;
@@ -43,8 +43,9 @@ pub fn run<
     audience: &mut A,
     on_terminal: bool,
 ) -> ExitCode
-    ensures { (status : ToolStatus) × (exit_status result ≡ status_number status)
+    ensures answer { (status : ToolStatus) × (exit_status result ≡ status_number status)
         × RunAnswer S.left S.faults K.written K.faults (λ had. map string_bytes had.items) words.now on_terminal source.old source.new sink.old sink.new receipts.old.items receipts.new.items (A.all audience.old) (A.all audience.new) status }
+    ensures promise { IfOk words.now (λ had. KeepsTheHeadline (map string_bytes had.items) (S.left source.old) (K.written sink.old) (K.written sink.new) receipts.old.items receipts.new.items (exit_status result)) }
 {
     let (status, lines) = answered_in_lines(
         rt,
@@ -179,7 +180,8 @@ pub fn answer<R: Threads + Wait + Sync, S: Source, K: Sink, G: Pace, A: Audience
     receipts: &mut Vec<Receipt<Edit>>,
     audience: &mut A,
 ) -> ToolStatus
-    ensures { ProgramAnswer S.left S.faults K.written K.faults (map string_bytes words.now) source.old source.new sink.old sink.new receipts.old.items receipts.new.items (A.all audience.old) (A.all audience.new) result }
+    ensures answer { ProgramAnswer S.left S.faults K.written K.faults (map string_bytes words.now) source.old source.new sink.old sink.new receipts.old.items receipts.new.items (A.all audience.old) (A.all audience.new) result }
+    ensures promise { KeepsTheHeadline (map string_bytes words.now) (S.left source.old) (K.written sink.old) (K.written sink.new) receipts.old.items receipts.new.items (status_number result) }
 {
     told_answer(
         rt, alloc, words, source, sink, pace, receipts, audience, &mut None,

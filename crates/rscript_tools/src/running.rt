@@ -67,6 +67,7 @@ pub fn told_run<R: Threads + Wait + Sync, S: Source, K: Sink, G: Pace>(
 ) -> ToolStatus
     ensures answer { (watchers : List Seen) → ToolAnswer S.left S.faults K.written K.faults watchers (run_in (map string_bytes words.now)) source.old source.new sink.old sink.new result }
     ensures receipts { Receipts (run_in (map string_bytes words.now)) (S.left source.old) (K.written sink.old) (K.written sink.new) receipts.old.items receipts.new.items result }
+    ensures promise { result ≡ ToolStatus.Done → KeepsItsPromise (S.left source.old) (K.written sink.old) (K.written sink.new) receipts.old.items receipts.new.items }
     ensures told { (watchers : List Seen) → Tells watchers (run_in (map string_bytes words.now)) (S.left source.old) told.old told.new result }
 {
     if !ask_for_run(words) {

@@ -26,7 +26,7 @@ loop-kind-preserved g c =
 
 pub returns-clause-ran : goal.returns-clause-ran
 returns-clause-ran g c =
-    let ran = c.run.ensures in
+    let ran = c.run.ensures.answer in
     let are : map (λ b. (own-1.entry b.vtable).1.seen b.value) c.new-watchers.result.list.items ≡ counters =
     subst (λ list. map (λ b. (own-1.entry b.vtable).1.seen b.value) list.items ≡ counters) (sym c.new-watchers.ensures)
     (c.loop-kind.invariant ∙ ap (map fresh) (take_all c.loop-kind.kind-index kinds c.loop-kind-test.false)) in
