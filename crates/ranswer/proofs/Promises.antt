@@ -3,7 +3,7 @@ use Rattle.std.proofs.Common.{◌≡◌, ℕ, Bool, true, false, cond, List, [],
 use Rattle.std.specs.Prelude.{◌⊎◌, codes}
 use Rattle.std.specs.Str.{bytes_eq}
 use Rattle.rforms.specs.Reports.{Entry}
-use Rattle.rreport.specs.Report.{told_by}
+use Rattle.rrun.specs.Report.{told_by}
 use Rattle.rrun.proofs.Telling.{may_be_written}
 use Rattle.rheadline.proofs.Running.{headline}
 use Rattle.ranswer.specs.Promise.{KeepsItsPromise}

@@ -3,7 +3,7 @@ use Rattle.std.proofs.Common.{◌≡◌, ℕ, List, [], Option, Some, None, refl
 use Rattle.std.specs.Prelude.{IfSome}
 use Rattle.rforms.specs.Reports.{Entry}
 use Rattle.rforms.specs.Texts.{report_text}
-use Rattle.rreport.specs.Report.{told_by}
+use Rattle.rrun.specs.Report.{told_by}
 use Rattle.rscript.specs.Scripts.{ScriptFields, IsTextOf}
 use Rattle.rwatch.specs.Seen.{Seen}
 use Rattle.ranswer.specs.Reading.{NotRead}

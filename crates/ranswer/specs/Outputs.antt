@@ -7,9 +7,9 @@ use Rattle.rforms.specs.Waits.{all_ended}
 use Rattle.rforms.specs.declared.fault.Code.{Code}
 use Rattle.rforms.specs.declared.fault.Fault.{Fault}
 use Rattle.rmodel.specs.Steps.{after}
-use Rattle.rbound_text.specs.BoundText.{bounds_text}
+use Rattle.rheadline.specs.BoundText.{bounds_text}
 use Rattle.rfault_line.specs.ErrorLine.{error_line}
-use Rattle.rreport.specs.Report.{ReportFields, told_by}
+use Rattle.rrun.specs.Report.{ReportFields, told_by}
 use Rattle.rscript_records.specs.Codes.{code_number}
 use Rattle.rscript_records.specs.declared.code.Code as script_code
 use Rattle.rscript.specs.Scripts.{ScriptFields}

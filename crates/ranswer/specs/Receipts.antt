@@ -3,7 +3,7 @@ use Rattle.std.specs.Prelude.{◌≡◌, ℕ, List, [], ◌∷◌, ◌++◌, Opt
 use Rattle.io_ends.specs.Ends.{Appends, AppendsPrefix}
 use Rattle.rforms.specs.Reports.{Entry}
 use Rattle.rforms.specs.Texts.{report_text}
-use Rattle.rreport.specs.Report.{ReportFields, told_by}
+use Rattle.rrun.specs.Report.{ReportFields, told_by}
 use Rattle.rscript.specs.Scripts.{ScriptFields, IsScript, IsTextOf}
 use Rattle.rrun.specs.Reporting.{IsReportOf}
 use Rattle.ranswer.specs.declared.command.Command.{Command}

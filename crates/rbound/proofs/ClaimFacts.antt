@@ -6,8 +6,8 @@ use Rattle.std.specs.FinSet.{empty, contains}
 use Rattle.std.proofs.lemmas.Bool.{eqb-true, and_parts}
 use Rattle.rset.specs.Sets.{Set}
 use Rattle.rset.proofs.SetLemmas.{some_member, within_at}
-use Rattle.rexpand.specs.Groups.{places_of}
-use Rattle.rexpand.proofs.PlaceLemmas.{writes_within_places}
+use Rattle.rmodel.specs.Groups.{places_of}
+use Rattle.rmodel.proofs.PlaceLemmas.{writes_within_places}
 use Rattle.rclaim.specs.Requests.{RequestFields, FitsKind}
 use Rattle.rclaim.specs.declared.claim.Claim.{Claim}
 use Rattle.rclaim.specs.declared.request.Kind.{Kind}

@@ -1,3 +1,4 @@
+pub use Rattle.rmodel.proofs.DeclaredLemmas
 pub mod ClosedZones
 pub mod SweptZones
 pub mod LongestClaims

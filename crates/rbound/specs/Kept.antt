@@ -5,7 +5,7 @@ use Rattle.std.specs.declared.vec.Vec.{Vec}
 use Rattle.std.specs.declared.alloc.Global.{Global}
 use Rattle.rset.specs.Sets.{Set, all_below}
 use Rattle.rclaim.specs.Requests.{RequestFields, IsNormal}
-use Rattle.rexpand.specs.Groups.{ReadGroups}
+use Rattle.rmodel.specs.Groups.{ReadGroups}
 use Rattle.rbound.specs.Needs.{Needed, Needs, RequestNeeds, needed_of, all_needed}
 use Rattle.rbound.specs.TaskNeeds.{requests_of}
 use Rattle.rbound.specs.declared.requests.RequestAsks.{RequestAsks}

@@ -1,3 +1,4 @@
+pub use Rattle.rmodel.specs.Groups
 pub mod Needs
 pub mod Zones
 pub mod Sweeps

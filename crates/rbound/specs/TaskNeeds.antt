@@ -2,8 +2,8 @@
 use Rattle.std.specs.Prelude.{ℕ, zero, suc, Bool, false, Option, Some, None, List, [], ◌∷◌, ◌++◌, length, replicate, slice_get, slice_index_or, option_map, refl}
 use Rattle.std.specs.Coded.{Coded, code_by, coded×, coded_list}
 use Rattle.rset.specs.Sets.{Set}
-use Rattle.rexpand.specs.Groups.{ReadGroups}
-use Rattle.rexpand.specs.Codes.{groups_code}
+use Rattle.rmodel.specs.Groups.{ReadGroups}
+use Rattle.rmodel.specs.GroupCodes.{groups_code}
 use Rattle.rclaim.specs.Codes.{set_code}
 use Rattle.rclaim.specs.Requests.{RequestFields, request_code}
 use Rattle.rclaim.specs.declared.request.Kind.{Kind}

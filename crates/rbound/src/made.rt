@@ -8,7 +8,7 @@ ghost use Rattle.rbound.specs.Needs.{Needed, needed_of};
 
 use crate::Needed;
 use rclaim::{Claim, Kind, Request};
-use rexpand::Groups;
+use rmodel::Groups;
 use rset::ResourceSet;
 
 /// A read claim, or a write claim, of a request with this number of the task.

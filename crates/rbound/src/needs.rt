@@ -17,7 +17,7 @@ use crate::requests::{
 use crate::zone::zone_among;
 use crate::{Bound, Needed, Which};
 use rclaim::{Kind, Request};
-use rexpand::Groups;
+use rmodel::Groups;
 use rset::ResourceSet;
 use std::alloc::{AllocError, Global};
 use std::marker::Model;

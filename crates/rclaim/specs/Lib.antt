@@ -1,3 +1,4 @@
+pub use Rattle.rset.specs.Sets
 pub mod Codes
 pub mod EventCodes
 pub mod Requests

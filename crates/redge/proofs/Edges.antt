@@ -1,6 +1,6 @@
 -- Where nobody watches what is answered.
 use Rattle.std.proofs.Common.{◌≡◌, Bool, true, false, not, Option, refl}
-use Rattle.ranswer.specs.declared.command.Command.{Command}
+use Rattle.rnlp_cli.specs.Command.{Command}
 use Rattle.redge.specs.Program.{is_replay, is_unwatched}
 
 -- nobody watches a replay where no terminal shows it

@@ -3,10 +3,10 @@ use Rattle.std.proofs.Common.{◌≡◌, ℕ, Bool, true, false, List, [], ◌�
 use Rattle.std.specs.Prelude.{Result, Ok, Err, IfOk, codes}
 use Rattle.rforms.specs.Reports.{Entry}
 use Rattle.rwatch.specs.Seen.{Seen}
-use Rattle.ranswer.proofs.Promises.{promise_kept}
-use Rattle.ranswer.specs.Status.{status_number}
-use Rattle.ranswer.specs.declared.status.ToolStatus.{ToolStatus}
-use Rattle.ranswer.specs.declared.status.ToolStatus.TheVariants as status
+use Rattle.rnlp_cli.proofs.Promises.{promise_kept}
+use Rattle.rnlp_cli.specs.Status.{status_number}
+use Rattle.rnlp_cli.specs.ToolStatus.{ToolStatus}
+use Rattle.rnlp_cli.specs.ToolStatus.TheVariants as status
 use Rattle.redge.specs.Program.{KeepsTheHeadline, ProgramAnswer, RunAnswer, ShownAnswer, is_unwatched}
 
 is_done : (s : ToolStatus) → status_number s ≡ 0 → s ≡ status.Done

@@ -2,20 +2,20 @@
 use Rattle.std.specs.Prelude.{◌≡◌, ℕ, Bool, true, false, List, [], ◌∷◌, Option, Some, None, Result, IfOk, IfErr, codes}
 use Rattle.io_ends.specs.Faults.{Rose}
 use Rattle.rforms.specs.Reports.{Entry}
-use Rattle.ranswer.specs.Words.{command_in}
-use Rattle.ranswer.specs.Writing.{IsWritten}
-use Rattle.ranswer.specs.Answer.{ToolAnswer}
-use Rattle.ranswer.specs.Promise.{KeepsItsPromise}
+use Rattle.rnlp_cli.specs.Words.{command_in}
+use Rattle.rnlp_cli.specs.Writing.{IsWritten}
+use Rattle.rnlp_cli.specs.Answer.{ToolAnswer}
+use Rattle.rnlp_cli.specs.Promise.{KeepsItsPromise}
 use Rattle.rwatch.specs.Seen.{Seen}
-use Rattle.ranswer.specs.Receipts.{Receipts}
-use Rattle.ranswer.specs.Status.{status_number}
-use Rattle.ranswer.specs.Told.{Tells}
-use Rattle.ranswer.specs.Watched.{Watched}
-use Rattle.ranswer.specs.declared.command.Command.{Command}
-use Rattle.ranswer.specs.declared.command.Command.TheVariants.{Run, Replay, Audit, Bound, Drill}
-use Rattle.ranswer.specs.declared.status.ToolStatus.{ToolStatus}
-use Rattle.ranswer.specs.declared.status.ToolStatus.TheVariants.{Done}
-use Rattle.ranswer.specs.declared.told.Told.{Told}
+use Rattle.rnlp_cli.specs.Receipts.{Receipts}
+use Rattle.rnlp_cli.specs.Status.{status_number}
+use Rattle.rnlp_cli.specs.Told.{Tells}
+use Rattle.rnlp_cli.specs.Watched.{Watched}
+use Rattle.rnlp_cli.specs.Command.{Command}
+use Rattle.rnlp_cli.specs.Command.TheVariants.{Run, Replay, Audit, Bound, Drill}
+use Rattle.rnlp_cli.specs.ToolStatus.{ToolStatus}
+use Rattle.rnlp_cli.specs.ToolStatus.TheVariants.{Done}
+use Rattle.rnlp_cli.specs.ToldKinds.{Told}
 use Rattle.redge.specs.Words.{own_text}
 
 -- the words ask for a replay

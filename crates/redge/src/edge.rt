@@ -1,20 +1,20 @@
 // The edge of the program: all of `main` but its handles.
 ghost use Rattle.std.specs.Prelude.{◌≡◌, Option, None, map, string_bytes, IfOk};
 ghost use Rattle.std.specs.Process.{exit_status};
-ghost use Rattle.ranswer.specs.Status.{status_number};
-ghost use Rattle.ranswer.specs.Words.{command_in};
-ghost use Rattle.ranswer.specs.declared.told.Told.{Told};
+ghost use Rattle.rnlp_cli.specs.Status.{status_number};
+ghost use Rattle.rnlp_cli.specs.Words.{command_in};
+ghost use Rattle.rnlp_cli.specs.ToldKinds.{Told};
 ghost use Rattle.rmessages.specs.Lines.{told_lines};
 ghost use Rattle.redge.specs.Program.{KeepsTheHeadline, ProgramAnswer, ProgramTells, RunAnswer, RunTells, ShownAnswer, ShownTells, is_replay, is_unwatched};
 
 use crate::own::own_text;
 use crate::telling::explain;
 use io_ends::{Sink, Source};
-use ranswer::{Command, ToolStatus, are_for_run, plain_of, write_output};
 use rguard::Receipt;
 use rmessages::lines_of;
-use rnlp_cli::{Told, told_run, told_tool};
-use rrun::Pace;
+use rnlp_cli::{
+    Command, Pace, Told, ToolStatus, are_for_run, plain_of, told_run, told_tool, write_output,
+};
 use rvalue::Edit;
 use rwatch::{Audience, Watchers};
 use std::alloc::{AllocError, Global};

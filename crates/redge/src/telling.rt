@@ -1,8 +1,8 @@
 // What a person is told on standard error.
 ghost use Rattle.std.specs.Prelude.{◌≡◌};
 
-use ranswer::ToolStatus;
 use rmessages::meaning_of_status;
+use rnlp_cli::ToolStatus;
 use std::alloc::AllocError;
 
 /// Tells a person the lines that were made; where no memory was left for them, what the status means. It hands the status on

@@ -1,7 +1,7 @@
 // The words that the program was started with.
 ghost use Rattle.std.specs.Prelude.{◌≡◌, ◌≢◌, ◌⊎◌, drop, IfOk, IfErr, IsOkAnd};
 
-use ranswer::ToolStatus;
+use rnlp_cli::ToolStatus;
 use std::env;
 use std::io::ErrorKind;
 use std::rt::Env;

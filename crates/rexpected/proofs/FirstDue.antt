@@ -7,9 +7,9 @@ use Rattle.rclaim.specs.declared.event.Event.{Event}
 use Rattle.rplain.specs.Machine.{Standing}
 use Rattle.rcover.specs.Ended.{ended_by}
 use Rattle.rvalue.specs.declared.ledger.Ledger.{Ledger}
-use Rattle.rwaits.specs.Follows.{Follows}
-use Rattle.rwaits.specs.Past.{Past, start_of}
-use Rattle.rwaits.specs.declared.following.Following.{Following}
+use Rattle.rreplay.specs.Follows.{Follows}
+use Rattle.rreplay.specs.Past.{Past, start_of}
+use Rattle.rreplay.specs.Following.{Following}
 use Rattle.rforms.specs.Lines.{Line}
 use Rattle.rforms.specs.Reports.{Entry, ledger_after, ledger_lines}
 use Rattle.rforms.specs.SoFar.{SoFar, at_ledgers, at_end, entries_in, head_in, ledgers_due}
@@ -17,10 +17,10 @@ use Rattle.rforms.specs.Waits.{events_of, ended_in}
 use Rattle.rforms.specs.declared.fault.Code.TheVariants.{WrongChange, WrongLedger}
 use Rattle.rforms.proofs.facts.Choices.{some_none}
 use Rattle.rdue.specs.Due.{due_list}
-use Rattle.rlines.specs.Knows.{Knows, StandBehind, changes_in, ended_at, last_ended, past_in}
-use Rattle.rlines.specs.Takes.{StillDue, ledgers_told}
-use Rattle.rlines.specs.declared.reading.Reading.{Reading}
-use Rattle.rlines.proofs.Steps.{events_push}
+use Rattle.rreplay.specs.Knows.{Knows, StandBehind, changes_in, ended_at, last_ended, past_in}
+use Rattle.rreplay.specs.LineTakes.{StillDue, ledgers_told}
+use Rattle.rreplay.specs.Reading.{Reading}
+use Rattle.rreplay.proofs.Steps.{events_push}
 use Rattle.rreplay.specs.Names.{names_read}
 use Rattle.ranswer.specs.Due.{as_text, due_text, due_behind, first_due_text}
 use Rattle.rexpected.specs.Due.{due_texts, ledger_text}

@@ -1,3 +1,4 @@
+pub use Rattle.rbound.specs.Bounds
 pub mod Records
 pub mod Numbers
 pub mod SetFields

@@ -15,6 +15,7 @@ mod word;
 
 pub use errors::{RowErr, TextErr};
 pub use fault::{Code, Fault, Refusal};
+pub use rbound::Bound;
 pub use record::{field_of, word_in};
 pub use taker::{Records, end_at, take_part, take_text};
 pub use word::{Stage, Word};

@@ -1,3 +1,6 @@
+pub use Rattle.rlent.proofs.seats.Along
+pub use Rattle.rlent.proofs.seats.Claims
+pub use Rattle.rlent.proofs.seats.Halves
 pub mod Going
 pub mod Seeing
 pub mod Having

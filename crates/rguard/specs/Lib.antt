@@ -1,3 +1,5 @@
+pub use Rattle.rlent.specs.Sections as LentSections
+pub use Rattle.rlent.specs.declared.kind.GuardKind
 pub mod Seats
 pub mod Guards
 pub mod Awaiting

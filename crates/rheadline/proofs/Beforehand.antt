@@ -22,8 +22,8 @@ use Rattle.rneeds.proofs.WaitKeys.{is_found}
 use Rattle.rlock.specs.Known.{entries_by}
 use Rattle.rscript_records.specs.declared.statement.Statement.{Statement}
 use Rattle.rscript_records.specs.declared.statement.Statement.TheVariants as statement
-use Rattle.rscript.specs.Scripts.{ScriptFields}
-use Rattle.rscript.specs.Needs.{asks_in, requests_in, needs_of}
+use Rattle.rsection.specs.Scripts.{ScriptFields}
+use Rattle.rsection.specs.Needs.{asks_in, requests_in, needs_of}
 use Rattle.rsection.specs.Runs.{run_of, IsRunOf, deeds_next}
 use Rattle.rforms.specs.Reports.{Entry, Report}
 use Rattle.rforms.specs.Heads.{read_groups, opening_of}

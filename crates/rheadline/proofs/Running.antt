@@ -9,8 +9,8 @@ use Rattle.rmodel.proofs.ListFacts.{all_at, all_from}
 use Rattle.rmodel.proofs.reaching.Reached.{reached_opening}
 use Rattle.rlock.specs.Known.{entries_by}
 use Rattle.rscript_records.specs.declared.statement.Statement.{Statement}
-use Rattle.rscript.specs.Scripts.{ScriptFields, IsScript}
-use Rattle.rscript.proofs.Tasks.{task_at}
+use Rattle.rsection.specs.Scripts.{ScriptFields, IsScript}
+use Rattle.rsection.proofs.Tasks.{task_at}
 use Rattle.rsection.specs.Runs.{IsRunOf}
 use Rattle.rforms.specs.Heads.{read_groups, opening_of}
 use Rattle.rforms.specs.Reports.{Entry, Report, lock_after}

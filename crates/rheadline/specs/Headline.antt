@@ -20,8 +20,8 @@ use Rattle.rmodel.specs.Steps.{Steps, next}
 use Rattle.rmodel.specs.WellFormed.{Among}
 use Rattle.rlock.specs.Known.{entries_by}
 use Rattle.rscript_records.specs.declared.statement.Statement.{Statement}
-use Rattle.rscript.specs.Scripts.{ScriptFields}
-use Rattle.rscript.specs.Needs.{needs_of}
+use Rattle.rsection.specs.Scripts.{ScriptFields}
+use Rattle.rsection.specs.Needs.{needs_of}
 use Rattle.rbound_text.specs.BoundText.{wait_row, tasks_rows, cap_meant}
 use Rattle.rsection.specs.Runs.{IsRunOf}
 use Rattle.rforms.specs.Faults.{is_ledger}

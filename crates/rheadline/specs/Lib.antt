@@ -1,1 +1,2 @@
+pub use Rattle.rbound_text.specs.BoundText
 pub mod Headline

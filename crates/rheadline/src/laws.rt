@@ -6,7 +6,7 @@ ghost use Rattle.rlock.specs.Known.{entries_by};
 ghost use Rattle.rforms.specs.Reports.{Entry, Report};
 ghost use Rattle.rforms.specs.Written.{MayBeWritten};
 ghost use Rattle.rscript_records.specs.declared.statement.Statement.{Statement};
-ghost use Rattle.rscript.specs.Scripts.{ScriptFields, IsScript};
+ghost use Rattle.rsection.specs.Scripts.{ScriptFields, IsScript};
 ghost use Rattle.rsection.specs.Runs.{IsRunOf};
 ghost use Rattle.rheadline.specs.Headline.{IsKept, IsHeadline, AreCountedBeforehand};
 

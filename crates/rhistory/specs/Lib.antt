@@ -1,3 +1,6 @@
+pub use Rattle.rwaits.specs.Follows
+pub use Rattle.rwaits.specs.Past
+pub use Rattle.rwaits.specs.declared.following.Following
 pub mod Gaps
 pub mod Open
 pub mod Gathered

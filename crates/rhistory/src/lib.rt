@@ -13,4 +13,5 @@ mod step;
 pub use close::close_history;
 pub use gathered::Gathered;
 pub use open::OpenText;
+pub use rwaits::Following;
 pub use step::{push_entry, push_step};

@@ -6,7 +6,7 @@ ghost use Rattle.rvalue.specs.declared.ledger.Ledger.{Ledger};
 ghost use Rattle.rvalue.specs.Ledgers.{value_after, is_taken};
 ghost use Rattle.rguard.specs.Seats.{Goes, IsIdle, bare};
 ghost use Rattle.rguard.specs.Guards.{HasSeenLawful, HasSeenOwn, HasValue, Holding, HoldingToWrite};
-ghost use Rattle.rlent.specs.Sections.{may_edit};
+ghost use Rattle.rguard.specs.LentSections.{may_edit};
 ghost use Rattle.rguard.specs.Looks.{fields_of, kind_of};
 
 use rguard::{Guard, Seat};

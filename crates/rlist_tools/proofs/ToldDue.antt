@@ -9,11 +9,11 @@ use Rattle.rforms.specs.declared.fault.Code.{Code}
 use Rattle.rforms.specs.declared.fault.Code.TheVariants.{BadField, UnknownName, BadOrder, Refused, WrongChange, WrongShow, WrongLedger, NoEnd, WrongBound}
 use Rattle.rforms.specs.declared.fault.Fault.{Fault}
 use Rattle.rstream.specs.Coming.{CameWhole}
-use Rattle.rlines.specs.Knows.{Knows}
-use Rattle.rlines.specs.Takes.{StillDue}
-use Rattle.rlines.specs.declared.reading.Reading.{Reading}
-use Rattle.rlines.proofs.Still.{same_still}
-use Rattle.rreplay.specs.Names.{names_read}
+use Rattle.rwatched.specs.Knows.{Knows}
+use Rattle.rwatched.specs.LineTakes.{StillDue}
+use Rattle.rwatched.specs.Reading.{Reading}
+use Rattle.rwatched.proofs.Still.{same_still}
+use Rattle.rwatched.specs.Names.{names_read}
 use Rattle.rtrace.specs.Collects.{KnowsCount, CountStays}
 use Rattle.rtrace.specs.declared.count.Counting.{Counting}
 use Rattle.ranswer.specs.Due.{IsDueAt, IsDueFor, first_due_text}

@@ -13,10 +13,9 @@ use crate::refusing::refuse;
 use io_ends::Sink;
 use ranswer::{Told, ToolStatus};
 use rforms::TextErr;
-use rreplay::{Replayed, replay_of};
-use rreport::write_parts;
+use rtrace::write_parts;
 use rwatch::Audience;
-use rwatched::{Recorded, recorded_replay_of};
+use rwatched::{Recorded, Replayed, recorded_replay_of, replay_of};
 use std::alloc::Global;
 
 /// Writes the report of an event list, and tells its steps. Where nobody watches no step is kept. What a person may be told

@@ -1,3 +1,5 @@
+pub use Rattle.rexpand.specs.Codes as GroupCodes
+pub use Rattle.rexpand.specs.Groups
 pub mod Claims
 pub mod Refused
 pub mod Rules

@@ -16,3 +16,4 @@ pub use claimed::{Claimed, conflicts_on, is_nested, is_read_half, is_upgrade, sh
 pub use granted::Granted;
 pub use machine::Machine;
 pub use refused::Refused;
+pub use rexpand::Groups;

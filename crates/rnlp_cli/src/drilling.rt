@@ -1,15 +1,15 @@
 // Drills.
 ghost use Rattle.std.specs.Prelude.{◌≡◌, ◌≤◌};
 ghost use Rattle.io_ends.specs.Faults.{Rose};
-ghost use Rattle.ranswer.specs.Words.{most_events};
-ghost use Rattle.ranswer.specs.Outputs.{drill_text};
-ghost use Rattle.ranswer.specs.Watched.{DrillWatched};
-ghost use Rattle.ranswer.specs.Writing.{IsWritten};
+ghost use Rattle.rscript_tools.specs.Words.{most_events};
+ghost use Rattle.rscript_tools.specs.Outputs.{drill_text};
+ghost use Rattle.rscript_tools.specs.Watched.{DrillWatched};
+ghost use Rattle.rscript_tools.specs.Writing.{IsWritten};
 
 use io_ends::Sink;
-use ranswer::{ToolStatus, write_output};
 use rdrill::{drill, drill_machine, push_summary, summary_room};
 use rplain::Plain;
+use rscript_tools::{ToolStatus, write_output};
 use rwatch::Audience;
 use std::alloc::Global;
 

@@ -6,6 +6,8 @@
 mod drilling;
 mod tool;
 
-pub use ranswer::{LIST_LIMIT, REPORT_LIMIT, Told, ToolStatus};
-pub use rscript_tools::{run_tool, told_run};
+pub use rscript_tools::{
+    Command, LIST_LIMIT, Pace, REPORT_LIMIT, Told, ToolStatus, are_for_run, plain_of, run_tool,
+    told_run, write_output,
+};
 pub use tool::{plain_tool, told_tool};

@@ -1,18 +1,17 @@
 // The tools that wait for nobody.
 ghost use Rattle.std.specs.Prelude.{◌≡◌, false, Some, map, string_bytes};
 ghost use Rattle.io_ends.specs.Faults.{Rose};
-ghost use Rattle.ranswer.specs.Words.{plain_in, IsPlain};
-ghost use Rattle.ranswer.specs.Answer.{ToolAnswer};
-ghost use Rattle.ranswer.specs.Outputs.{is_streamed};
-ghost use Rattle.ranswer.specs.Told.{Tells};
-ghost use Rattle.ranswer.specs.Writing.{IsAnswer};
-ghost use Rattle.ranswer.specs.Watched.{Watched};
+ghost use Rattle.rscript_tools.specs.Words.{plain_in, IsPlain};
+ghost use Rattle.rscript_tools.specs.Answer.{ToolAnswer};
+ghost use Rattle.rscript_tools.specs.Outputs.{is_streamed};
+ghost use Rattle.rscript_tools.specs.Told.{Tells};
+ghost use Rattle.rscript_tools.specs.Writing.{IsAnswer};
+ghost use Rattle.rscript_tools.specs.Watched.{Watched};
 
 use crate::drilling::drill_tool;
 use io_ends::{Sink, Source};
-use ranswer::{Command, Told, ToolStatus, plain_of, read_input};
 use rlist_tools::{audit, replay};
-use rscript_tools::bound;
+use rscript_tools::{Command, Told, ToolStatus, bound, plain_of, read_input};
 use rwatch::Audience;
 use std::alloc::Global;
 

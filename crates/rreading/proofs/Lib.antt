@@ -1,3 +1,5 @@
+pub use Rattle.rlines.proofs.Steps
+pub use Rattle.rlines.proofs.Still
 pub mod Results
 pub mod OtherWords
 pub mod RowSteps

@@ -8,6 +8,6 @@ mod plain;
 mod rows;
 mod taken;
 
-pub use rlines::Reading;
+pub use rlines::{AT_LEDGERS, Reading};
 pub use rows::take;
 pub use taken::{BoundTold, Taken};

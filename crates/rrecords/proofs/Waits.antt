@@ -2,7 +2,7 @@
 use Rattle.std.proofs.Common.{◌≡◌, ℕ, Bool, true, false, ◌&&◌, List, Option, Some, None, refl, sym, ap, ◌∙◌}
 use Rattle.std.specs.Prelude.{option_map, option_and_then}
 use Rattle.rset.specs.Names.{number_in}
-use Rattle.rbound.specs.Bounds.{Numbers}
+use Rattle.rforms.specs.Bounds.{Numbers}
 use Rattle.rforms.specs.Records.{Row}
 use Rattle.rforms.specs.Numbers.{is_number, number_told}
 use Rattle.rforms.specs.Fields.{paired, all_counted}

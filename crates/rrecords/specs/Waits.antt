@@ -1,6 +1,6 @@
 -- What a record of a wait tells.
 use Rattle.std.specs.Prelude.{ℕ, ◌+◌, Option, option_map, option_and_then}
-use Rattle.rbound.specs.Bounds.{Numbers, numbers_in}
+use Rattle.rforms.specs.Bounds.{Numbers, numbers_in}
 use Rattle.rforms.specs.Records.{Row}
 use Rattle.rforms.specs.Decided.{field_of}
 use Rattle.rforms.specs.Numbers.{number_told}

@@ -1,14 +1,13 @@
 // The wait that a record tells.
 ghost use Rattle.std.specs.Prelude.{◌≡◌, IfOk, IfErr, option_map};
 ghost use Rattle.csv.specs.Records.{fields_of};
-ghost use Rattle.rbound.specs.Bounds.{numbers_in};
+ghost use Rattle.rforms.specs.Bounds.{numbers_in};
 ghost use Rattle.rrecords.specs.Told.{IsOf, Says, IsWrong, names_by};
 ghost use Rattle.rrecords.specs.Waits.{numbers_told, line_told};
 
 use crate::numbers::number_of;
 use csv::ByteRecord;
-use rbound::Bound;
-use rforms::{Code, Stage, Word, field_of};
+use rforms::{Bound, Code, Stage, Word, field_of};
 use rset::NameTable;
 
 // The place of the first number of a cover: behind its task and its stage. Those of the bound stand behind its three.

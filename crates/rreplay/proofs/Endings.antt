@@ -25,9 +25,9 @@ use Rattle.rhistory.specs.Behind.{past_in, IsToldWhole}
 use Rattle.rhistory.specs.Gathered.{KnowsGathered}
 use Rattle.rpage.specs.Told.{told, leaves_from}
 use Rattle.rhistory.proofs.Parts.{parts_are, ledgers_are as told_ledgers}
-use Rattle.rwaits.specs.Past.{begun}
-use Rattle.rlines.specs.Knows.{Knows}
-use Rattle.rlines.specs.declared.reading.Reading.{Reading}
+use Rattle.rreading.specs.Past.{begun}
+use Rattle.rreading.specs.Knows.{Knows}
+use Rattle.rreading.specs.Reading.{Reading}
 use Rattle.rreplay.specs.Names.{names_read}
 use Rattle.rreplay.specs.Parts.{ArePartsOf}
 use Rattle.rreplay.specs.Replaying.{KnowsTelling, IsToldToEnd}

@@ -10,9 +10,9 @@ use Rattle.rmodel.specs.Steps.{AreAccepted, Comes, after, next}
 use Rattle.rcover.specs.Ended.{ended_by}
 use Rattle.rcover.specs.declared.wait_end.WaitEnd.{WaitEnd}
 use Rattle.rplain.specs.Machine.{Standing}
-use Rattle.rwaits.specs.Follows.{Follows}
-use Rattle.rwaits.specs.Past.{Past, begun, start_of, with_event, AreLastEnded}
-use Rattle.rwaits.specs.declared.following.Following.{Following}
+use Rattle.rreading.specs.Follows.{Follows}
+use Rattle.rreading.specs.Past.{Past, begun, start_of, with_event, AreLastEnded}
+use Rattle.rreading.specs.Following.{Following}
 use Rattle.rforms.specs.Records.{Row}
 use Rattle.rforms.specs.Heads.{Head}
 use Rattle.rforms.specs.Lines.{Happens}
@@ -26,8 +26,8 @@ use Rattle.rhistory.specs.Behind.{past_in, ComesNext}
 use Rattle.rhistory.specs.Gathered.{KnowsGathered}
 use Rattle.rhistory.specs.Open.{open_told}
 use Rattle.rpage.specs.Told.{step_told}
-use Rattle.rlines.specs.Knows.{Knows, StandBehind, changes_in}
-use Rattle.rlines.specs.declared.reading.Reading.{Reading}
+use Rattle.rreading.specs.Knows.{Knows, StandBehind, changes_in}
+use Rattle.rreading.specs.Reading.{Reading}
 use Rattle.rreplay.specs.Names.{names_read}
 use Rattle.rreplay.specs.Followed.{AreFollowed, IsTold}
 use Rattle.rreplay.specs.Replaying.{history_text, KnowsTelling}

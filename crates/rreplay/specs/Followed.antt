@@ -1,11 +1,11 @@
 -- What is known of the events that a reader took, and of what tells them.
 use Rattle.std.specs.Prelude.{◌≡◌, List, [], length, Option, Some, None, IfSome}
 use Rattle.rcover.specs.declared.wait_end.WaitEnd.{WaitEnd}
-use Rattle.rwaits.specs.Follows.{Follows}
-use Rattle.rwaits.specs.Past.{Past, begun}
-use Rattle.rwaits.specs.declared.following.Following.{Following}
+use Rattle.rreading.specs.Follows.{Follows}
+use Rattle.rreading.specs.Past.{Past, begun}
+use Rattle.rreading.specs.Following.{Following}
 use Rattle.rhistory.specs.Gathered.{KnowsGathered}
-use Rattle.rlines.specs.declared.reading.Reading.{Reading}
+use Rattle.rreading.specs.Reading.{Reading}
 use Rattle.rreplay.specs.Names.{names_read}
 use Rattle.rreplay.specs.declared.replaying.Telling.{Telling}
 

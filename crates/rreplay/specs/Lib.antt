@@ -1,3 +1,9 @@
+pub use Rattle.rreading.specs.Knows
+pub use Rattle.rreading.specs.LineTakes
+pub use Rattle.rreading.specs.Reading
+pub use Rattle.rreading.specs.Follows
+pub use Rattle.rreading.specs.Past
+pub use Rattle.rreading.specs.Following
 pub mod Names
 pub mod Followed
 pub mod Replaying

@@ -8,9 +8,9 @@ use Rattle.rforms.specs.Waits.{all_ended, no_bounds}
 use Rattle.rhistory.specs.Behind.{past_in}
 use Rattle.rhistory.specs.Gathered.{KnowsGathered}
 use Rattle.rhistory.specs.Open.{open_told}
-use Rattle.rlines.specs.Knows.{Knows}
-use Rattle.rlines.specs.Takes.{StillDue, IsAsBefore}
-use Rattle.rlines.specs.declared.reading.Reading.{Reading}
+use Rattle.rreading.specs.Knows.{Knows}
+use Rattle.rreading.specs.LineTakes.{StillDue, IsAsBefore}
+use Rattle.rreading.specs.Reading.{Reading}
 use Rattle.rreading.specs.Takes.{TakesRow, OneMoreAtMost}
 use Rattle.rreading.specs.declared.taken.Taken.{Taken}
 use Rattle.rreading.specs.declared.taken.Taken.TheVariants as taken

@@ -7,3 +7,4 @@
 mod replaying;
 
 pub use replaying::{Replayed, Replaying, replay_of};
+pub use rreading::{AT_LEDGERS, Reading, Taken};

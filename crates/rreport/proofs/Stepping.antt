@@ -7,7 +7,7 @@ use Rattle.rmodel.specs.Changes.{changes_between}
 use Rattle.rmodel.specs.State.{LockState}
 use Rattle.rmodel.specs.Steps.{AreAccepted, Comes, next}
 use Rattle.rvalue.specs.InTurn.{AllInTurn}
-use Rattle.rwaits.specs.Past.{Past, start_of, state_of, with_event}
+use Rattle.rhistory.specs.Past.{Past, start_of, state_of, with_event}
 use Rattle.rforms.specs.Fields.{Names}
 use Rattle.rforms.specs.Heads.{Head, opening_of, read_groups}
 use Rattle.rforms.specs.Reports.{Entry, lock_after, entry_lines, history_lines, change_lines, wait_lines, IsLawful, IsRightEntry}

@@ -5,9 +5,9 @@ use Rattle.rmodel.specs.Changes.{changes_between}
 use Rattle.rmodel.specs.State.{LockState}
 use Rattle.rmodel.specs.Steps.{next}
 use Rattle.rplain.specs.Machine.{Standing}
-use Rattle.rwaits.specs.Follows.{Follows}
-use Rattle.rwaits.specs.Past.{Past, state_of, with_event}
-use Rattle.rwaits.specs.declared.following.Following.{Following}
+use Rattle.rhistory.specs.Follows.{Follows}
+use Rattle.rhistory.specs.Past.{Past, state_of, with_event}
+use Rattle.rhistory.specs.Following.{Following}
 
 -- a machine in this state and a follower stand behind these events
 pub record AreBehind (s : LockState) (following : Following) (p : Past) : Type 0 where

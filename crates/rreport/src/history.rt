@@ -5,8 +5,8 @@ ghost use Rattle.rcover.specs.Ended.{ended_by};
 ghost use Rattle.rcover.specs.declared.wait_end.WaitEnd.{WaitEnd};
 ghost use Rattle.rmodel.specs.Changes.{changes_between};
 ghost use Rattle.rmodel.specs.Steps.{Comes, next};
-ghost use Rattle.rwaits.specs.Follows.{Follows};
-ghost use Rattle.rwaits.specs.Past.{Past, start_of, state_of, with_event};
+ghost use Rattle.rhistory.specs.Follows.{Follows};
+ghost use Rattle.rhistory.specs.Past.{Past, start_of, state_of, with_event};
 ghost use Rattle.rforms.specs.Reports.{history_lines, IsLawful};
 ghost use Rattle.rforms.specs.Waits.{bound_in, no_bounds, all_ended};
 ghost use Rattle.rforms.specs.Written.{MayBeWritten};
@@ -19,12 +19,11 @@ ghost use Rattle.rreport.specs.Stepped.{AreBehind, TookNext};
 
 use crate::report::Report;
 use rclaim::Event;
-use rhistory::{Gathered, OpenText, close_history, push_entry};
+use rhistory::{Following, Gathered, OpenText, close_history, push_entry};
 use rmodel::Machine;
 use rpage::{NameRows, Page};
 use rplain::Plain;
 use rvalue::{Edit, Entry};
-use rwaits::Following;
 use std::alloc::{AllocError, Global};
 
 /// The text of the history of a report: each event, what its section did, what it changes, and the waits that it ends.

@@ -9,10 +9,10 @@ use Rattle.rmodel.proofs.ListFacts.{false_from}
 use Rattle.rvalue.specs.declared.ledger.Edit.{Edit}
 use Rattle.rvalue.specs.declared.ledger.Ledger.{Ledger}
 use Rattle.rstate.proofs.homes.Lists.{same_item, get_map, get_there, any_here}
-use Rattle.rscript.specs.Scripts.{ScriptFields}
-use Rattle.rguard.specs.Seats.{SeatOf}
-use Rattle.rsection.specs.Runs.{HasRun}
-use Rattle.rsection.specs.Seats.{IsSeatFor}
+use Rattle.rtasks.specs.Scripts.{ScriptFields}
+use Rattle.rtasks.specs.GuardSeats.{SeatOf}
+use Rattle.rtasks.specs.Runs.{HasRun}
+use Rattle.rtasks.specs.Seats.{IsSeatFor}
 use Rattle.rtasks.specs.declared.tasks.Ended.{Ended}
 use Rattle.rtasks.specs.Endings.{AreEnded}
 use Rattle.rtasks.specs.Tasks.{AreSeatsFor, HasEnded}

@@ -21,12 +21,12 @@ use Rattle.rstate.proofs.homes.Lists.{same_item, get_there, get_replicate}
 use Rattle.rforms.specs.Heads.{Head, is_nil}
 use Rattle.rforms.specs.Reports.{IsLawful, IsRightEntry, ledger_after}
 use Rattle.rreport.specs.Report.{ReportFields, told_by}
-use Rattle.rscript_records.specs.declared.statement.Statement.{Statement}
-use Rattle.rscript.specs.Scripts.{ScriptFields, IsScript}
+use Rattle.rtasks.specs.Statement.{Statement}
+use Rattle.rtasks.specs.Scripts.{ScriptFields, IsScript}
 use Rattle.ropening.specs.Closing.{IsClosedBy, IsLeft}
-use Rattle.rguard.specs.Seats.{SeatOf, IsOf, IsIdle}
-use Rattle.rsection.specs.Runs.{IsRunOf}
-use Rattle.rsection.specs.Seats.{IsSeatFor}
+use Rattle.rtasks.specs.GuardSeats.{SeatOf, IsOf, IsIdle}
+use Rattle.rtasks.specs.Runs.{IsRunOf}
+use Rattle.rtasks.specs.Seats.{IsSeatFor}
 use Rattle.rrun.specs.Reporting.{beginning_of, HasOpened, TellsHeadOf, IsReportOf, HaveRun}
 use Rattle.rtasks.specs.Tasks.{AreSeatsFor}
 use Rattle.rtasks.proofs.Ending.{less_from_slice_get}

@@ -27,13 +27,13 @@ use Rattle.rforms.specs.Written.{IsTellable, MayBeWritten}
 use Rattle.rforms.proofs.lists.Histories.{lock-tasks}
 use Rattle.rreport.specs.Report.{ReportFields, told_by as report_told}
 use Rattle.rreport.proofs.Counts.{some_length}
-use Rattle.rscript_records.specs.Statements.{FitsBehind, IsWithin, amount_of}
-use Rattle.rscript_records.specs.declared.statement.Statement.{Statement}
-use Rattle.rscript_records.specs.declared.statement.Statement.TheVariants as statement
-use Rattle.rscript.specs.Scripts.{ScriptFields, IsScript}
-use Rattle.rscript.proofs.Tasks.{task_at}
+use Rattle.rtasks.specs.Statements.{FitsBehind, IsWithin, amount_of}
+use Rattle.rtasks.specs.Statement.{Statement}
+use Rattle.rtasks.specs.Statement.TheVariants as statement
+use Rattle.rtasks.specs.Scripts.{ScriptFields, IsScript}
+use Rattle.rtasks.proofs.Tasks.{task_at}
 use Rattle.rrun.specs.Reporting.{IsReportOf}
-use Rattle.rsection.specs.Runs.{Told, told_by, deed_of, deeds_next, entry_now, run_of}
+use Rattle.rtasks.specs.Runs.{Told, told_by, deed_of, deeds_next, entry_now, run_of}
 
 -- ---- statements
 

@@ -1,1 +1,2 @@
+pub use Rattle.rreport.specs.Report
 pub mod Reporting

@@ -9,10 +9,10 @@ use Rattle.rvalue.specs.Ledgers.{opening_ledger}
 use Rattle.rstate.specs.Histories.{Beginning}
 use Rattle.rforms.specs.Reports.{IsLawful}
 use Rattle.rreport.specs.Report.{ReportFields, told_by, IsOverResources, HasItsLedgers}
-use Rattle.rscript_records.specs.declared.statement.Statement.{Statement}
-use Rattle.rscript.specs.Scripts.{ScriptFields}
-use Rattle.rguard.specs.Seats.{SeatOf}
-use Rattle.rsection.specs.Runs.{HasRun, IsRunOf}
+use Rattle.rtasks.specs.Statement.{Statement}
+use Rattle.rtasks.specs.Scripts.{ScriptFields}
+use Rattle.rtasks.specs.GuardSeats.{SeatOf}
+use Rattle.rtasks.specs.Runs.{HasRun, IsRunOf}
 use Rattle.rtasks.specs.Tasks.{AreSeatsFor}
 
 -- how the runtime of a script begins: with what the script declares, a seat for each task, each of which may have a request, and ledgers as they open

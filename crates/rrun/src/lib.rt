@@ -3,7 +3,6 @@
 
 mod run;
 
-pub use rkinds::{NoPace, Pace};
-pub use rsection::run_section;
-pub use rtasks::{Ended, run_tasks};
+pub use rreport::{Report, WriteErr, write_report};
+pub use rtasks::{Ended, NoPace, Pace, run_section, run_tasks};
 pub use run::run_script;

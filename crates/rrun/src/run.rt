@@ -8,14 +8,11 @@ ghost use Rattle.rtasks.specs.Tasks.{AreSeatsFor};
 ghost use Rattle.rrun.specs.Reporting.{HaveRun, HasOpened, TellsHeadOf, IsReportOf};
 
 use rexpand::Groups;
-use rguard::{Closed, Receipt, Rnlp, Seat};
-use rkinds::Pace;
 use rmodel::Machine;
 use rplain::Plain;
 use rreport::Report;
-use rscript::Script;
 use rset::NameTable;
-use rtasks::{Ended, run_tasks};
+use rtasks::{Closed, Ended, Pace, Receipt, Rnlp, Script, Seat, run_tasks};
 use rvalue::{Edit, Ledger};
 use std::alloc::{AllocError, Global};
 use std::sync::{Arc, Wait};

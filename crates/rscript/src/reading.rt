@@ -11,11 +11,10 @@ ghost use Rattle.rscript.specs.Reading.{Knows, Adds, Closes, Takes, Refuses};
 use csv::ByteRecord;
 use rexpand::Groups;
 use rforms::{RowErr, field_of};
-use rrecords::set_of;
 use rscript_records::{
     AT_END, AT_GROUPS, AT_RESOURCES, AT_START, AT_TASKS, AT_VERSION, Code, Section, Statement,
     Word, add_group, declare, fault_of, has_all_groups, is_there, make_groups, section_after,
-    stand_of, statement_of,
+    set_of, stand_of, statement_of,
 };
 use rset::NameTable;
 use std::alloc::Global;

@@ -1,2 +1,3 @@
+pub use Rattle.rrecords.proofs.Made
 pub mod facts
 pub mod lines

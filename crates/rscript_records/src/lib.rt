@@ -23,6 +23,7 @@ pub use place::{
     stand_of,
 };
 pub use record::word_in;
+pub use rrecords::set_of;
 pub use section::{Section, section_after};
 pub use statement::Statement;
 pub use tables::{add_group, declare, has_all_groups, make_groups};

@@ -8,4 +8,9 @@ mod refusing;
 mod running;
 
 pub use bounding::bound;
+pub use ranswer::{
+    Command, LIST_LIMIT, REPORT_LIMIT, Told, ToolStatus, are_for_run, plain_of, read_input,
+    write_output,
+};
+pub use rrun::Pace;
 pub use running::{run_tool, told_run};

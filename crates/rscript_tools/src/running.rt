@@ -3,7 +3,7 @@ ghost use Rattle.std.specs.Prelude.{◌≡◌, ◌<◌, Some, List, [], map, len
 ghost use Rattle.io_ends.specs.Faults.{Rose};
 ghost use Rattle.rforms.specs.Texts.{report_text};
 ghost use Rattle.rforms.specs.Written.{MayBeWritten};
-ghost use Rattle.rreport.specs.Report.{told_by, IsOverResources, HasItsLedgers};
+ghost use Rattle.rrun.specs.Report.{told_by, IsOverResources, HasItsLedgers};
 ghost use Rattle.rscript.specs.Scripts.{ScriptFields};
 ghost use Rattle.rrun.specs.Reporting.{IsReportOf};
 ghost use Rattle.rwatch.specs.Seen.{Seen};
@@ -19,8 +19,7 @@ use crate::refusing::refuse_script;
 use io_ends::{Sink, Source};
 use ranswer::{Command, Told, ToolStatus, ask_for_run, read_input};
 use rguard::Receipt;
-use rreport::{Report, WriteErr, write_report};
-use rrun::{Pace, run_script};
+use rrun::{Pace, Report, WriteErr, run_script, write_report};
 use rscript::{Script, ScriptErr, read_script};
 use rvalue::Edit;
 use std::alloc::Global;

@@ -1,3 +1,4 @@
+pub use Rattle.rscript.proofs.Tasks
 pub mod Standing
 pub mod Doing
 pub mod Stepping

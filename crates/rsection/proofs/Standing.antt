@@ -40,9 +40,9 @@ use Rattle.rstate.proofs.homes.Lists.{same_item}
 use Rattle.rscript_records.specs.Statements.{begun}
 use Rattle.rscript_records.specs.Statements as section
 use Rattle.rscript_records.specs.declared.section.Section.{Section}
-use Rattle.rlent.proofs.seats.Along.{maker, differs}
-use Rattle.rlent.proofs.seats.Claims.{is_of, of_seat, claim_next, claim_asked, issued_next}
-use Rattle.rlent.proofs.seats.Halves.{has_half, risen_next}
+use Rattle.rguard.proofs.Along.{maker, differs}
+use Rattle.rguard.proofs.Claims.{is_of, of_seat, claim_next, claim_asked, issued_next}
+use Rattle.rguard.proofs.Halves.{has_half, risen_next}
 use Rattle.rsection.specs.Working.{section_told, section_made}
 
 -- ---- a claim of a section

@@ -27,10 +27,10 @@ use Rattle.rscript_records.specs.declared.statement.Statement.TheVariants as sta
 use Rattle.rguard.specs.Guards.{GuardFields, WaitFields, HasBegun, HasAsked, HasSeenLawful, HasSeenOwn, IsPartOf, kind_for}
 use Rattle.rguard.specs.Looks.{fields_of, kind_of, HasAwaited}
 use Rattle.rguard.specs.Seats.{SeatOf, IsIdle, Goes, bare}
-use Rattle.rlent.specs.Sections.{may_edit}
+use Rattle.rguard.specs.LentSections.{may_edit}
 use Rattle.rguard.specs.declared.guard.Guard.{Guard}
 use Rattle.rguard.specs.declared.guard.Guard.TheVariants as guard
-use Rattle.rlent.specs.declared.kind.GuardKind.TheVariants as guards
+use Rattle.rguard.specs.GuardKind.TheVariants as guards
 use Rattle.rguard.proofs.Going.{goes_nowhere, goes_on}
 use Rattle.rsection.specs.declared.desk.Desk.TheVariants.{Idle, Busy}
 use Rattle.rsection.specs.Desks.{IsGuardOf, HasStepped}

@@ -14,8 +14,8 @@ use Rattle.rscript_records.specs.declared.section.Section.{Section}
 use Rattle.rscript_records.specs.declared.statement.Statement.{Statement}
 use Rattle.rguard.specs.Guards.{Holding, HoldingToWrite, IsPartOf, AsSeen}
 use Rattle.rguard.specs.Seats.{SeatOf}
-use Rattle.rlent.specs.declared.kind.GuardKind.{GuardKind}
-use Rattle.rlent.specs.declared.kind.GuardKind.TheVariants as guards
+use Rattle.rguard.specs.GuardKind.{GuardKind}
+use Rattle.rguard.specs.GuardKind.TheVariants as guards
 
 -- ---- the section that a seat is in, by its own entries
 

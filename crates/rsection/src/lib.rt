@@ -7,5 +7,7 @@ mod section;
 mod steps;
 mod task;
 
+pub use rkinds::{NoPace, Pace};
+pub use rscript::Script;
 pub use section::run_section;
 pub use task::run_task;

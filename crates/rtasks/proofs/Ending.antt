@@ -7,8 +7,8 @@ use Rattle.rlock.specs.Known.{Site}
 use Rattle.rvalue.specs.declared.ledger.Edit.{Edit}
 use Rattle.rvalue.specs.declared.ledger.Ledger.{Ledger}
 use Rattle.rstate.proofs.homes.Lists.{get_map, get_there}
-use Rattle.rscript_records.specs.declared.statement.Statement.{Statement}
-use Rattle.rscript.specs.Scripts.{ScriptFields}
+use Rattle.rsection.specs.Statement.{Statement}
+use Rattle.rsection.specs.Scripts.{ScriptFields}
 use Rattle.rguard.specs.Seats.{SeatOf}
 use Rattle.rsection.specs.Seats.{IsSeatFor}
 use Rattle.rtasks.specs.declared.jobs.Job.{Job}

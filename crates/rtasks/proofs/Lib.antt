@@ -1,1 +1,2 @@
+pub use Rattle.rsection.proofs.Tasks
 pub mod Ending

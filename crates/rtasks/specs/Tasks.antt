@@ -3,8 +3,8 @@ use Rattle.std.specs.Prelude.{◌≡◌, ℕ, Bool, true, false, Some, List, len
 use Rattle.rlock.specs.Known.{Site}
 use Rattle.rvalue.specs.declared.ledger.Edit.{Edit}
 use Rattle.rvalue.specs.declared.ledger.Ledger.{Ledger}
-use Rattle.rscript_records.specs.declared.statement.Statement.{Statement}
-use Rattle.rscript.specs.Scripts.{ScriptFields}
+use Rattle.rsection.specs.Statement.{Statement}
+use Rattle.rsection.specs.Scripts.{ScriptFields}
 use Rattle.rguard.specs.Seats.{SeatOf}
 use Rattle.rsection.specs.Runs.{HasRun, HasBrokenOff}
 use Rattle.rsection.specs.Seats.{IsSeatFor}

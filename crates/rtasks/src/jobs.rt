@@ -1,13 +1,11 @@
 //! A task with its seat, and how all of them are done.
 ghost use Rattle.std.specs.Prelude.{◌≡◌, ◌<◌, Some, List, length, slice_get};
-ghost use Rattle.rscript_records.specs.declared.statement.Statement.{Statement};
+ghost use Rattle.rsection.specs.Statement.{Statement};
 ghost use Rattle.rtasks.specs.Jobs.{IsReady, IsDone, AreReady, AreDone};
 
 use rguard::{Rnlp, Seat};
-use rkinds::Pace;
 use rmodel::Machine;
-use rscript::Script;
-use rsection::run_task;
+use rsection::{Pace, Script, run_task};
 use rvalue::Ledger;
 use std::alloc::Global;
 use std::sync::Wait;

@@ -4,4 +4,6 @@
 mod jobs;
 mod tasks;
 
+pub use rguard::{Closed, Receipt, Rnlp, Seat};
+pub use rsection::{NoPace, Pace, Script, run_section};
 pub use tasks::{Ended, run_tasks};

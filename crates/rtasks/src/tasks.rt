@@ -5,9 +5,8 @@ ghost use Rattle.rtasks.specs.Endings.{waiting, resting, AreEnded};
 
 use crate::jobs::{Job, Task, work_all};
 use rguard::{Rnlp, Seat};
-use rkinds::Pace;
 use rmodel::Machine;
-use rscript::Script;
+use rsection::{Pace, Script};
 use rvalue::Ledger;
 use std::alloc::{AllocError, Global};
 use std::sync::Wait;

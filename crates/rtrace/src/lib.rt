@@ -15,5 +15,5 @@ pub use count::{AuditCounts, Counting, audit_stream, count_stream};
 pub use lists::{read_events, read_report};
 pub use rforms::{Code, Fault, Refusal, TextErr};
 pub use rreading::{BoundTold, Reading, Taken};
-pub use rreport::Report;
+pub use rreport::{Report, write_parts};
 pub use rstream::StreamErr as AuditErr;

@@ -2,7 +2,7 @@
 use Rattle.std.specs.Prelude.{◌≡◌, ℕ, Bool, true, false, ◌||◌, IsTrue, List, [], fold, map}
 use Rattle.std.specs.List.{AllByRecursion}
 use Rattle.std.specs.FinSet.{contains}
-use Rattle.rset.specs.Sets.{Set}
+use Rattle.rclaim.specs.Sets.{Set}
 use Rattle.rclaim.specs.declared.event.Event.{Event}
 use Rattle.rclaim.specs.declared.event.Event.TheVariants.{Issue, Finish, Rise, Ask}
 use Rattle.rclaim.specs.Events.{seat_of}

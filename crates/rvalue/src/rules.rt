@@ -1,6 +1,6 @@
 // The rules of a lock, as far as a lawful history depends on them.
 ghost use Rattle.std.specs.Prelude.{ℕ};
-ghost use Rattle.rset.specs.Sets.{Set};
+ghost use Rattle.rclaim.specs.Sets.{Set};
 ghost use Rattle.rclaim.specs.declared.event.Event.{Event};
 
 /// What a history is judged by: the lock whose events it has, and what is told of the opening values. It is for contracts alone.

@@ -1,2 +1,3 @@
+pub use Rattle.rreplay.proofs.Still
 pub mod Kept
 pub mod Telling

@@ -7,4 +7,5 @@ mod recording;
 mod steps;
 
 pub use recording::{Recorded, recorded_replay_of};
+pub use rreplay::{Replayed, replay_of};
 pub use steps::Steps;

@@ -9,7 +9,7 @@ ghost use Rattle.rforms.specs.Takers.{IsFirstFault};
 ghost use Rattle.rforms.specs.Texts.{IsTextOf, report_text};
 ghost use Rattle.rforms.specs.declared.fault.Code.{Code};
 ghost use Rattle.rforms.specs.declared.fault.Fault.{Fault};
-ghost use Rattle.rlines.specs.Knows.{Knows};
+ghost use Rattle.rreplay.specs.Knows.{Knows};
 ghost use Rattle.rreplay.specs.Parts.{ArePartsOf};
 ghost use Rattle.rwatched.specs.Recording.{KnowsSteps};
 ghost use Rattle.rwatched.specs.Stepping.{AreStepsOf};
@@ -20,8 +20,7 @@ use rclaim::Event;
 use rforms::{Code, Records, RowErr, TextErr, take_text};
 use rmodel::Machine;
 use rplain::Plain;
-use rreading::{Reading, Taken};
-use rreplay::{Replayed, Replaying};
+use rreplay::{Reading, Replayed, Replaying, Taken};
 use std::alloc::{AllocError, Global};
 use std::mem;
 

@@ -3,7 +3,7 @@ use Rattle.std.proofs.Common.{◌≡◌, ◌<◌, ℕ, Bool, true, false, ◌&&�
 use Rattle.std.specs.List.{AllByRecursion}
 use Rattle.rset.specs.Sets.{Set}
 use Rattle.rset.proofs.SetLemmas.{within_reflexive}
-use Rattle.rexpand.specs.Groups.{ReadGroups}
+use Rattle.rbound.specs.Groups.{ReadGroups}
 use Rattle.rclaim.specs.declared.claim.Claim.{Claim}
 use Rattle.rclaim.specs.declared.event.Event.{Event}
 use Rattle.rmodel.specs.declared.claimed.Claimed.{Claimed}

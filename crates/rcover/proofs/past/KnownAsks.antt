@@ -4,7 +4,7 @@ use Rattle.std.specs.FinSet.{empty, union}
 use Rattle.std.proofs.lemmas.Bool.{eq-eqb, eqb-true}
 use Rattle.std.proofs.lemmas.List.{append-nil}
 use Rattle.rset.specs.Sets.{Set}
-use Rattle.rexpand.specs.Groups.{ReadGroups}
+use Rattle.rbound.specs.Groups.{ReadGroups}
 use Rattle.rclaim.specs.declared.event.Event.{Event}
 use Rattle.rclaim.specs.declared.event.Event.TheVariants.{Issue, Finish, Rise, Ask}
 use Rattle.rmodel.specs.declared.claimed.Claimed.{Claimed}

@@ -4,7 +4,7 @@ use Rattle.std.proofs.lemmas.Bool.{and_parts, and_from, eq-eqb}
 use Rattle.std.specs.FinSet.{empty, len, intersection}
 use Rattle.rset.specs.Sets.{Set}
 use Rattle.rset.proofs.SetLemmas.{meets_by_intersection, meets_empty_left}
-use Rattle.rexpand.proofs.DeclaredLemmas.{filled_by_number}
+use Rattle.rbound.proofs.DeclaredLemmas.{filled_by_number}
 use Rattle.rclaim.specs.declared.claim.Claim.{Claim}
 use Rattle.rmodel.specs.declared.claimed.Claimed.{Claimed}
 use Rattle.rmodel.specs.Claims.{is_nested, is_satisfied, is_upgrade}

@@ -1,6 +1,6 @@
 use Rattle.std.proofs.Common.{map}
 use Rattle.std.specs.Prelude.{string_bytes}
-use Rattle.ranswer.specs.Words.{command_in}
+use Rattle.rnlp_cli.specs.Words.{command_in}
 use Rattle.redge.proofs.Edges.{unwatched_so, watched_so}
 use Rattle.redge.proofs.edge.is_unwatched.Goals as goal
 

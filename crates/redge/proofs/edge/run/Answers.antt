@@ -1,6 +1,6 @@
 use Rattle.std.proofs.Common.{map, ap, ◌∙◌}
 use Rattle.std.specs.Prelude.{string_bytes}
-use Rattle.ranswer.specs.Status.{status_number}
+use Rattle.rnlp_cli.specs.Status.{status_number}
 use Rattle.redge.proofs.Promised.{run_keeps}
 use Rattle.redge.proofs.edge.run.Goals as goal
 

@@ -1,7 +1,7 @@
 use Rattle.std.proofs.Common.{map, refl, sym, subst}
 use Rattle.std.specs.Prelude.{string_bytes}
-use Rattle.ranswer.specs.Words.{command_in}
-use Rattle.ranswer.specs.Told.{Tells}
+use Rattle.rnlp_cli.specs.Words.{command_in}
+use Rattle.rnlp_cli.specs.Told.{Tells}
 use Rattle.redge.specs.Program.{AnswersBy, TellsBy}
 use Rattle.redge.proofs.edge.told_answer.Goals as goal
 

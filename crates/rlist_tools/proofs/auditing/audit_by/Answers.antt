@@ -1,7 +1,7 @@
 use Rattle.std.proofs.Common.{◌≡◌, Some, Err, refl, sym, ap, subst, ◌∙◌}
 use Rattle.std.specs.Prelude.{IfSome, option_map, string_bytes}
 use Rattle.rforms.specs.declared.fault.Code.TheVariants.{WrongChange, WrongLedger, WrongBound}
-use Rattle.rreplay.specs.Names.{names_read}
+use Rattle.rwatched.specs.Names.{names_read}
 use Rattle.ranswer.specs.Outputs.{audit_text, report_limit}
 use Rattle.ranswer.specs.Due.{IsDueFor, first_due_text}
 use Rattle.ranswer.specs.Told.{told_due, told_fault}

@@ -2,7 +2,7 @@ use Rattle.std.proofs.Common.{sym, ap, ◌∙◌}
 use Rattle.std.specs.Prelude.{option_map}
 use Rattle.csv.specs.Records.{fields_of}
 use Rattle.rset.specs.Names.{number_in}
-use Rattle.rbound.specs.Bounds.{numbers_in}
+use Rattle.rforms.specs.Bounds.{numbers_in}
 use Rattle.rrecords.proofs.Waits.{wait_says, wait_unknown, wait_no_cover, wait_no_bound}
 use Rattle.rrecords.proofs.wait.wait_of.Goals as goal
 

@@ -2,11 +2,11 @@ use Rattle.std.proofs.Common.{List, ◌∷◌, ◌++◌, sym, ap, subst, ◌∙�
 use Rattle.std.proofs.lemmas.Result.{on_ok_weaker}
 use Rattle.rcover.specs.declared.wait_end.WaitEnd.{WaitEnd}
 use Rattle.rforms.specs.Lines.{Happens}
-use Rattle.rwaits.specs.Past.{with_event}
+use Rattle.rreading.specs.Past.{with_event}
 use Rattle.rhistory.specs.Gathered.{KnowsGathered}
 use Rattle.rhistory.specs.Open.{open_told}
 use Rattle.rpage.specs.Told.{step_told}
-use Rattle.rlines.specs.Knows.{changes_in}
+use Rattle.rreading.specs.Knows.{changes_in}
 use Rattle.rreplay.proofs.Replays.{coming_next, followed_by}
 use Rattle.rreplay.proofs.replaying.push.Goals as goal
 

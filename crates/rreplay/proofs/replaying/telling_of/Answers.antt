@@ -1,5 +1,5 @@
 use Rattle.std.proofs.Common.{ℕ, [], subst}
-use Rattle.rwaits.specs.Past.{begun}
+use Rattle.rreading.specs.Past.{begun}
 use Rattle.rhistory.specs.Gathered.{KnowsGathered}
 use Rattle.rreplay.proofs.replaying.telling_of.Goals as goal
 

@@ -3,7 +3,7 @@ use Rattle.rmodel.specs.Changes.{changes_between}
 use Rattle.rmodel.specs.State.{LockState}
 use Rattle.rmodel.specs.Steps.{Comes, next}
 use Rattle.rmodel.proofs.reaching.Histories.{after_push}
-use Rattle.rwaits.specs.Past.{start_of}
+use Rattle.rhistory.specs.Past.{start_of}
 use Rattle.rreport.proofs.Writing.{given_ok}
 use Rattle.rreport.proofs.history.advance.Goals as goal
 

@@ -1,6 +1,6 @@
 use Rattle.std.proofs.Common.{◌≡◌, [], ap, subst, length, ◌∙◌}
 use Rattle.rforms.specs.Heads.{read_groups}
-use Rattle.rwaits.specs.Past.{begun}
+use Rattle.rhistory.specs.Past.{begun}
 use Rattle.rhistory.specs.Gathered.{KnowsGathered}
 use Rattle.rreport.specs.Report.{ReportFields, told_by}
 use Rattle.rreport.proofs.history.history_of.Goals as goal

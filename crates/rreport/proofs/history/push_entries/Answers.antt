@@ -3,7 +3,7 @@ use Rattle.rcover.specs.declared.wait_end.WaitEnd.{WaitEnd}
 use Rattle.rforms.specs.Heads.{Head}
 use Rattle.rforms.specs.Reports.{Entry, IsLawful}
 use Rattle.rforms.specs.Waits.{all_ended}
-use Rattle.rwaits.specs.Past.{Past, with_event}
+use Rattle.rhistory.specs.Past.{Past, with_event}
 use Rattle.rhistory.specs.Behind.{past_in}
 use Rattle.rhistory.specs.Gathered.{KnowsGathered}
 use Rattle.rreport.specs.Stepped.{AreBehind}

@@ -5,7 +5,7 @@ use Rattle.rcover.specs.Ended.{ended_by}
 use Rattle.rcover.specs.declared.wait_end.WaitEnd.{WaitEnd}
 use Rattle.rmodel.specs.Changes.{changes_between}
 use Rattle.rmodel.specs.Steps.{Comes, next}
-use Rattle.rwaits.specs.Past.{Past, start_of, state_of, with_event}
+use Rattle.rhistory.specs.Past.{Past, start_of, state_of, with_event}
 use Rattle.rforms.specs.Reports.{Entry}
 use Rattle.rpage.specs.Told.{entry_told}
 use Rattle.rhistory.specs.Gathered.{KnowsGathered}

@@ -1,0 +1,1 @@
+pub use Rattle.rscript_tools.proofs.Promises

@@ -1,0 +1,11 @@
+pub use Rattle.rscript_tools.specs.Answer
+pub use Rattle.rscript_tools.specs.Command
+pub use Rattle.rscript_tools.specs.Promise
+pub use Rattle.rscript_tools.specs.Receipts
+pub use Rattle.rscript_tools.specs.Status
+pub use Rattle.rscript_tools.specs.Told
+pub use Rattle.rscript_tools.specs.ToldKinds
+pub use Rattle.rscript_tools.specs.ToolStatus
+pub use Rattle.rscript_tools.specs.Watched
+pub use Rattle.rscript_tools.specs.Words
+pub use Rattle.rscript_tools.specs.Writing
