@@ -3,6 +3,7 @@ pub mod Heads
 pub mod Leasts
 pub mod Reached
 pub mod Refilled
+pub mod Stayed
 pub mod Taken
 pub mod Turns
 pub mod Writers

@@ -1,13 +1,14 @@
 -- The least claims of lines, kept from event to event.
-use Rattle.std.specs.Prelude.{◌≡◌, ◌≤◌, ◌<◌, ◌*◌, true, false, length, replicate, vec_capacity}
+use Rattle.std.specs.Prelude.{◌≡◌, ◌≤◌, ◌<◌, ◌*◌, ℕ, true, false, List, length, replicate, slice_get, vec_capacity}
 use Rattle.std.specs.FinSet.{empty}
-use Rattle.std.specs.List.{AllByRecursion}
+use Rattle.std.specs.List.{list_any, AllByRecursion}
 use Rattle.rset.specs.declared.TheConstants.{SEATS}
 use Rattle.rmodel.specs.WellFormed.{EachPair, Rises, Distinct}
 use Rattle.rcover.specs.Moments.{Moment}
 use Rattle.rheads.specs.declared.heads.Heads.{Heads}
+use Rattle.rheads.specs.declared.lines.Head.{Head}
 use Rattle.rheads.specs.Lines.{IsTold, no_head}
-use Rattle.rheads.specs.Shares.{TellWrites, no_share}
+use Rattle.rheads.specs.Shares.{TellWrites, is_write_of, no_share}
 
 -- heads have a place for each seat, and the room of both lists is what was made at first
 pub record HasPlaces (h : Heads) : Type 0 where
@@ -24,6 +25,10 @@ TellsNow h m = h.told ≡ true → IsTold h.now.items h.behind.items m
 -- and so is which seats have a write, and what it takes
 abbrev pub TellsWrites : Heads → Moment → Type 0
 TellsWrites h m = h.told ≡ true → TellWrites h.writers h.shares m
+
+-- a seat that has no write at a moment keeps the head that stands at its place
+abbrev pub StayWithoutWrite : List Head → List Head → Moment → Type 0
+StayWithoutWrite hs hs' m = (seat : ℕ) → list_any (is_write_of seat) m ≡ false → slice_get hs' seat ≡ slice_get hs seat
 
 -- nothing is told: no seat moved or rose, none has a write, and no head is lost
 pub record TellsNothing (h : Heads) : Type 0 where

@@ -6,7 +6,7 @@ ghost use Rattle.rcover.specs.Moments.{Moment};
 ghost use Rattle.rset.specs.declared.TheConstants.{SEATS};
 ghost use Rattle.rclaim.specs.Events.{seat_of};
 ghost use Rattle.rheads.specs.Lines.{no_head, TellAt, TellHeads, GoesBy, HeadsTell, IsLost, IsTold, HoldBehind, ArePlaced};
-ghost use Rattle.rheads.specs.Heads.{AreEmpty, HasPlaces, TellsNothing, TellsNow, TellsWrites, IsMoment};
+ghost use Rattle.rheads.specs.Heads.{AreEmpty, HasPlaces, TellsNothing, TellsNow, TellsWrites, IsMoment, StayWithoutWrite};
 ghost use Rattle.rheads.specs.Shares.{AreLeft, TellWrites, takes_write};
 
 use crate::lines::{Head, forget, no_head, tell_heads};
@@ -23,7 +23,7 @@ const PLACES: usize = SEATS as usize;
 /// The least claims of the lines of all writes, for each seat, and what those writes take.
 #[derive(Drop)]
 pub struct Heads {
-    /// Those of the claims that are there.
+    /// Those of the claims that are there. What stands at the place of a seat without a write stays.
     pub now: Vec<Head>,
     /// Of each seat, those of the writes whose least claim is its own, with others maybe.
     pub behind: Vec<ResourceSet>,
@@ -102,6 +102,7 @@ impl Heads {
         ensures room { HasPlaces self.new }
         ensures told { TellsNow self.new moment.now }
         ensures writes { TellsWrites self.new moment.now }
+        ensures others { StayWithoutWrite self.old.now.items self.new.now.items moment.now }
         ensures stays { brought ≡ true → self.new.told ≡ self.old.told }
         ensures forgotten { brought ≡ false → self.new ≡ record self.old { told = false } }
         ensures as_it_was { brought ≡ true → self.old.told ≡ false → self.new ≡ self.old }
@@ -137,6 +138,7 @@ impl Heads {
         ensures room { HasPlaces self.new }
         ensures told { IsTold self.new.now.items self.new.behind.items moment.now }
         ensures writes { TellWrites self.new.writers self.new.shares moment.now }
+        ensures others { StayWithoutWrite self.old.now.items self.new.now.items moment.now }
         ensures still { self.old.told ≡ true → self.new ≡ self.old }
         ensures rest { self.new ≡ record self.old { now = self.new.now; behind = self.new.behind; writers = self.new.writers; shares = self.new.shares; told = true } }
     {
@@ -190,6 +192,7 @@ impl Heads {
         ensures writers { self.new.writers ≡ self.old.writers }
         ensures shares { self.new.shares ≡ self.old.shares }
         ensures rest { self.new ≡ record self.old { now = self.new.now; behind = self.new.behind; moved = self.new.moved; risen = self.new.risen } }
+        ensures others { StayWithoutWrite self.old.now.items self.new.now.items moment.now }
         ensures places_len { length places.new ≡ length places.old }
         ensures placed { (m : Moment) → TellAt self.old.now.items m moment.now → AllByRecursion (GoesBy self.old.lost gone came touched m moment.now) moment.now → ArePlaced places.new self.new.moved self.new.risen moment.now }
         ensures told { (m : Moment) → TellAt self.old.now.items m moment.now → HoldBehind self.old.behind.items m moment.now → AllByRecursion (GoesBy self.old.lost gone came touched m moment.now) moment.now → IsTold self.new.now.items self.new.behind.items moment.now }

@@ -1,5 +1,5 @@
 // The least claims of the lines of all writes.
-ghost use Rattle.std.specs.Prelude.{if◌then◌else◌, ◌≡◌, ◌≢◌, ◌&&◌, ◌||◌, ◌≤◌, ◌<◌, ◌==◌, ◌++◌, ◌∷◌, [], ℕ, true, take, length, slice_get};
+ghost use Rattle.std.specs.Prelude.{if◌then◌else◌, ◌≡◌, ◌≢◌, ◌&&◌, ◌||◌, ◌≤◌, ◌<◌, ◌==◌, ◌++◌, ◌∷◌, [], ℕ, true, false, take, length, slice_get};
 ghost use Rattle.std.specs.List.{AllByRecursion};
 ghost use Rattle.rmodel.specs.WellFormed.{EachPair, Rises, Distinct};
 ghost use Rattle.std.specs.FinSet.{contains, empty};
@@ -9,6 +9,8 @@ ghost use Rattle.rmodel.specs.Claims.{satisfied_by};
 ghost use Rattle.rcover.specs.Line.{least_of};
 ghost use Rattle.rcover.specs.Moments.{Moment};
 ghost use Rattle.rheads.specs.Found.{AreBefore, IsFound};
+ghost use Rattle.rheads.specs.Heads.{StayWithoutWrite};
+ghost use Rattle.rheads.specs.Shares.{is_write_of};
 
 use crate::taken::is_write_told;
 use rclaim::{Claim, Kind, StatusChange};
@@ -127,6 +129,7 @@ pub(crate) fn put_head(heads: &mut [Head], found: &Found, x: &Claimed)
     requires seat { x.now.claim.seat < length heads.old }
     ensures head { (before rest : Moment) → EachPair Rises (before ++ x.now ∷ rest) → EachPair Distinct (before ++ x.now ∷ rest) → TellAt heads.old (before ++ x.now ∷ rest) before → IsFound (before ++ x.now ∷ rest) x.now.claim before found.now
         → (seat : ℕ) → slice_get heads.new seat ≡ (if seat == x.now.claim.seat then Some (head_of (before ++ x.now ∷ rest) x.now.claim) else slice_get heads.old seat) }
+    ensures others { (seat : ℕ) → seat ≢ x.now.claim.seat → slice_get heads.new seat ≡ slice_get heads.old seat }
     ensures len { length heads.new ≡ length heads.old }
 {
     let at = x.claim.seat as usize;
@@ -158,6 +161,7 @@ fn tell_head(heads: &mut [Head], behind: &mut [ResourceSet], before: &[Claimed],
     requires seat { x.now.claim.seat < length heads.old }
     requires seats { AllByRecursion (λ y. y.claim.seat < length heads.old) before.now }
     ensures heads { (rest : Moment) → EachPair Rises (before.now ++ x.now ∷ rest) → EachPair Distinct (before.now ++ x.now ∷ rest) → TellAt heads.old (before.now ++ x.now ∷ rest) before.now → (seat : ℕ) → slice_get heads.new seat ≡ heads_with heads.old (head_of (before.now ++ x.now ∷ rest) x.now.claim) x.now seat }
+    ensures others { (seat : ℕ) → is_write_of seat x.now ≡ false → slice_get heads.new seat ≡ slice_get heads.old seat }
     ensures behind { (rest : Moment) → EachPair Rises (before.now ++ x.now ∷ rest) → EachPair Distinct (before.now ++ x.now ∷ rest) → TellAt heads.old (before.now ++ x.now ∷ rest) before.now → (least_of x.now.claim (before.now ++ x.now ∷ rest)).seat < length behind.old → x.now.claim.write_half ≡ true → IsBehind behind.new (before.now ++ x.now ∷ rest) x.now }
     ensures more { HoldMore behind.old behind.new }
     ensures len { length heads.new ≡ length heads.old }
@@ -185,6 +189,7 @@ pub(crate) fn tell_heads(
     requires rising { EachPair Rises moment.now }
     requires one_each { EachPair Distinct moment.now }
     ensures told { IsTold heads.new behind.new moment.now }
+    ensures others { StayWithoutWrite heads.old heads.new moment.now }
     ensures len { length heads.new ≡ length heads.old }
     ensures behind_len { length behind.new ≡ length behind.old }
 {

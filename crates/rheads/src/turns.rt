@@ -1,5 +1,5 @@
 // The heads of writes, gone on with over an event that brings no claim.
-ghost use Rattle.std.specs.Prelude.{◌≡◌, ◌≢◌, ◌≤◌, ◌<◌, ◌++◌, ◌∷◌, ◌&&◌, ◌==◌, if◌then◌else◌, ℕ, true, Some, length, slice_get};
+ghost use Rattle.std.specs.Prelude.{◌≡◌, ◌≢◌, ◌≤◌, ◌<◌, ◌++◌, ◌∷◌, ◌&&◌, ◌==◌, if◌then◌else◌, ℕ, true, false, Some, length, slice_get};
 ghost use Rattle.std.specs.List.{AllByRecursion};
 ghost use Rattle.std.specs.FinSet.{contains, is_subset};
 ghost use Rattle.rmodel.specs.WellFormed.{EachPair, Rises, Distinct};
@@ -8,7 +8,9 @@ ghost use Rattle.rset.specs.declared.TheConstants.{SEATS};
 ghost use Rattle.rcover.specs.Line.{least_of};
 ghost use Rattle.rcover.specs.Moments.{Moment};
 ghost use Rattle.rheads.specs.Found.{IsFound};
+ghost use Rattle.rheads.specs.Heads.{StayWithoutWrite};
 ghost use Rattle.rheads.specs.Lines.{head_of, TellAt, GoesBy, IsNew, IsNext, IsNoted, IsTurned, HeadsTell, set_at, IsBehind, ArePlaced, HoldBehindBut, HoldMore, IsTold};
+ghost use Rattle.rheads.specs.Shares.{is_write_of};
 
 use crate::lines::{Found, Head, found_before, note_behind, put_head};
 use rmodel::Claimed;
@@ -38,6 +40,7 @@ fn rise_head(now: &mut [Head], moves: &mut Moves, came: ResourceSet, x: &Claimed
     requires now { x.now.claim.seat < length now.old }
     ensures turned { (lost : Head) (gone touched : Set) (m before rest : Moment) → x.now.claim.write_half ≡ true → IsNext now.old m before x.now rest → GoesBy lost gone came touched m (before ++ x.now ∷ rest) x.now → IsNew moves.old x.now
         → (least_of x.now.claim (before ++ x.now ∷ rest)).stamp ≡ (least_of x.now.claim m).stamp → IsTurned now.old moves.old lost now.new moves.new m (before ++ x.now ∷ rest) x.now }
+    ensures others { (seat : ℕ) → seat ≢ x.now.claim.seat → slice_get now.new seat ≡ slice_get now.old seat }
     ensures len { length now.new ≡ length now.old }
 {
     let at = x.claim.seat as usize;
@@ -63,6 +66,7 @@ fn move_head(
     requires now { x.now.claim.seat < length now.old }
     ensures turned { (lost : Head) (m before rest : Moment) → IsNext now.old m before x.now rest → IsNew moves.old x.now → IsFound (before ++ x.now ∷ rest) x.now.claim before found.now → head_of m x.now.claim ≡ lost → found.now.stamp ≢ lost.claim.stamp
         → IsTurned now.old moves.old lost now.new moves.new m (before ++ x.now ∷ rest) x.now }
+    ensures others { (seat : ℕ) → seat ≢ x.now.claim.seat → slice_get now.new seat ≡ slice_get now.old seat }
     ensures behind { (least : ℕ) → least ≡ found.now.seat → least < length behind.old → contains (set_at behind.new least) x.now.claim.seat ≡ true }
     ensures more { HoldMore behind.old behind.new }
     ensures len { length now.new ≡ length now.old }
@@ -90,6 +94,7 @@ fn find_head(
     requires now { x.now.claim.seat < length now.old }
     ensures turned { (gone touched : Set) (m rest : Moment) → IsNext now.old m before.now x.now rest → GoesBy lost.now gone came touched m (before.now ++ x.now ∷ rest) x.now → IsNew moves.old x.now → head_of m x.now.claim ≡ lost.now
         → IsTurned now.old moves.old lost.now now.new moves.new m (before.now ++ x.now ∷ rest) x.now }
+    ensures others { (seat : ℕ) → seat ≢ x.now.claim.seat → slice_get now.new seat ≡ slice_get now.old seat }
     ensures behind { (m rest : Moment) → IsNext now.old m before.now x.now rest → (least_of x.now.claim (before.now ++ x.now ∷ rest)).seat < length behind.old → IsBehind behind.new (before.now ++ x.now ∷ rest) x.now }
     ensures more { HoldMore behind.old behind.new }
     ensures len { length now.new ≡ length now.old }
@@ -119,6 +124,7 @@ fn turn_head(
     requires now { x.now.claim.seat < length now.old }
     ensures turned { (gone touched : Set) (m rest : Moment) → IsNext now.old m before.now x.now rest → GoesBy lost.now gone came touched m (before.now ++ x.now ∷ rest) x.now → IsNew moves.old x.now
         → is_subset gone moves.old.dirty ≡ true → AllByRecursion (IsNoted moves.old.dirty m (before.now ++ x.now ∷ rest)) before.now → IsTurned now.old moves.old lost.now now.new moves.new m (before.now ++ x.now ∷ rest) x.now }
+    ensures others { (seat : ℕ) → is_write_of seat x.now ≡ false → slice_get now.new seat ≡ slice_get now.old seat }
     ensures behind { (gone touched : Set) (m rest : Moment) → IsNext now.old m before.now x.now rest → GoesBy lost.now gone came touched m (before.now ++ x.now ∷ rest) x.now → (least_of x.now.claim (before.now ++ x.now ∷ rest)).seat < length behind.old
         → is_subset gone moves.old.dirty ≡ true → AllByRecursion (IsNoted moves.old.dirty m (before.now ++ x.now ∷ rest)) before.now
         → x.now.claim.write_half ≡ true → ((least_of x.now.claim m).seat ≢ lost.now.claim.seat → IsBehind behind.old m x.now) → IsBehind behind.new (before.now ++ x.now ∷ rest) x.now }
@@ -173,6 +179,7 @@ pub(crate) fn turn_heads(
     ensures told { (m : Moment) → TellAt now.old m moment.now → AllByRecursion (GoesBy lost.now gone came touched m moment.now) moment.now → HoldBehindBut lost.now.claim.seat behind.old m moment.now → IsTold now.new behind.new moment.now }
     ensures tell { (m : Moment) → TellAt now.old m moment.now → AllByRecursion (GoesBy lost.now gone came touched m moment.now) moment.now → AllByRecursion (HeadsTell now.new lost.now result.moved result.risen m moment.now) moment.now }
     ensures placed { (m : Moment) → TellAt now.old m moment.now → AllByRecursion (GoesBy lost.now gone came touched m moment.now) moment.now → ArePlaced places.new result.moved result.risen moment.now }
+    ensures others { StayWithoutWrite now.old now.new moment.now }
     ensures len { length now.new ≡ length now.old }
     ensures behind_len { length behind.new ≡ length behind.old }
     ensures places_len { length places.new ≡ length places.old }

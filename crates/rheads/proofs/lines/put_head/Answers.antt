@@ -3,6 +3,7 @@ use Rattle.std.proofs.Math.ListN.{set}
 use Rattle.std.proofs.lemmas.Option.{slice_get_read, slice_get_past}
 use Rattle.rheads.specs.declared.lines.Head.{Head}
 use Rattle.rheads.proofs.told.Heads.{get_set, own_found_is, other_found_is}
+use Rattle.rheads.proofs.told.Stayed.{get_beside}
 use Rattle.rheads.proofs.lines.put_head.Goals as goal
 
 some_one : (a b : Head) → Some a ≡ Some b → a ≡ b
@@ -32,3 +33,9 @@ returns-else-from-heads-clause-head c = λ before rest rising distinct tells fou
     absurd (not_none _
     (sym (other_found_is before rest c.args.x.now rising c.requires.write distinct c.args.found.now found hs tells c.if-found-x.false)
     ∙ ap (λ k. slice_get hs k) (sym c.from-from.ensures) ∙ slice_get_past hs c.from-from.result c.if-from-heads.false))
+
+pub returns-then-found-x-clause-others : goal.returns-then-found-x-clause-others
+returns-then-found-x-clause-others c = λ seat other. get_beside c.args.heads.now c.args.x.now.claim.seat c.own_head.result seat c.requires.seat other
+
+pub returns-then-from-heads-clause-others : goal.returns-then-from-heads-clause-others
+returns-then-from-heads-clause-others c = λ seat other. get_beside c.args.heads.now c.args.x.now.claim.seat c.index-heads-from.result seat c.requires.seat other

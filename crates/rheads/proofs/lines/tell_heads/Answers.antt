@@ -9,6 +9,7 @@ use Rattle.rheads.specs.Lines.{HoldBehind, IsBehind, TellAt}
 use Rattle.rheads.proofs.Pairs.{all_get, drop_more}
 use Rattle.rheads.proofs.told.Heads.{behind_more, behind_widen, told_push, told_widen}
 use Rattle.rheads.proofs.told.Leasts.{least_all}
+use Rattle.rheads.proofs.told.Stayed.{none_at}
 use Rattle.rheads.proofs.lines.tell_heads.Goals as goal
 
 pub loop-i-init : goal.loop-i-init
@@ -18,6 +19,7 @@ loop-i-init c =
     record {
       len = refl;
       behind_len = refl;
+      others = λ seat none. refl;
       behind = subst (λ (n : List Claimed). HoldBehind c.args.behind.now n (take i m)) (take-append-drop i m)
           (behind_widen c.args.behind.now (take i m) (drop i m) (subst (EachPair Rises) (sym (take-append-drop i m)) c.requires.rising) c.requires.told.behind);
       told = subst (λ (n : List Claimed). TellAt c.args.heads.now n (take i m)) (take-append-drop i m)
@@ -36,6 +38,7 @@ loop-i-preserved c =
     record {
       len = c.tell_head.ensures.len ∙ c.loop-i.invariant.len;
       behind_len = c.tell_head.ensures.behind_len ∙ c.loop-i.invariant.behind_len;
+      others = λ seat none. c.tell_head.ensures.others seat (none_at seat m i x (omega arith) c.index-moment-i.is none) ∙ c.loop-i.invariant.others seat none;
       behind = subst (λ (z : List Claimed). HoldBehind c.tell_head.new.behind m z) (sym front)
           (all_append (λ z. z.claim.write_half ≡ true → IsBehind c.tell_head.new.behind m z) (take i m) (x ∷ []) (behind_more c.loop-i.behind c.tell_head.new.behind c.tell_head.ensures.more m (take i m) c.loop-i.invariant.behind) (
             (λ write.

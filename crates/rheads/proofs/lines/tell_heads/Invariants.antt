@@ -1,4 +1,5 @@
 use Rattle.std.proofs.Common.{◌≡◌, length, take}
+use Rattle.rheads.specs.Heads.{StayWithoutWrite}
 use Rattle.rheads.specs.Lines.{HoldBehind, TellAt}
 use Rattle.rheads.proofs.lines.tell_heads.Given as goal
 
@@ -6,6 +7,7 @@ abbrev pub invariant-loop-i : goal.invariant-loop-i
 invariant-loop-i l = record {
   len : length l.heads ≡ length l.fn.heads;
   behind_len : length l.behind ≡ length l.fn.behind;
+  others : StayWithoutWrite l.fn.heads l.heads l.moment;
   told : TellAt l.heads l.moment (take l.i l.moment);
   behind : HoldBehind l.behind l.moment (take l.i l.moment);
 }

@@ -8,6 +8,7 @@ use Rattle.rheads.specs.declared.lines.Head.{Head}
 use Rattle.rheads.specs.Lines.{IsTurned, head_of}
 use Rattle.rheads.proofs.told.Heads.{get_set}
 use Rattle.rheads.proofs.told.Turns.{rise_held, rise_none, rise_told}
+use Rattle.rheads.proofs.told.Stayed.{get_beside}
 use Rattle.rheads.proofs.turns.rise_head.Goals as goal
 
 some_one : (a b : Head) → Some a ≡ Some b → a ≡ b
@@ -46,3 +47,10 @@ returns-then-has_seat-clause-turned c = λ lost gone touched m before rest write
     (ap (λ (k : Head). let g : Head = record { claim = k.claim; holds = true } in g) (sym c.index-now-at-then-has_seat.is ∙ is_3)) (ap (λ (k : Head). k.holds) (sym was ∙ c.index-now-at.is) ∙ c.if-now-at.false)
     (ap (contains c.args.came) (sym least) ∙ sym (c.has_seat.ensures (subst (λ k. k < SEATS) (sym least) low)) ∙ c.if-has_seat.true)
     (λ seat. get_set hs x.claim.seat h seat c.requires.now))
+
+pub returns-then-has_seat-clause-others : goal.returns-then-has_seat-clause-others
+returns-then-has_seat-clause-others c = λ seat other.
+    let hs = c.args.now.now in
+    let at = c.args.x.now.claim.seat in
+    let h : Head = record { claim = (slice_index_or hs at c.index-now-at-then-has_seat.result).claim; holds = true } in
+    get_beside hs at h seat c.requires.now other

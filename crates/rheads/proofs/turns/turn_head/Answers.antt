@@ -8,6 +8,7 @@ use Rattle.rheads.specs.Lines.{head_of, set_at, IsNoted}
 use Rattle.rheads.proofs.told.Heads.{behind_same}
 use Rattle.rheads.proofs.told.Reached.{earlier_all}
 use Rattle.rheads.proofs.told.Turns.{same_claim, turned_read}
+use Rattle.rheads.proofs.told.Stayed.{other_than}
 use Rattle.rheads.proofs.turns.turn_head.Goals as goal
 
 some_one : (a b : Head) → Some a ≡ Some b → a ≡ b
@@ -65,3 +66,12 @@ returns-clause-turned c = λ gone touched m rest next goes new within noted.
     let is : c.index-now-x.result ≡ head_of m x.claim = some_one _ _ (sym (slice_get_read hs (length hs) x.claim.seat c.index-now-x.result refl c.requires.now c.index-now-x.is) ∙ next.own write) in
     let same = ap (λ (h : Head). h.claim.seat) (sym (sym c.index-now-x.is ∙ is)) ∙ c.if-now-x.false in
     c.find_head.ensures.turned gone touched m rest next goes new (goes.one write same)
+
+pub returns-then-now-x-clause-others : goal.returns-then-now-x-clause-others
+returns-then-now-x-clause-others c = λ seat none. c.rise_head.ensures.others seat (other_than seat c.args.x.now c.if-not-x.false none)
+
+pub returns-then-not-meets-clause-others : goal.returns-then-not-meets-clause-others
+returns-then-not-meets-clause-others c = λ seat none. c.rise_head-then-not-meets.ensures.others seat (other_than seat c.args.x.now c.if-not-x.false none)
+
+pub returns-clause-others : goal.returns-clause-others
+returns-clause-others c = λ seat none. c.find_head.ensures.others seat (other_than seat c.args.x.now c.if-not-x.false none)

@@ -14,6 +14,7 @@ use Rattle.rcover.specs.Line.{least_of}
 use Rattle.rheads.specs.Lines.{IsBehind, HoldBehind, TellAt, GoesBy, HeadsTell, IsNext, IsNoted, IsTurned}
 use Rattle.rheads.proofs.Pairs.{all_get, drop_more}
 use Rattle.rheads.proofs.told.Leasts.{least_all}
+use Rattle.rheads.proofs.told.Stayed.{none_at}
 use Rattle.rheads.proofs.told.Turns.{AreHeld, AreTurned, heads_same, held_push, held_same, none_placed, none_told, placed_push, tells_same, turned_push, turned_still}
 use Rattle.rheads.proofs.turns.turn_heads.Goals as goal
 
@@ -39,6 +40,7 @@ loop-i-init c = record {
   len = refl;
   behind_len = refl;
   places_len = refl;
+  others = λ seat none. refl;
   placed = λ m tell by. none_placed c.args.places.now c.empty.result c.empty-2.result c.empty.ensures c.empty-2.ensures c.args.moment.now;
   told = λ m tell by. record {
     within = within_reflexive c.args.gone;
@@ -68,6 +70,7 @@ loop-i-preserved-then-not-has c =
       len = c.loop-i.invariant.len;
       behind_len = c.loop-i.invariant.behind_len;
       places_len = c.loop-i.invariant.places_len;
+      others = c.loop-i.invariant.others;
       placed = c.loop-i.invariant.placed;
       held = λ m tell by but.
           let are = subst (λ (ys : List Claimed). AreHeld lost.claim.seat c.loop-i.behind m n (take i n) ys) behind (c.loop-i.invariant.held m tell by but) in
@@ -117,6 +120,7 @@ loop-i-preserved c =
       len = c.turn_head.ensures.len ∙ c.loop-i.invariant.len;
       behind_len = c.turn_head.ensures.behind_len ∙ c.loop-i.invariant.behind_len;
       places_len = c.note_place.ensures.len ∙ c.loop-i.invariant.places_len;
+      others = λ seat none. c.turn_head.ensures.others seat (none_at seat n i x (omega arith) is none) ∙ c.loop-i.invariant.others seat none;
       placed = λ m tell by.
           placed_push now now' moves moves' lost m n x (turned m tell by) c.loop-i.places c.note_place.new.places i
           (λ seat. c.note_place.ensures.places seat ∙ ap (λ (y : Claimed). cond (y.claim.write_half && (seat == y.claim.seat)) (Some i) (slice_get c.loop-i.places seat)) (c.index-moment-i-in-loop-i.is ∙ get_or_default n i c.index-moment-i-in-loop-i.result x (omega arith) ∙ sym is))

@@ -1,4 +1,4 @@
-use Rattle.std.proofs.Common.{◌≡◌, ◌≢◌, ℕ, List, [], ◌∷◌, length, sym, ap, subst, ◌∙◌}
+use Rattle.std.proofs.Common.{◌≡◌, ◌≢◌, ℕ, List, [], ◌∷◌, length, slice_get, sym, ap, subst, ◌∙◌}
 use Rattle.std.specs.List.{AllByRecursion}
 use Rattle.std.specs.FinSet.{contains}
 use Rattle.rset.specs.Sets.{Set}
@@ -42,3 +42,8 @@ returns-clause-tell c = λ m tell by.
 
 pub returns-clause-placed : goal.returns-clause-placed
 returns-clause-placed c = λ m tell by. c.turn_heads-moves.ensures.placed m (subst (λ (hs : List Head). TellAt hs m c.args.moment.now) (sym c.deref_mut-2.ensures.value) tell) by
+
+pub returns-clause-others : goal.returns-clause-others
+returns-clause-others c = λ seat none.
+    let now = refilled_heads c.args.self.now.now c.turn_heads-moves.new.now (c.turn_heads-moves.ensures.len ∙ ap (λ (hs : List Head). length hs) c.deref_mut-2.ensures.value) in
+    ap (λ (hs : List Head). slice_get hs seat) now ∙ c.turn_heads-moves.ensures.others seat none ∙ ap (λ (hs : List Head). slice_get hs seat) c.deref_mut-2.ensures.value
