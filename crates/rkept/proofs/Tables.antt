@@ -55,8 +55,8 @@ module _ (m n : Moment) (old table table' : ℕ → Sections) (x : Claimed) (is 
   abbrev made : Sections
   made = kept_of m n (table x.claim.seat) x
 
-  -- nothing changes for a claim of another seat
-  other : (seat : ℕ) → (may_wait n x ≡ true → seat ≢ x.claim.seat) → table' seat ≡ table seat
+  -- nothing changes for another seat, nor for any where the claim does not wait
+  pub other : (seat : ℕ) → (may_wait n x ≡ true → seat ≢ x.claim.seat) → table' seat ≡ table seat
   other seat apart =
       is seat
       ∙ both_cases (may_wait n x)

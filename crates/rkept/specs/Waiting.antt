@@ -1,5 +1,5 @@
 -- What is noted of seats at a moment: which of them wait, ask and read, and what they read.
-use Rattle.std.specs.Prelude.{◌≡◌, Bool, true, false, nat_lt, not, ◌&&◌, ◌||◌, List}
+use Rattle.std.specs.Prelude.{◌≡◌, ◌≢◌, ℕ, Bool, true, false, nat_lt, not, ◌&&◌, ◌||◌, List}
 use Rattle.std.specs.List.{AllByRecursion}
 use Rattle.std.specs.FinSet.{contains, len}
 use Rattle.rset.specs.Sets.{Set}
@@ -17,6 +17,10 @@ some_wait n x = may_wait n x || nat_lt 0 (len x.asked)
 -- the seats of all claims that wait are among these
 abbrev pub HoldWaiting : Set → Moment → Type 0
 HoldWaiting seats n = AllByRecursion (λ x. some_wait n x ≡ true → contains seats x.claim.seat ≡ true) n
+
+-- no claim of a seat waits at a moment
+abbrev pub NoneWaits : Moment → ℕ → Type 0
+NoneWaits n seat = AllByRecursion (λ x. may_wait n x ≡ true → seat ≢ x.claim.seat) n
 
 -- a claim of one of these seats is not satisfied
 abbrev pub is_rising : Set → Claimed → Bool

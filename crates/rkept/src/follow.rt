@@ -11,7 +11,7 @@ ghost use Rattle.rcover.specs.Lists.{AreAtMost};
 ghost use Rattle.std.specs.FinSet.{contains};
 ghost use Rattle.rcover.specs.Moments.{Moment};
 ghost use Rattle.rcover.specs.Told.{waits_to_rise};
-ghost use Rattle.rkept.specs.Waiting.{HoldWaiting, HoldReading, TellWanted, is_rising, TellRising};
+ghost use Rattle.rkept.specs.Waiting.{HoldWaiting, HoldReading, NoneWaits, TellWanted, is_rising, TellRising};
 ghost use Rattle.rheads.specs.Lines.{HeadsTell, StandsAt, ArePlaced};
 ghost use Rattle.rkept.specs.Due.{ReadStays, is_looked_at, is_write_of_these, is_due, StoodBy};
 ghost use Rattle.rstretch.specs.Begun.{rises_at};
@@ -233,6 +233,7 @@ fn keep_looked(
     requires apart { EachPair (WaitApart next.now) next.now }
     requires few { AllByRecursion (λ x. may_wait next.now x ≡ true → AreAtMost SEATS (kept_of last.now next.now (table_of runs.old x.claim.seat) x)) next.now }
     ensures kept { AllByRecursion (λ x. may_wait next.now x ≡ true → table_of runs.new x.claim.seat ≡ kept_of last.now next.now (table_of runs.old x.claim.seat) x) next.now }
+    ensures others { (seat : ℕ) → NoneWaits next.now seat → table_of runs.new seat ≡ table_of runs.old seat }
     ensures room { AllByRecursion HasRoom runs.new }
     ensures len { length runs.new ≡ length runs.old }
     ensures lengths { (len : Claim → ℕ) → AreOf (length_by lengths.now) len last.now → AreOf (length_by lengths.now) len next.now → AllByRecursion (AreLong len) runs.old → AllByRecursion (AreLong len) runs.new }
@@ -288,6 +289,7 @@ fn keep_writes(
     requires apart { EachPair (WaitApart next.now) next.now }
     requires few { AllByRecursion (λ x. may_wait next.now x ≡ true → AreAtMost SEATS (kept_of last.now next.now (table_of runs.old x.claim.seat) x)) next.now }
     ensures kept { AllByRecursion (λ x. may_wait next.now x ≡ true → table_of runs.new x.claim.seat ≡ kept_of last.now next.now (table_of runs.old x.claim.seat) x) next.now }
+    ensures others { (seat : ℕ) → NoneWaits next.now seat → table_of runs.new seat ≡ table_of runs.old seat }
     ensures room { AllByRecursion HasRoom runs.new }
     ensures len { length runs.new ≡ length runs.old }
     ensures lengths { (len : Claim → ℕ) → AreOf (length_by lengths.now) len last.now → AreOf (length_by lengths.now) len next.now → AllByRecursion (AreLong len) runs.old → AllByRecursion (AreLong len) runs.new }
@@ -309,8 +311,8 @@ fn keep_writes(
 /// Brings what is kept of the waits of all seats from the `last` moment to the `next`, the one behind an event: each wait there
 /// stood before it, but for that of an upgrade that rises. Of each claim that waits at the next moment, before it holds anything or
 /// to rise, the run of its seat keeps just what is due (`kept_of`): nothing where the wait begins, and else what it kept, with what
-/// is taken for the stretches that are over. Of other seats nothing is said. Lengths are in units, and those that are kept stay
-/// right where `lengths` are. There are as many runs as before, each with its room, and no memory is taken.
+/// is taken for the stretches that are over. The runs of all other seats keep what they kept. Lengths are in units, and those that
+/// are kept stay right where `lengths` are. There are as many runs as before, each with its room, and no memory is taken.
 ///
 /// No seats wait at the next moment but those `waiting`; which claims wait to rise is told by the seats that rose; and no seats have
 /// a claim that reads but those `reading`, each what is `wanted` of its seat. Where a read reads nothing that is `written`, the
@@ -353,6 +355,7 @@ pub fn keep(
     requires apart { EachPair (WaitApart next.now) next.now }
     requires few { AllByRecursion (λ x. may_wait next.now x ≡ true → AreAtMost SEATS (kept_of last.now next.now (table_of runs.old x.claim.seat) x)) next.now }
     ensures kept { AllByRecursion (λ x. may_wait next.now x ≡ true → table_of runs.new x.claim.seat ≡ kept_of last.now next.now (table_of runs.old x.claim.seat) x) next.now }
+    ensures others { (seat : ℕ) → NoneWaits next.now seat → table_of runs.new seat ≡ table_of runs.old seat }
     ensures room { AllByRecursion HasRoom runs.new }
     ensures len { length runs.new ≡ length runs.old }
     ensures lengths { (len : Claim → ℕ) → AreOf (length_by lengths.now) len last.now → AreOf (length_by lengths.now) len next.now → AllByRecursion (AreLong len) runs.old → AllByRecursion (AreLong len) runs.new }

@@ -1,4 +1,4 @@
-use Rattle.std.proofs.Common.{◌≡◌, ◌<◌, true, ◌+◌, ◌++◌, ◌∷◌, [], ℕ, List, get_or, length, take, drop, refl, sym, ap, subst, arith, ◌∙◌}
+use Rattle.std.proofs.Common.{◌≡◌, ◌≢◌, ◌<◌, true, ◌+◌, ◌++◌, ◌∷◌, [], ℕ, List, get_or, length, take, drop, refl, sym, ap, subst, arith, ◌∙◌}
 use Rattle.std.proofs.lemmas.List.{take_more, take-append-drop}
 use Rattle.rmodel.specs.declared.claimed.Claimed.{Claimed}
 use Rattle.rmodel.specs.WellFormed.{EachPair}
@@ -8,7 +8,7 @@ use Rattle.rcover.specs.Sections.{Sections}
 use Rattle.rkept.specs.Follow.{table_of, kept_with}
 use Rattle.rstretch.specs.Kept.{length_by, WaitApart, may_wait}
 use Rattle.rheads.proofs.Pairs.{drop_more, all_get}
-use Rattle.rkept.proofs.Tables.{Done, Rest, kept_step}
+use Rattle.rkept.proofs.Tables.{Done, Rest, kept_step, other}
 use Rattle.rkept.proofs.follow.keep_looked.Goals as goal
 
 pub loop-x-init : goal.loop-x-init
@@ -16,6 +16,7 @@ loop-x-init c = record {
   taken = c.none_taken-taken.ensures c.args.lengths.now c.args.last.now;
   done = tt;
   rest = all_from (λ x. may_wait c.args.next.now x ≡ true → table_of c.args.runs.now x.claim.seat ≡ table_of c.args.runs.now x.claim.seat) c.args.next.now (λ x there _. refl);
+  others = λ seat none. refl;
   room = c.requires.room;
   len = refl;
   lengths = λ len are_m are_n have. have;
@@ -43,6 +44,10 @@ loop-x-preserved c =
       taken = c.keep_at.ensures.taken;
       done = made.0;
       rest = made.1;
+      others = λ seat none.
+          other m n (table_of c.args.runs.now) (table_of c.loop-x.runs) (table_of c.keep_at.new.runs) x c.keep_at.ensures.kept seat
+          (subst (λ (y : Claimed). may_wait n y ≡ true → seat ≢ y.claim.seat) (sym c.x-item.is) (all_get (λ y. may_wait n y ≡ true → seat ≢ y.claim.seat) n i x none (omega arith)))
+          ∙ c.loop-x.invariant.others seat none;
       room = c.keep_at.ensures.room;
       len = c.keep_at.ensures.len ∙ c.loop-x.invariant.len;
       lengths = λ len are_m are_n have.

@@ -1,4 +1,4 @@
-use Rattle.std.proofs.Common.{◌≡◌, ◌<◌, ◌==◌, ◌||◌, ◌∷◌, true, false, ℕ, List, length, refl, sym, ap, subst, arith, ◌∙◌}
+use Rattle.std.proofs.Common.{◌≡◌, ◌≢◌, ◌<◌, ◌==◌, ◌||◌, ◌∷◌, true, false, ℕ, List, length, refl, sym, ap, subst, arith, ◌∙◌}
 use Rattle.std.proofs.lemmas.Bool.{and_parts, or_right, eq-eqb}
 use Rattle.std.specs.List.{list_any}
 use Rattle.std.specs.List.Sorted.{IsStrictlyIncreasing}
@@ -16,7 +16,7 @@ use Rattle.rstretch.specs.Kept.{length_by, may_wait, kept_of}
 use Rattle.rheads.specs.Lines.{HeadsTell}
 use Rattle.rkept.specs.Due.{is_write_of_these, StoodBy}
 use Rattle.rkept.specs.Waiting.{is_rising}
-use Rattle.rkept.proofs.Tables.{Visited, comes_once, first_kept, visited_all, visited_none, visited_push}
+use Rattle.rkept.proofs.Tables.{Visited, comes_once, first_kept, other, visited_all, visited_none, visited_push}
 use Rattle.rkept.proofs.follow.keep_writes.Goals as goal
 
 -- the first of some seats stands among them
@@ -37,6 +37,7 @@ loop-seat-init c =
       visited =
           visited_none c.args.last.now c.args.next.now looked (table_of c.args.runs.now) (rising c.into_iter-seat-iterator.result)
           (λ seat on. ap (λ s. list_any (λ k. k == seat) (rising s)) whole ∙ rising_has looked c.iter-seat-items.ensures.within seat ∙ on) c.args.next.now;
+      others = λ seat none. refl;
       room = c.requires.room;
       len = refl;
       lengths = λ len are_m are_n have. have;
@@ -105,6 +106,9 @@ loop-seat-preserved c =
       visited =
           visited_push m n c.args.looked old table left x there c.write_at-x.ensures.write seen (once s x.claim.seat c.loop-seat.seat-iterator left steps own) c.requires.one_each c.requires.apart visited
           (table_of c.keep_due.new.runs) c.keep_due.ensures.kept;
+      others = λ seat none.
+          other m n old table (table_of c.keep_due.new.runs) x c.keep_due.ensures.kept seat (all_at (λ y. may_wait n y ≡ true → seat ≢ y.claim.seat) n x none there)
+          ∙ c.loop-seat.invariant.others seat none;
       room = c.keep_due.ensures.room;
       len = c.keep_due.ensures.len ∙ c.loop-seat.invariant.len;
       lengths = λ len are_m are_n have.

@@ -5,6 +5,7 @@ use Rattle.rset.specs.Sets.{rising}
 use Rattle.rclaim.specs.declared.claim.Claim.{Claim}
 use Rattle.rkept.specs.Follow.{table_of}
 use Rattle.rstretch.specs.Kept.{length_by, HasRoom, IsTaken, AreLong, AreOf}
+use Rattle.rkept.specs.Waiting.{NoneWaits}
 use Rattle.rkept.proofs.Tables.{Visited}
 use Rattle.rkept.proofs.follow.keep_writes.Given as goal
 
@@ -13,6 +14,7 @@ invariant-loop-seat l = record {
   taken : IsTaken l.lengths l.last l.taken;
   within : (seat : ℕ) → list_any (λ k. k == seat) (rising l.seat-iterator) ≡ true → contains l.fn.looked seat ≡ true;
   visited : Visited l.last l.next l.fn.looked (table_of l.initial.runs) (table_of l.runs) (rising l.seat-iterator) l.next;
+  others : (seat : ℕ) → NoneWaits l.next seat → table_of l.runs seat ≡ table_of l.initial.runs seat;
   room : AllByRecursion HasRoom l.runs;
   len : length l.runs ≡ length l.initial.runs;
   lengths : (len : Claim → ℕ) → AreOf (length_by l.lengths) len l.last → AreOf (length_by l.lengths) len l.next → AllByRecursion (AreLong len) l.initial.runs → AllByRecursion (AreLong len) l.runs;
