@@ -4,3 +4,6 @@ use Rattle.io_ends.proofs.reading.make_room.Goals as goal
 
 pub returns-clause-short : goal.returns-clause-short
 returns-clause-short c = grind (arith, common_steps)
+
+pub returns-clause-front : goal.returns-clause-front
+returns-clause-front c = grind (arith, common_steps)

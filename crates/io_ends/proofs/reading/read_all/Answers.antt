@@ -1,4 +1,5 @@
 use Rattle.std.proofs.Common.{◌≡◌, ◌∙◌, ◌<◌, take, drop, length, rules, arith, length-drop}
+use Rattle.std.proofs.lemmas.Grind.{common_steps}
 use Rattle.std.proofs.lemmas.List.{with_items_is, places}
 use Rattle.io_ends.proofs.Taking.{HoldsTaken-more, HoldsTaken-whole}
 use Rattle.io_ends.proofs.reading.read_all.Goals as goal
@@ -27,3 +28,9 @@ loop-filled-preserved g c =
       held = rw now (HoldsTaken-more _ _ _ c.loop-filled.bytes.items (drop filled c.deref_mut.result.now) c.read_behind.new.buffer filled c.in_ok-given.given before.held front given);
       quiet = c.in_ok-given.ensures.quiet ∙ before.quiet;
     }
+
+pub returns-then-given-eq0-clause-ended : goal.returns-then-given-eq0-clause-ended
+returns-then-given-eq0-clause-ended g c = grind (arith, common_steps)
+
+pub overflow_add-filled : goal.overflow_add-filled
+overflow_add-filled g c = grind (arith, common_steps)

@@ -1,4 +1,5 @@
 use Rattle.std.proofs.Common.{◌∙◌, arith, length-drop}
+use Rattle.std.proofs.lemmas.Grind.{common_steps}
 use Rattle.std.proofs.lemmas.List.{take_rest}
 use Rattle.io_ends.proofs.Appending.{Appends-more}
 use Rattle.io_ends.proofs.writing.write_all.Goals as goal
@@ -14,3 +15,6 @@ loop-done-preserved g c =
       written = Appends-more _ _ _ bytes done c.in_ok-taken.taken before.written (rw (take_rest bytes done) at taken.told);
       quiet = c.in_ok-taken.ensures.quiet ∙ before.quiet;
     }
+
+pub returns-clause-whole : goal.returns-clause-whole
+returns-clause-whole g c = grind (arith, common_steps)
