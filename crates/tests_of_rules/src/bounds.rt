@@ -1,6 +1,7 @@
 // Tests of `rbound`: bounds that were worked by hand.
 ghost use Rattle.std.specs.Prelude.{◌≡◌, ◌≤◌, ◌<◌, length};
 
+use crate::groups::two_groups;
 use rbound::{Bound, Needs, Which, bound_of};
 use rclaim::{Kind, Request};
 use rexpand::Groups;
@@ -58,41 +59,63 @@ fn is_bound(
 }
 
 // One task reads two resources of one group, two others write one of them each.
-fn bounds_a_reader(alloc: Global) -> Result<bool, Fail> {
-    let (a, b, c) = (
-        ResourceSet::one(0),
-        ResourceSet::one(1),
-        ResourceSet::one(2),
-    );
-    let mut groups = Groups::new(alloc, RESOURCES as u8)?;
-    let _ = (a.union(b).len(), b.union(c).len());
-    groups.declare(a.union(b))?;
-    groups.declare(b.union(c))?;
-    let mut needs = Needs::new(alloc, groups, 3)?;
-    push(&mut needs, 0, Kind::Read, a.union(b), 3, 0)?;
-    push(&mut needs, 1, Kind::Write, a, 2, 0)?;
-    push(&mut needs, 2, Kind::Write, b, 5, 0)?;
+fn need_a_reader(needs: &mut Needs) -> Result<(), Fail>
+    requires q { needs.old.groups.q ≡ RESOURCES }
+    requires tasks { length needs.old.tasks ≡ 3 }
+    ensures { length needs.new.tasks ≡ 3 }
+{
+    let (a, b) = (ResourceSet::one(0), ResourceSet::one(1));
+    push(needs, 0, Kind::Read, a.union(b), 3, 0)?;
+    push(needs, 1, Kind::Write, a, 2, 0)?;
+    push(needs, 2, Kind::Write, b, 5, 0)
+}
+
+// Their bounds.
+fn are_bounds_of_a_reader(alloc: Global, needs: &Needs) -> Result<bool, Fail>
+    requires { length needs.now.tasks ≡ 3 }
+{
     Ok(
-        is_bound(alloc, &needs, 3, 0, Which::First, (0, 1, 5))?
-            && is_bound(alloc, &needs, 3, 1, Which::First, (2, 1, 11))?
-            && is_bound(alloc, &needs, 3, 2, Which::First, (2, 1, 8))?,
+        is_bound(alloc, needs, 3, 0, Which::First, (0, 1, 5))?
+            && is_bound(alloc, needs, 3, 1, Which::First, (2, 1, 11))?
+            && is_bound(alloc, needs, 3, 2, Which::First, (2, 1, 8))?,
     )
 }
 
+fn bounds_a_reader(alloc: Global) -> Result<bool, Fail> {
+    let mut needs = Needs::new(alloc, two_groups(alloc)?, 3)?;
+    need_a_reader(&mut needs)?;
+    are_bounds_of_a_reader(alloc, &needs)
+}
+
 // Three tasks write a resource, and a fourth may rise to write it.
-fn bounds_an_upgrade(alloc: Global) -> Result<bool, Fail> {
+fn need_an_upgrade(needs: &mut Needs) -> Result<(), Fail>
+    requires q { needs.old.groups.q ≡ RESOURCES }
+    requires tasks { length needs.old.tasks ≡ 4 }
+    ensures { length needs.new.tasks ≡ 4 }
+{
     let a = ResourceSet::one(0);
+    push(needs, 3, Kind::Upgrade, a, 1, 3)?;
+    push(needs, 0, Kind::Write, a, 2, 0)?;
+    push(needs, 1, Kind::Write, a, 2, 0)?;
+    push(needs, 2, Kind::Write, a, 2, 0)
+}
+
+// Their bounds.
+fn are_bounds_of_an_upgrade(alloc: Global, needs: &Needs) -> Result<bool, Fail>
+    requires { length needs.now.tasks ≡ 4 }
+{
+    Ok(
+        is_bound(alloc, needs, 4, 0, Which::First, (4, 3, 11))?
+            && is_bound(alloc, needs, 4, 3, Which::First, (0, 1, 2))?
+            && is_bound(alloc, needs, 4, 3, Which::Rise, (0, 3, 6))?,
+    )
+}
+
+fn bounds_an_upgrade(alloc: Global) -> Result<bool, Fail> {
     let groups = Groups::new(alloc, RESOURCES as u8)?;
     let mut needs = Needs::new(alloc, groups, 4)?;
-    push(&mut needs, 3, Kind::Upgrade, a, 1, 3)?;
-    push(&mut needs, 0, Kind::Write, a, 2, 0)?;
-    push(&mut needs, 1, Kind::Write, a, 2, 0)?;
-    push(&mut needs, 2, Kind::Write, a, 2, 0)?;
-    Ok(
-        is_bound(alloc, &needs, 4, 0, Which::First, (4, 3, 11))?
-            && is_bound(alloc, &needs, 4, 3, Which::First, (0, 1, 2))?
-            && is_bound(alloc, &needs, 4, 3, Which::Rise, (0, 3, 6))?,
-    )
+    need_an_upgrade(&mut needs)?;
+    are_bounds_of_an_upgrade(alloc, &needs)
 }
 
 #[test]

@@ -44,8 +44,13 @@ fn has_room(alloc: Global) -> Result<bool, AllocError> {
         reads: ResourceSet::one(3),
         writes: ResourceSet::empty(),
     });
-    let status = clone_of_status_change(&changes.statuses[0])?;
-    let grant = clone_of_grant_change(&changes.grants[0])?;
+    are_cloned(&changes.statuses[0], &changes.grants[0])
+}
+
+// The changes that it has are cloned.
+fn are_cloned(status: &StatusChange, grant: &GrantChange) -> Result<bool, AllocError> {
+    let status = clone_of_status_change(status)?;
+    let grant = clone_of_grant_change(grant)?;
     Ok(status.seat == 2 && grant.seat == 1)
 }
 

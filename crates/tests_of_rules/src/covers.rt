@@ -1,10 +1,13 @@
 // Tests of `rcover` and `rwaits`: covers that were worked by hand.
-ghost use Rattle.std.specs.Prelude.{◌≡◌, OnOk, IfOk};
+ghost use Rattle.std.specs.Prelude.{◌≡◌, [], OnOk, IfOk};
 ghost use Rattle.rset.specs.declared.TheConstants.{RESOURCES};
 ghost use Rattle.rmodel.specs.State.{opening};
 ghost use Rattle.rmodel.specs.Steps.{Fits};
-ghost use Rattle.tests_of_rules.specs.Stories.{IsStory};
+ghost use Rattle.rwaits.specs.Follows.{Follows};
+ghost use Rattle.rwaits.specs.Knows.{Knows};
+ghost use Rattle.tests_of_rules.specs.Stories.{IsStory, past};
 
+use crate::groups::two_groups;
 use rbound::Which;
 use rclaim::{Event, Kind, Request};
 use rcover::WaitEnd;
@@ -50,6 +53,16 @@ struct Turn {
     second: Option<WaitEnd>,
 }
 
+// Those who follow a story of four seats over these groups, and who were told no event of it.
+fn followers(alloc: Global, groups: &Groups) -> Result<(Following, Covers), Fail>
+    ensures follows { IfOk result (λ r. Follows r.0 (past groups.now 4 [])) }
+    ensures told { IfOk result (λ r. Knows r.1 (past groups.now 4 [])) }
+{
+    let covers = Covers::new(alloc, groups.copy(alloc)?, 4, 4)?;
+    let following = Following::new(alloc)?;
+    Ok((following, covers))
+}
+
 // A story with no event, over a machine that took none.
 fn tell(alloc: Global, machine: Plain, groups: Groups) -> Result<Story, Fail>
     requires resources { groups.q ≡ RESOURCES }
@@ -57,8 +70,7 @@ fn tell(alloc: Global, machine: Plain, groups: Groups) -> Result<Story, Fail>
     requires state { machine.state ≡ opening groups 4 4 }
     ensures { IfOk result (λ story. IsStory story.groups story.seats story.events.items story.machine.state story.following story.covers) }
 {
-    let covers = Covers::new(alloc, groups.copy(alloc)?, 4, 4)?;
-    let following = Following::new(alloc)?;
+    let (following, covers) = followers(alloc, &groups)?;
     Ok(Story {
         machine,
         following,
@@ -73,11 +85,7 @@ fn tell(alloc: Global, machine: Plain, groups: Groups) -> Result<Story, Fail>
 fn begin(alloc: Global) -> Result<Story, Fail>
     ensures { IfOk result (λ story. IsStory story.groups story.seats story.events.items story.machine.state story.following story.covers) }
 {
-    let mut groups = Groups::new(alloc, RESOURCES as u8)?;
-    let (first, second) = (set(&[0, 1]), set(&[1, 2]));
-    let _ = (first.len(), second.len());
-    groups.declare(first)?;
-    groups.declare(second)?;
+    let groups = two_groups(alloc)?;
     let machine = Plain::new(alloc, groups.copy(alloc)?, 4, 4)?;
     tell(alloc, machine, groups)
 }
@@ -388,12 +396,17 @@ fn leaves(alloc: Global) -> Result<bool, Fail> {
     )
 }
 
-#[test]
-fn covers_are_those_worked_by_hand(rt: HostRuntime) -> Result<(), Fail> {
-    let alloc = rt.alloc();
+// Whether all these stories are told right.
+fn all_are_right(alloc: Global) -> Result<bool, Fail> {
     let writes = phases(alloc)? && places(alloc)? && reads_between(alloc)?;
     let lines = both_wait(alloc)? && reading_beside(alloc)? && line_changes(alloc)?;
     let upgrades = stays(alloc)? && rises(alloc)?;
-    assert!(rt; writes && lines && upgrades && asks(alloc)? && leaves(alloc)?);
+    Ok(writes && lines && upgrades && asks(alloc)? && leaves(alloc)?)
+}
+
+#[test]
+fn covers_are_those_worked_by_hand(rt: HostRuntime) -> Result<(), Fail> {
+    let right = all_are_right(rt.alloc())?;
+    assert!(rt; right);
     Ok(())
 }

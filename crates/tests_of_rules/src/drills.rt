@@ -61,29 +61,50 @@ fn is_summary(alloc: Global, count: u32, due: &str) -> Result<bool, Fail>
     let mut machine: Plain = drill_machine(alloc)?;
     let mut watchers = counters(alloc)?;
     drill(&mut machine, &mut watchers, count);
+    is_summary_of(alloc, count, &watchers, &machine, due)
+}
+
+// The same, of a drill that was made.
+fn is_summary_of(
+    alloc: Global,
+    count: u32,
+    watchers: &Watchers,
+    machine: &Plain,
+    due: &str,
+) -> Result<bool, Fail> {
     let mut text = summary_room(alloc, watchers.len())?;
-    push_summary(&mut text, count, &watchers, &machine);
+    push_summary(&mut text, count, watchers, machine);
     Ok(text.as_slice() == due.as_bytes())
 }
 
-// Whether a recorder that has room for five events keeps those of a drill of five.
-fn is_recorded(alloc: Global) -> Result<bool, Fail> {
-    let mut machine: Plain = drill_machine(alloc)?;
+// A recorder of issues that has room for five events.
+fn recorder(alloc: Global) -> Result<Watchers, Fail> {
     let mut list = Vec::new(alloc);
     let recorder: Box<dyn Watcher + Send> = Box::new(
         alloc,
         Recorder::new(alloc, WatchKind::Issues, 5)?,
     )?;
     list.push(recorder)?;
-    let mut watchers = Watchers::new(list);
+    Ok(Watchers::new(list))
+}
+
+// Whether it keeps the events of a drill of five.
+fn is_recorded(alloc: Global) -> Result<bool, Fail> {
+    let mut machine: Plain = drill_machine(alloc)?;
+    let mut watchers = recorder(alloc)?;
     drill(&mut machine, &mut watchers, 5);
+    Ok(has_recorded(&watchers))
+}
+
+// Whether these are the events that it has kept.
+fn has_recorded(watchers: &Watchers) -> bool {
     if watchers.len() != 1 {
-        return Ok(false);
+        return false;
     }
     let begins = is_event(watchers.event_of(0, 0), 5, false);
     let ends = is_event(watchers.event_of(0, 4), 5, true);
     let no_more = watchers.event_of(0, 5).is_none();
-    Ok(begins && ends && no_more && watchers.count_of(0) == 3)
+    begins && ends && no_more && watchers.count_of(0) == 3
 }
 
 // Whether it is an issue of this seat, or its finish.

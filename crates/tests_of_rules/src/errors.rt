@@ -14,31 +14,50 @@ fn is_worded<E: Display>(alloc: Global, error: &E, words: &str) -> Result<bool, 
     Ok(told.as_str() == words)
 }
 
+// Whether each error of a table is told in the words beside it.
+fn are_worded<E: Display>(alloc: Global, table: &[(E, &str)]) -> Result<bool, Fail> {
+    for (error, words) in table {
+        if !is_worded(alloc, error, words)? {
+            return Ok(false);
+        }
+    }
+    Ok(true)
+}
+
 fn devices(alloc: Global) -> Result<bool, Fail> {
+    let reading = [
+        (ReadErr::ReadFault, "reading failed"),
+        (ReadErr::TooLong, "the input is too long"),
+        (ReadErr::Memory, "out of memory"),
+    ];
     Ok(
         is_worded(alloc, &Failed, "the device failed")?
             && is_worded(alloc, &WriteFault, "writing failed")?
-            && is_worded(alloc, &ReadErr::ReadFault, "reading failed")?
-            && is_worded(alloc, &ReadErr::TooLong, "the input is too long")?
-            && is_worded(alloc, &ReadErr::Memory, "out of memory")?,
+            && are_worded(alloc, &reading)?,
     )
 }
 
 fn names(alloc: Global) -> Result<bool, Fail> {
     let bad = "no name: 1 to 16 of a to z, 0 to 9 and _ that begin with a letter";
-    Ok(
-        is_worded(alloc, &NameErr::BadName, bad)?
-            && is_worded(alloc, &NameErr::Repeated, "the name is there already")?
-            && is_worded(alloc, &NameErr::TooMany, "too many names")?
-            && is_worded(alloc, &NameErr::Memory, "out of memory")?,
+    are_worded(
+        alloc,
+        &[
+            (NameErr::BadName, bad),
+            (NameErr::Repeated, "the name is there already"),
+            (NameErr::TooMany, "too many names"),
+            (NameErr::Memory, "out of memory"),
+        ],
     )
 }
 
 fn groups(alloc: Global) -> Result<bool, Fail> {
-    Ok(
-        is_worded(alloc, &GroupErr::EmptyGroup, "the group has no member")?
-            && is_worded(alloc, &GroupErr::TooMany, "too many groups")?
-            && is_worded(alloc, &GroupErr::Memory, "out of memory")?,
+    are_worded(
+        alloc,
+        &[
+            (GroupErr::EmptyGroup, "the group has no member"),
+            (GroupErr::TooMany, "too many groups"),
+            (GroupErr::Memory, "out of memory"),
+        ],
     )
 }
 
@@ -46,10 +65,13 @@ fn requests(alloc: Global) -> Result<bool, Fail> {
     let empty = "the request has nothing to read, or nothing to write";
     let undeclared = "the resources to read are not declared together";
     let outside = "the first part is empty or not within the request";
-    Ok(
-        is_worded(alloc, &RequestErr::EmptyRequest, empty)?
-            && is_worded(alloc, &RequestErr::Undeclared, undeclared)?
-            && is_worded(alloc, &RequestErr::FirstOutside, outside)?,
+    are_worded(
+        alloc,
+        &[
+            (RequestErr::EmptyRequest, empty),
+            (RequestErr::Undeclared, undeclared),
+            (RequestErr::FirstOutside, outside),
+        ],
     )
 }
 
@@ -60,20 +82,28 @@ fn events(alloc: Global) -> Result<bool, Fail> {
     let rise = "the seat's request is no upgrade, or it has risen";
     let nested = "the seat's request is not nested";
     let ask = "what is asked for is empty, or not within what the request reads and writes";
-    Ok(
-        is_worded(alloc, &Refused::SeatBusy, busy)?
-            && is_worded(alloc, &Refused::Full, full)?
-            && is_worded(alloc, &Refused::NotHolding, none)?
-            && is_worded(alloc, &Refused::NotUpgradeable, rise)?
-            && is_worded(alloc, &Refused::NotNested, nested)?
-            && is_worded(alloc, &Refused::AskOutside, ask)?,
+    are_worded(
+        alloc,
+        &[
+            (Refused::SeatBusy, busy),
+            (Refused::Full, full),
+            (Refused::NotHolding, none),
+            (Refused::NotUpgradeable, rise),
+            (Refused::NotNested, nested),
+            (Refused::AskOutside, ask),
+        ],
     )
+}
+
+// Whether all errors are told in their words.
+fn all_are_worded(alloc: Global) -> Result<bool, Fail> {
+    let below = devices(alloc)? && names(alloc)? && groups(alloc)?;
+    Ok(below && requests(alloc)? && events(alloc)?)
 }
 
 #[test]
 fn errors_are_told_in_their_words(rt: HostRuntime) -> Result<(), Fail> {
-    let below = devices(rt.alloc())? && names(rt.alloc())? && groups(rt.alloc())?;
-    let above = requests(rt.alloc())? && events(rt.alloc())?;
-    assert!(rt; below && above);
+    let worded = all_are_worded(rt.alloc())?;
+    assert!(rt; worded);
     Ok(())
 }

@@ -56,37 +56,59 @@ pub fn has_added(report: &Report, entries: usize, edits: &[u64]) -> bool {
     true
 }
 
-#[test]
-fn upgrades_rise_among_readers(rt: HostRuntime) -> Result<(), Fail> {
-    let alloc = rt.alloc();
-    let mut text = Vec::new(alloc);
+// Whether the run of a script has so many entries, and each resource so many edits, as `has_added` says.
+fn adds<R: Threads + Wait + Sync>(
+    rt: &R,
+    alloc: Global,
+    text: &[u8],
+    entries: usize,
+    edits: &[u64],
+) -> bool {
+    match report_of(rt, alloc, text) {
+        Some(report) => has_added(&report, entries, edits),
+        None => false,
+    }
+}
+
+// A script of two tasks that rise, and two that read.
+fn push_rising(text: &mut Vec<u8>) -> Result<(), AllocError> {
     text.extend_from_slice(b"rnlp,1\nresource,a\n")?;
     let rising = "upgrade,a,1,1\nshow,a\nrise\nadd,a,1\nshow,a\nfinish\n";
-    push_task(&mut text, "u1", rising, 50)?;
-    push_task(&mut text, "u2", rising, 50)?;
+    push_task(text, "u1", rising, 50)?;
+    push_task(text, "u2", rising, 50)?;
     let reading = "read,a,1\nshow,a\nfinish\n";
-    push_task(&mut text, "r1", reading, 50)?;
-    push_task(&mut text, "r2", reading, 50)?;
-    text.extend_from_slice(b"end\n")?;
-    let report = report_of(&rt, alloc, text.as_slice());
-    assert!(rt; report.is_some_and(|report| has_added(&report, 500, &[100])));
+    push_task(text, "r1", reading, 50)?;
+    push_task(text, "r2", reading, 50)?;
+    text.extend_from_slice(b"end\n")
+}
+
+#[test]
+fn upgrades_rise_among_readers(rt: HostRuntime) -> Result<(), Fail> {
+    let mut text = Vec::new(rt.alloc());
+    push_rising(&mut text)?;
+    let added = adds(&rt, rt.alloc(), text.as_slice(), 500, &[100]);
+    assert!(rt; added);
     Ok(())
+}
+
+// A script of two tasks that ask, and two that hold what they ask for.
+fn push_asking(text: &mut Vec<u8>) -> Result<(), AllocError> {
+    text.extend_from_slice(b"rnlp,1\nresource,a\nresource,b\n")?;
+    let from_a = "nested,-,a+b,a,1\nadd,a,1\nask,b\nadd,b,1\nshow,a\nfinish\n";
+    push_task(text, "n1", from_a, 50)?;
+    let from_b = "nested,-,a+b,b,1\nadd,b,1\nask,a\nadd,a,1\nshow,b\nfinish\n";
+    push_task(text, "n2", from_b, 50)?;
+    push_task(text, "w", "write,b,1\nadd,b,1\nfinish\n", 50)?;
+    push_task(text, "m", "mixed,b,a,1\nshow,b\nadd,a,1\nfinish\n", 50)?;
+    text.extend_from_slice(b"end\n")
 }
 
 #[test]
 fn nested_requests_ask_while_others_hold(rt: HostRuntime) -> Result<(), Fail> {
-    let alloc = rt.alloc();
-    let mut text = Vec::new(alloc);
-    text.extend_from_slice(b"rnlp,1\nresource,a\nresource,b\n")?;
-    let from_a = "nested,-,a+b,a,1\nadd,a,1\nask,b\nadd,b,1\nshow,a\nfinish\n";
-    push_task(&mut text, "n1", from_a, 50)?;
-    let from_b = "nested,-,a+b,b,1\nadd,b,1\nask,a\nadd,a,1\nshow,b\nfinish\n";
-    push_task(&mut text, "n2", from_b, 50)?;
-    push_task(&mut text, "w", "write,b,1\nadd,b,1\nfinish\n", 50)?;
-    push_task(&mut text, "m", "mixed,b,a,1\nshow,b\nadd,a,1\nfinish\n", 50)?;
-    text.extend_from_slice(b"end\n")?;
-    let report = report_of(&rt, alloc, text.as_slice());
-    assert!(rt; report.is_some_and(|report| has_added(&report, 500, &[150, 150])));
+    let mut text = Vec::new(rt.alloc());
+    push_asking(&mut text)?;
+    let added = adds(&rt, rt.alloc(), text.as_slice(), 500, &[150, 150]);
+    assert!(rt; added);
     Ok(())
 }
 
@@ -99,15 +121,22 @@ fn audited(alloc: Global, report: &Report) -> Option<u64>
     let Ok(mut sink) = MemSink::new(alloc, 1 << 20, Vec::new(alloc)) else {
         return None;
     };
-    if write_report(alloc, report, &mut sink).is_err() {
-        return None;
+    match write_report(alloc, report, &mut sink) {
+        Ok(()) => events_told(alloc, sink.written()),
+        Err(_) => None,
     }
-    let Ok(bytes) = Vec::from_slice(alloc, sink.written()) else {
+}
+
+// The same of what was written.
+fn events_told(alloc: Global, written: &[u8]) -> Option<u64> {
+    let Ok(bytes) = Vec::from_slice(alloc, written) else {
         return None;
     };
     let mut source = MemSource::new(bytes, Vec::new(alloc));
-    let counts = audit_stream(alloc, &mut source, 1 << 20).ok()?;
-    Some(counts.events)
+    match audit_stream(alloc, &mut source, 1 << 20) {
+        Ok(counts) => Some(counts.events),
+        Err(_) => None,
+    }
 }
 
 // A letter and a number of two digits.
@@ -147,33 +176,35 @@ fn push_sections(text: &mut Vec<u8>, a: u8, b: u8, c: u8) -> Result<(), AllocErr
 }
 
 // A script of 64 tasks over as many resources in a ring, each with 50 sections.
-fn ring(alloc: Global) -> Result<Vec<u8>, AllocError> {
-    let mut text = Vec::new(alloc);
+fn push_ring(text: &mut Vec<u8>) -> Result<(), AllocError> {
     text.extend_from_slice(b"rnlp,1\n")?;
     for l in 0..64 {
-        push_line(&mut text, &[("resource,", l)], "\n")?;
+        push_line(text, &[("resource,", l)], "\n")?;
     }
     for k in 0..64 {
-        push_line(&mut text, &[("task,", k)], "\n")?;
+        push_line(text, &[("task,", k)], "\n")?;
         for _ in 0..10 {
-            push_sections(&mut text, k, (k + 1) % 64, (k + 2) % 64)?;
+            push_sections(text, k, (k + 1) % 64, (k + 2) % 64)?;
         }
     }
-    text.extend_from_slice(b"end\n")?;
-    Ok(text)
+    text.extend_from_slice(b"end\n")
+}
+
+// Whether an audit accepts the report of the ring's run, and each task has added what it should.
+fn runs_right<R: Threads + Wait + Sync>(rt: &R, alloc: Global, text: &[u8]) -> bool {
+    match report_of(rt, alloc, text) {
+        Some(report) => {
+            audited(alloc, &report) == Some(7680) && has_added(&report, 7680, &[50; 64])
+        }
+        None => false,
+    }
 }
 
 #[test]
 fn an_audit_accepts_the_run_of_a_ring(rt: HostRuntime) -> Result<(), Fail> {
-    let alloc = rt.alloc();
-    let text = ring(alloc)?;
-    let report = report_of(&rt, alloc, text.as_slice());
-    let right = match &report {
-        Some(report) => {
-            audited(alloc, report) == Some(7680) && has_added(report, 7680, &[50; 64])
-        }
-        None => false,
-    };
+    let mut text = Vec::new(rt.alloc());
+    push_ring(&mut text)?;
+    let right = runs_right(&rt, rt.alloc(), text.as_slice());
     assert!(rt; right);
     Ok(())
 }

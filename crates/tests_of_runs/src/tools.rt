@@ -60,24 +60,28 @@ pub fn run_with<R: Threads + Wait + Sync, G: Pace>(
     writes: &[u64],
     pace: &G,
 ) -> Result<Ran, AllocError> {
-    let words = words_of(alloc, "run")?;
     let mut source = MemSource::new(script.to_vec(alloc)?, reads.to_vec(alloc)?);
     let mut sink = MemSink::new(alloc, ROOM, writes.to_vec(alloc)?)?;
-    let mut receipts = Vec::new(alloc);
-    let status = run_tool(
-        rt,
-        alloc,
-        &words,
-        &mut source,
-        &mut sink,
-        pace,
-        &mut receipts,
-    );
+    let (status, receipts) = run_between(rt, alloc, &mut source, &mut sink, pace)?;
     Ok(Ran {
         status,
         written: sink.written().to_vec(alloc)?,
-        receipts: receipts.len(),
+        receipts,
     })
+}
+
+// How a run between these devices ended, and how many receipts it handed out.
+fn run_between<R: Threads + Wait + Sync, G: Pace>(
+    rt: &R,
+    alloc: Global,
+    source: &mut MemSource,
+    sink: &mut MemSink,
+    pace: &G,
+) -> Result<(ToolStatus, usize), AllocError> {
+    let words = words_of(alloc, "run")?;
+    let mut receipts = Vec::new(alloc);
+    let status = run_tool(rt, alloc, &words, source, sink, pace, &mut receipts);
+    Ok((status, receipts.len()))
 }
 
 // Whether the two sections of a script are seen at once, and the run is done.
@@ -114,12 +118,22 @@ fn writes_whose_places_alone_meet_are_held_at_once(rt: HostRuntime) -> Result<()
 
 // What an audit of a report writes.
 fn audited(alloc: Global, report: &[u8]) -> Result<Vec<u8>, AllocError> {
-    let words = words_of(alloc, "audit")?;
     let mut source = MemSource::new(report.to_vec(alloc)?, Vec::new(alloc));
     let mut sink = MemSink::new(alloc, 100, Vec::new(alloc))?;
-    let mut nobody = Watchers::new(Vec::new(alloc));
-    plain_tool(alloc, &words, &mut source, &mut sink, &mut nobody);
+    audit_between(alloc, &mut source, &mut sink)?;
     sink.written().to_vec(alloc)
+}
+
+// An audit between these devices.
+fn audit_between(
+    alloc: Global,
+    source: &mut MemSource,
+    sink: &mut MemSink,
+) -> Result<(), AllocError> {
+    let words = words_of(alloc, "audit")?;
+    let mut nobody = Watchers::new(Vec::new(alloc));
+    plain_tool(alloc, &words, source, sink, &mut nobody);
+    Ok(())
 }
 
 // A task that adds 1 to the resource a in so many sections.
@@ -144,20 +158,28 @@ fn waits_told(report: &[u8]) -> usize {
 // Whether two tasks that add to one resource leave its ledger with all that they added, and an audit accepts the report and
 // counts its waits.
 fn adders_add<R: Threads + Wait + Sync>(rt: &R, alloc: Global) -> Result<bool, AllocError> {
-    let mut script = Vec::from_slice(alloc, b"rnlp,1\nresource,a\n")?;
-    push_adder(&mut script, b"t1", 100)?;
-    push_adder(&mut script, b"t2", 100)?;
-    script.extend_from_slice(b"end\n")?;
+    let mut script = Vec::new(alloc);
+    push_adders(&mut script)?;
     let ran = run_with(rt, alloc, &script, &[], &[], &NoPace)?;
-    let told = audited(alloc, &ran.written)?;
-    let waits = waits_told(&ran.written);
+    let counted = is_counted(alloc, &ran.written)?;
+    let added = ran.written.ends_with(b"\nledger,a,200,200\nend\n");
+    Ok(ran.status == ToolStatus::Done && ran.receipts == 1 && added && counted)
+}
+
+// The script of these two tasks.
+fn push_adders(script: &mut Vec<u8>) -> Result<(), AllocError> {
+    script.extend_from_slice(b"rnlp,1\nresource,a\n")?;
+    push_adder(script, b"t1", 100)?;
+    push_adder(script, b"t2", 100)?;
+    script.extend_from_slice(b"end\n")
+}
+
+// Whether an audit of their report counts its events and waits.
+fn is_counted(alloc: Global, report: &[u8]) -> Result<bool, AllocError> {
+    let told = audited(alloc, report)?;
+    let waits = waits_told(report);
     let due = format!(in alloc; "audit,400,{waits}\nend\n")?;
-    Ok(
-        ran.status == ToolStatus::Done
-            && ran.receipts == 1
-            && ran.written.ends_with(b"\nledger,a,200,200\nend\n")
-            && told.as_slice() == due.as_bytes(),
-    )
+    Ok(told.as_slice() == due.as_bytes())
 }
 
 #[test]

@@ -2,7 +2,7 @@
 ghost use Rattle.std.specs.Prelude.{◌≤◌, IfOk, IfSome};
 
 use rbound_text::bound_text;
-use rscript::read_script;
+use rscript::{Script, read_script};
 use std::alloc::Global;
 use std::test::Fail;
 
@@ -165,10 +165,17 @@ fn cap_of(word: &str) -> Result<Option<u8>, Fail>
 fn is_told(alloc: Global, cap: Option<u8>, script: &str, told: &str) -> Result<bool, Fail>
     requires { IfSome cap (λ m. 1 ≤ m) }
 {
-    let Ok(script) = read_script(alloc, script.as_bytes()) else {
-        return Ok(false);
-    };
-    let text = bound_text(alloc, &script, cap)?;
+    match read_script(alloc, script.as_bytes()) {
+        Ok(script) => are_bounds(alloc, cap, &script, told),
+        Err(_) => Ok(false),
+    }
+}
+
+// The same of a script that was read.
+fn are_bounds(alloc: Global, cap: Option<u8>, script: &Script, told: &str) -> Result<bool, Fail>
+    requires { IfSome cap (λ m. 1 ≤ m) }
+{
+    let text = bound_text(alloc, script, cap)?;
     Ok(text.as_slice() == told.as_bytes())
 }
 

@@ -1,4 +1,5 @@
 // What a person is told to be due where a report has another line.
+use crate::runs::one_word;
 use io_ends::{MemSink, MemSource};
 use rnlp_cli::{Told, ToolStatus, told_tool};
 use rwatch::Watchers;
@@ -18,24 +19,31 @@ const OVER: &[u8] = b"wait,u,first,0,1,2,0,1,2\nfinish,u\nledger,a,5,1\n";
 
 // Whether an audit of these parts, one behind another, tells that this line is due.
 fn expects(alloc: Global, parts: &[&[u8]], line: &str) -> Result<bool, Fail> {
+    let mut source = MemSource::new(joined(alloc, parts)?, Vec::new(alloc));
+    let mut sink = MemSink::new(alloc, 64, Vec::new(alloc))?;
+    is_told_due(alloc, &mut source, &mut sink, line)
+}
+
+// The parts one behind another.
+fn joined(alloc: Global, parts: &[&[u8]]) -> Result<Vec<u8>, Fail> {
     let mut report = Vec::new(alloc);
     for part in parts {
         report.extend_from_slice(part)?;
     }
-    let mut words = Vec::new(alloc);
-    words.push(String::from_str(alloc, "audit")?)?;
-    let mut source = MemSource::new(report, Vec::new(alloc));
-    let mut sink = MemSink::new(alloc, 64, Vec::new(alloc))?;
+    Ok(report)
+}
+
+// Whether an audit between these devices tells that this line is due.
+fn is_told_due(
+    alloc: Global,
+    source: &mut MemSource,
+    sink: &mut MemSink,
+    line: &str,
+) -> Result<bool, Fail> {
+    let words = one_word(alloc, "audit")?;
     let mut nobody = Watchers::new(Vec::new(alloc));
     let mut told = None;
-    let status = told_tool(
-        alloc,
-        &words,
-        &mut source,
-        &mut sink,
-        &mut nobody,
-        &mut told,
-    );
+    let status = told_tool(alloc, &words, source, sink, &mut nobody, &mut told);
     Ok(status == ToolStatus::Trace && is_due(&told, line))
 }
 
@@ -52,20 +60,20 @@ fn is_due(told: &Option<Told>, line: &str) -> bool {
     }
 }
 
+// Whether a change of a status and a grant are told to be due.
+fn expects_changes(alloc: Global) -> Result<bool, Fail> {
+    let status: &[u8] = b"now,t,write,entitled\n";
+    let grant: &[u8] = b"now,t,write,satisfied\ngrant,t,a\n";
+    Ok(
+        expects(alloc, &[ISSUED, status], "now,t,write,satisfied")?
+            && expects(alloc, &[ISSUED, grant], "grant,t,a+b")?,
+    )
+}
+
 #[test]
 fn the_change_that_is_due_is_told(rt: HostRuntime) -> Result<(), Fail> {
-    let alloc = rt.alloc();
-    let status = expects(
-        alloc,
-        &[ISSUED, b"now,t,write,entitled\n"],
-        "now,t,write,satisfied",
-    )?;
-    let grant = expects(
-        alloc,
-        &[ISSUED, b"now,t,write,satisfied\ngrant,t,a\n"],
-        "grant,t,a+b",
-    )?;
-    assert!(rt; status && grant);
+    let changes = expects_changes(rt.alloc())?;
+    assert!(rt; changes);
     Ok(())
 }
 

@@ -46,21 +46,22 @@ fn one_group_too_many(rt: HostRuntime) -> Result<(), Fail> {
     Ok(())
 }
 
-#[test]
-fn many_records(rt: HostRuntime) -> Result<(), Fail> {
+// Whether a list of many records is replayed to its end.
+fn many_end(alloc: Global) -> Result<bool, Fail> {
     let text = text_of(
-        rt.alloc(),
+        alloc,
         "rnlp,1\nresource,a\nresource,b\ntask,t1\n",
         "issue,t1,write,a,1\nfinish,t1\n",
         2_000,
         "end\n",
     )?;
-    let done = replay_ends(
-        rt.alloc(),
-        &text,
-        ToolStatus::Done,
-        b"finish,t1\nledger,a,0,0\nledger,b,0,0\nend\n",
-    )?;
+    let last = b"finish,t1\nledger,a,0,0\nledger,b,0,0\nend\n";
+    replay_ends(alloc, &text, ToolStatus::Done, last)
+}
+
+#[test]
+fn many_records(rt: HostRuntime) -> Result<(), Fail> {
+    let done = many_end(rt.alloc())?;
     assert!(rt; done);
     Ok(())
 }

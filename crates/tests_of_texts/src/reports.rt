@@ -80,11 +80,20 @@ fn is_written(
     fails: &[u64],
     due: &str,
 ) -> Result<bool, Fail> {
-    let Ok(report) = read_as(alloc, whole, text) else {
-        return Ok(false);
-    };
+    match read_as(alloc, whole, text) {
+        Ok(report) => is_report_written(alloc, &report, fails, due),
+        Err(_) => Ok(false),
+    }
+}
+
+// Whether this is written of a report, into such a sink.
+fn is_report_written(alloc: Global, report: &Report, fails: &[u64], due: &str) -> Result<bool, Fail>
+    requires may { MayBeWritten (told_by report.now) }
+    requires over { IsOverResources report.now }
+    requires ledgers { HasItsLedgers report.now }
+{
     let mut sink = MemSink::new(alloc, 4096, fails.to_vec(alloc)?)?;
-    let written = write_report(alloc, &report, &mut sink);
+    let written = write_report(alloc, report, &mut sink);
     Ok(written.is_ok() == fails.is_empty() && sink.written() == due.as_bytes())
 }
 

@@ -24,6 +24,25 @@ pub struct Given<'a> {
     pub writes: &'a [u64],
 }
 
+/// One word.
+pub fn one_word(alloc: Global, word: &str) -> Result<Vec<String>, Fail> {
+    let mut words = Vec::new(alloc);
+    words.push(String::from_str(alloc, word)?)?;
+    Ok(words)
+}
+
+// How a run of this word between these devices ends.
+fn answer_of(
+    alloc: Global,
+    word: &str,
+    source: &mut MemSource,
+    sink: &mut MemSink,
+) -> Result<ToolStatus, Fail> {
+    let words = one_word(alloc, word)?;
+    let mut nobody = Watchers::new(Vec::new(alloc));
+    Ok(plain_tool(alloc, &words, source, sink, &mut nobody))
+}
+
 /// Whether such a run ends with this status and has written these bytes.
 pub fn ends(
     alloc: Global,
@@ -31,12 +50,9 @@ pub fn ends(
     status: ToolStatus,
     output: &[u8],
 ) -> Result<bool, Fail> {
-    let mut words = Vec::new(alloc);
-    words.push(String::from_str(alloc, given.word)?)?;
     let mut source = MemSource::new(given.input.to_vec(alloc)?, given.reads.to_vec(alloc)?);
     let mut sink = MemSink::new(alloc, ROOM, given.writes.to_vec(alloc)?)?;
-    let mut nobody = Watchers::new(Vec::new(alloc));
-    let answer = plain_tool(alloc, &words, &mut source, &mut sink, &mut nobody);
+    let answer = answer_of(alloc, given.word, &mut source, &mut sink)?;
     Ok(answer == status && sink.written() == output)
 }
 
@@ -50,12 +66,9 @@ pub fn trickles(
 ) -> Result<bool, Fail>
     requires { 1 ≤ most }
 {
-    let mut words = Vec::new(alloc);
-    words.push(String::from_str(alloc, given.word)?)?;
     let mut source = MemSource::short(given.input.to_vec(alloc)?, given.reads.to_vec(alloc)?, 1);
     let mut sink = MemSink::short(alloc, ROOM, given.writes.to_vec(alloc)?, most)?;
-    let mut nobody = Watchers::new(Vec::new(alloc));
-    let answer = plain_tool(alloc, &words, &mut source, &mut sink, &mut nobody);
+    let answer = answer_of(alloc, given.word, &mut source, &mut sink)?;
     Ok(answer == status && sink.written() == output)
 }
 
@@ -66,11 +79,8 @@ pub fn replay_ends(
     status: ToolStatus,
     last: &[u8],
 ) -> Result<bool, Fail> {
-    let mut words = Vec::new(alloc);
-    words.push(String::from_str(alloc, "replay")?)?;
     let mut source = MemSource::new(input.to_vec(alloc)?, Vec::new(alloc));
     let mut sink = MemSink::new(alloc, ROOM, Vec::new(alloc))?;
-    let mut nobody = Watchers::new(Vec::new(alloc));
-    let answer = plain_tool(alloc, &words, &mut source, &mut sink, &mut nobody);
+    let answer = answer_of(alloc, "replay", &mut source, &mut sink)?;
     Ok(answer == status && sink.written().ends_with(last))
 }

@@ -1,5 +1,5 @@
 // Scripts, read with ample memory.
-use rscript::{ScriptErr, read_script};
+use rscript::{Script, ScriptErr, read_script};
 use std::alloc::Global;
 use std::test::Fail;
 
@@ -78,28 +78,31 @@ read,a,1
 ";
 
 // Whether the script is read with all its parts.
-fn is_read(alloc: Global) -> Result<bool, Fail> {
-    let Ok(script) = read_script(alloc, SCRIPT.as_bytes()) else {
-        return Ok(false);
-    };
+fn is_read(alloc: Global) -> bool {
+    match read_script(alloc, SCRIPT.as_bytes()) {
+        Ok(script) => has_its_parts(&script),
+        Err(_) => false,
+    }
+}
+
+// Whether these are all its parts.
+fn has_its_parts(script: &Script) -> bool {
     let declared = script.resources().len() == 2 && script.groups().len() == 1;
-    Ok(
-        declared
-            && script.tasks().len() == 2
-            && script.steps(0).len() == 10
-            && script.steps(1).is_empty(),
-    )
+    declared
+        && script.tasks().len() == 2
+        && script.steps(0).len() == 10
+        && script.steps(1).is_empty()
 }
 
 // What is told of a text: the line and the code of its first fault.
 fn told_of(alloc: Global, text: &str) -> Result<String, Fail> {
-    match read_script(alloc, text.as_bytes()) {
-        Ok(_) => Ok(String::from_str(alloc, "a script")?),
-        Err(ScriptErr::Bad { line, code }) => {
+    match read_script(alloc, text.as_bytes()).err() {
+        None => Ok(String::from_str(alloc, "a script")?),
+        Some(ScriptErr::Bad { line, code }) => {
             let number = code.number();
             Ok(format!(in alloc; "{line},{number}")?)
         }
-        Err(ScriptErr::Memory) => Ok(String::from_str(alloc, "out of memory")?),
+        Some(ScriptErr::Memory) => Ok(String::from_str(alloc, "out of memory")?),
     }
 }
 
@@ -117,10 +120,8 @@ fn are_told(alloc: Global, cases: &str) -> Result<bool, Fail> {
 }
 
 #[test]
-fn a_script_is_read(rt: HostRuntime) -> Result<(), Fail> {
-    let read = is_read(rt.alloc())?;
-    assert!(rt; read);
-    Ok(())
+fn a_script_is_read(rt: HostRuntime) {
+    assert!(rt; is_read(rt.alloc()));
 }
 
 #[test]

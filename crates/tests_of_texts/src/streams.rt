@@ -69,6 +69,16 @@ fn audits(
     trickles(alloc, given, 2, status, output)
 }
 
+// Whether an audit of each of these reports, of which no read fails, ends with the status and the output beside it.
+fn all_audit(alloc: Global, table: &[(&[u8], ToolStatus, &[u8])]) -> Result<bool, Fail> {
+    for (report, status, output) in table {
+        if !audits(alloc, report, &[], *status, output)? {
+            return Ok(false);
+        }
+    }
+    Ok(true)
+}
+
 // Whether an audit of such a report, whose rest this is, refuses it with this line.
 fn refuses(alloc: Global, rest: &[u8], line: &[u8]) -> Result<bool, Fail> {
     let mut report = TWO_GROUPS.to_vec(alloc)?;
@@ -87,28 +97,30 @@ fn counts(alloc: Global, report: &[u8], limit: u64) -> Result<Result<(u64, u64),
 
 #[test]
 fn a_report_may_come_byte_by_byte(rt: HostRuntime) -> Result<(), Fail> {
-    let alloc = rt.alloc();
-    let all = audits(alloc, SECTION, &[], ToolStatus::Done, b"audit,2,0\nend\n")?
-        && audits(alloc, WRONG, &[], ToolStatus::Trace, b"error,11,6\n")?
-        && audits(alloc, WRONG_EDITS, &[], ToolStatus::Trace, b"error,12,7\n")?
-        && audits(alloc, QUOTED, &[], ToolStatus::Done, b"audit,0,0\nend\n")?
-        && audits(
-            alloc,
-            SMALLEST_REPORT,
-            &[],
-            ToolStatus::Done,
-            b"audit,0,0\nend\n",
-        )?;
+    let all = all_audit(
+        rt.alloc(),
+        &[
+            (SECTION, ToolStatus::Done, b"audit,2,0\nend\n"),
+            (WRONG, ToolStatus::Trace, b"error,11,6\n"),
+            (WRONG_EDITS, ToolStatus::Trace, b"error,12,7\n"),
+            (QUOTED, ToolStatus::Done, b"audit,0,0\nend\n"),
+            (SMALLEST_REPORT, ToolStatus::Done, b"audit,0,0\nend\n"),
+        ],
+    )?;
     assert!(rt; all);
     Ok(())
 }
 
 #[test]
 fn waits_may_come_byte_by_byte(rt: HostRuntime) -> Result<(), Fail> {
-    let alloc = rt.alloc();
-    let all = audits(alloc, WAITS, &[], ToolStatus::Done, b"audit,4,2\nend\n")?
-        && audits(alloc, WRONG_BOUND, &[], ToolStatus::Trace, b"error,19,9\n")?
-        && audits(alloc, WRONG_LEDGER, &[], ToolStatus::Trace, b"error,22,7\n")?;
+    let all = all_audit(
+        rt.alloc(),
+        &[
+            (WAITS, ToolStatus::Done, b"audit,4,2\nend\n"),
+            (WRONG_BOUND, ToolStatus::Trace, b"error,19,9\n"),
+            (WRONG_LEDGER, ToolStatus::Trace, b"error,22,7\n"),
+        ],
+    )?;
     assert!(rt; all);
     Ok(())
 }
@@ -127,12 +139,18 @@ fn asks_and_a_rise_may_come_byte_by_byte(rt: HostRuntime) -> Result<(), Fail> {
     Ok(())
 }
 
+// Whether a fault of each of three sorts is told.
+fn refuses_three(alloc: Global) -> Result<bool, Fail> {
+    Ok(
+        refuses(alloc, WRONG_CHANGE, b"error,17,5\n")?
+            && refuses(alloc, NO_END, b"error,23,8\n")?
+            && refuses(alloc, WRONG_WAIT, b"error,20,9\n")?,
+    )
+}
+
 #[test]
 fn faults_of_three_sorts_may_come_byte_by_byte(rt: HostRuntime) -> Result<(), Fail> {
-    let alloc = rt.alloc();
-    let all = refuses(alloc, WRONG_CHANGE, b"error,17,5\n")?
-        && refuses(alloc, NO_END, b"error,23,8\n")?
-        && refuses(alloc, WRONG_WAIT, b"error,20,9\n")?;
+    let all = refuses_three(rt.alloc())?;
     assert!(rt; all);
     Ok(())
 }
@@ -145,12 +163,16 @@ fn a_read_that_fails_behind_a_fault_is_told(rt: HostRuntime) -> Result<(), Fail>
     Ok(())
 }
 
+// Whether a report may be as long as the limit, and no longer.
+fn has_limit(alloc: Global) -> Result<bool, Fail> {
+    let len = SECTION.len() as u64;
+    let whole = counts(alloc, SECTION, len)? == Ok((2, 0));
+    Ok(whole && counts(alloc, SECTION, len - 1)? == Err(AuditErr::TooLong))
+}
+
 #[test]
 fn a_report_may_be_as_long_as_the_limit(rt: HostRuntime) -> Result<(), Fail> {
-    let alloc = rt.alloc();
-    let len = SECTION.len() as u64;
-    let right = counts(alloc, SECTION, len)? == Ok((2, 0))
-        && counts(alloc, SECTION, len - 1)? == Err(AuditErr::TooLong);
+    let right = has_limit(rt.alloc())?;
     assert!(rt; right);
     Ok(())
 }

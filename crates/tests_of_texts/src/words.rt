@@ -1,7 +1,7 @@
 // What the program makes of the environment that it is started in.
 ghost use Rattle.std.specs.Io.{WritesAtMost};
 
-use crate::runs::{SMALLEST, SMALLEST_REPORT};
+use crate::runs::{SMALLEST, SMALLEST_REPORT, one_word};
 use io_ends::{MemSink, MemSource};
 use redge::{answer, given_words, words_of};
 use rnlp_cli::ToolStatus;
@@ -99,30 +99,47 @@ fn words_that_are_no_text_are_wrong(rt: HostRuntime) {
 
 // Whether the first write of what these words ask fails, and nothing else is answered.
 fn breaks_off<R: Threads + Wait + Sync>(rt: &R, alloc: Global, word: &str) -> Result<bool, Fail> {
-    let mut words = Vec::new(alloc);
-    words.push(String::from_str(alloc, word)?)?;
     let mut source = MemSource::new(SMALLEST.to_vec(alloc)?, Vec::new(alloc));
     let mut sink = MemSink::new(alloc, SMALLEST_REPORT.len(), [1].to_vec(alloc)?)?;
+    let status = program_answer(rt, alloc, word, &mut source, &mut sink)?;
+    Ok(status == ToolStatus::WriteFault && sink.written().is_empty())
+}
+
+// How the program that is started with this word ends between these devices.
+fn program_answer<R: Threads + Wait + Sync>(
+    rt: &R,
+    alloc: Global,
+    word: &str,
+    source: &mut MemSource,
+    sink: &mut MemSink,
+) -> Result<ToolStatus, Fail> {
+    let words = one_word(alloc, word)?;
     let mut receipts = Vec::new(alloc);
     let mut nobody = Watchers::new(Vec::new(alloc));
-    let status = answer(
+    Ok(answer(
         rt,
         alloc,
         &words,
-        &mut source,
-        &mut sink,
+        source,
+        sink,
         &NoPace,
         &mut receipts,
         &mut nobody,
-    );
-    Ok(status == ToolStatus::WriteFault && sink.written().is_empty())
+    ))
+}
+
+// Whether each text of the program, and a report, is broken off.
+fn each_breaks_off<R: Threads + Wait + Sync>(rt: &R, alloc: Global) -> Result<bool, Fail> {
+    Ok(
+        breaks_off(rt, alloc, "--help")?
+            && breaks_off(rt, alloc, "--version")?
+            && breaks_off(rt, alloc, "replay")?,
+    )
 }
 
 #[test]
 fn a_text_of_the_program_is_broken_off(rt: HostRuntime) -> Result<(), Fail> {
-    let help = breaks_off(&rt, rt.alloc(), "--help")?;
-    let version = breaks_off(&rt, rt.alloc(), "--version")?;
-    let replay = breaks_off(&rt, rt.alloc(), "replay")?;
-    assert!(rt; help && version && replay);
+    let broken = each_breaks_off(&rt, rt.alloc())?;
+    assert!(rt; broken);
     Ok(())
 }

@@ -2,7 +2,7 @@
 ghost use Rattle.std.specs.Prelude.{◌≡◌, All, OnOk};
 ghost use Rattle.rguard.specs.Resting.{IsAt, Rests, all_with};
 
-use crate::closing::{closed, ledger_of};
+use crate::closing::{Left, closed, ledger_of};
 use crate::looks::{begin_to_read, look_to_read, wait_to_read};
 use crate::sections::{
     OPENING, Place, Runtime, edit_each, ended, opened, pop_seat, push_seat, sum_of, to_write,
@@ -91,15 +91,20 @@ fn read_twice<R: Wait + Abort, M: Machine>(
     Ok((kept, dropped))
 }
 
-#[test]
-fn readers_wait_for_a_writer(rt: HostRuntime) -> Result<(), Fail> {
-    let alloc = rt.alloc();
+// Whether both readings at a runtime of their own were of what the writer had kept, and what is left of it.
+fn left_by_readings<R: Wait + Abort>(rt: &R, alloc: Global) -> Result<(bool, Left), AllocError> {
     let a = ResourceSet::one(0);
     let (lock, mut seats) = opened(alloc, a, 2)?;
-    let (kept, dropped) = read_twice(&rt, alloc, &lock, a, &mut seats)?;
-    let left = closed(&rt, lock, a, seats, 2);
-    let ledger = ledger_of(&rt, &left, 0);
+    let (kept, dropped) = read_twice(rt, alloc, &lock, a, &mut seats)?;
     let read = Some((OPENING + 5, 0));
-    assert!(rt; kept == read && dropped == read && left.history.len() == 8 && ledger.edits == 1);
+    let right = kept == read && dropped == read;
+    Ok((right, closed(rt, lock, a, seats, 2)))
+}
+
+#[test]
+fn readers_wait_for_a_writer(rt: HostRuntime) -> Result<(), Fail> {
+    let (right, left) = left_by_readings(&rt, rt.alloc())?;
+    let ledger = ledger_of(&rt, &left, 0);
+    assert!(rt; right && left.history.len() == 8 && ledger.edits == 1);
     Ok(())
 }

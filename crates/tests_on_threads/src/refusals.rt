@@ -1,13 +1,14 @@
 //! Want of memory, call by call: each call that found none is made again, and the end is as if it had found some.
-ghost use Rattle.std.specs.Prelude.{◌≡◌, true, All, OnOk};
+ghost use Rattle.std.specs.Prelude.{◌≡◌, true, All, IfOk, OnOk};
 ghost use Rattle.std.specs.FinSet.{contains};
 ghost use Rattle.rguard.specs.Resting.{Rests, all_with};
 
-use crate::closing::{closed, ledger_of};
+use crate::closing::{Left, closed, ledger_of};
 use crate::nesting::nest_in;
 use crate::rising::{rise_in, write_one};
 use crate::sections::{OPENING, Place, Runtime, opened, pop_seat, push_seat};
 use rmodel::Machine;
+use rplain::Plain;
 use rset::ResourceSet;
 use rvalue::Edit;
 use std::alloc::{AllocError, Global};
@@ -37,16 +38,31 @@ fn are_made<R: Wait + Abort, M: Machine>(
     Ok(written && nested == Some(OPENING + 1) && risen == Some(OPENING + 6))
 }
 
+// A runtime with two seats, made a second time where there was no memory at first.
+fn opened_again(
+    alloc: Global,
+    group: ResourceSet,
+) -> Result<(Runtime<Plain>, Vec<Place<Plain>>), AllocError>
+    ensures count { IfOk result (λ r. r.0.passes ≡ 2) }
+    ensures seats { IfOk result (λ r. All (Rests (all_with group) r.0) r.1.items) }
+{
+    match opened(alloc, group, 2) {
+        Ok(made) => Ok(made),
+        Err(_) => opened(alloc, group, 2),
+    }
+}
+
+// Whether these sections at a runtime of their own read and wrote what they should, and what is left of it.
+fn left_by_sections<R: Wait + Abort>(rt: &R, alloc: Global) -> Result<(bool, Left), AllocError> {
+    let both = ResourceSet::one(0).with(1);
+    let (lock, mut seats) = opened_again(alloc, both)?;
+    let right = are_made(rt, alloc, &lock, both, &mut seats)?;
+    Ok((right, closed(rt, lock, both, seats, 2)))
+}
+
 #[test]
 fn each_call_is_made_again_that_found_no_memory(rt: HostRuntime) -> Result<(), Fail> {
-    let alloc = rt.alloc();
-    let both = ResourceSet::one(0).with(1);
-    let (lock, mut seats) = match opened(alloc, both, 2) {
-        Ok(made) => made,
-        Err(_) => opened(alloc, both, 2)?,
-    };
-    let right = are_made(&rt, alloc, &lock, both, &mut seats)?;
-    let left = closed(&rt, lock, both, seats, 2);
+    let (right, left) = left_by_sections(&rt, rt.alloc())?;
     let (first, second) = (ledger_of(&rt, &left, 0), ledger_of(&rt, &left, 1));
     assert!(rt;
         right
