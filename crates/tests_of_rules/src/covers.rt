@@ -1,4 +1,4 @@
-// Tests of `rcover` and `rwaits`: covers that were worked by hand.
+// Stories: events that a machine takes, and the waits that each has to end, by all who tell of covers.
 ghost use Rattle.std.specs.Prelude.{◌≡◌, [], OnOk, IfOk};
 ghost use Rattle.rset.specs.declared.TheConstants.{RESOURCES};
 ghost use Rattle.rmodel.specs.State.{opening};
@@ -8,7 +8,6 @@ ghost use Rattle.rwaits.specs.Knows.{Knows};
 ghost use Rattle.tests_of_rules.specs.Stories.{IsStory, past};
 
 use crate::groups::two_groups;
-use rbound::Which;
 use rclaim::{Event, Kind, Request};
 use rcover::WaitEnd;
 use rexpand::Groups;
@@ -31,26 +30,26 @@ pub struct Story {
     seats: u8,
 }
 
-// What a seat does.
+/// What a seat does.
 #[derive(Clone, Copy)]
-enum Move {
-    // It issues a request that reads and writes so, with these lengths.
+pub enum Move {
+    /// It issues a request that reads and writes so, with these lengths.
     Issue(Kind, ResourceSet, ResourceSet, u32, u32),
-    // Its upgrade rises.
+    /// Its upgrade rises.
     Rise,
-    // Its nested request asks for these.
+    /// Its nested request asks for these.
     Ask(ResourceSet),
-    // Its request is complete.
+    /// Its request is complete.
     Finish,
 }
 
-// A move of a seat, and the waits that it has to end, which are two at most.
+/// A move of a seat, and the waits that it has to end, which are two at most.
 #[derive(Clone, Copy)]
-struct Turn {
-    seat: u8,
-    makes: Move,
-    first: Option<WaitEnd>,
-    second: Option<WaitEnd>,
+pub struct Turn {
+    pub seat: u8,
+    pub makes: Move,
+    pub first: Option<WaitEnd>,
+    pub second: Option<WaitEnd>,
 }
 
 // Those who follow a story of four seats over these groups, and who were told no event of it.
@@ -90,8 +89,8 @@ fn begin(alloc: Global) -> Result<Story, Fail>
     tell(alloc, machine, groups)
 }
 
-// The set of these resources.
-fn set(members: &[u8]) -> ResourceSet {
+/// The set of these resources.
+pub fn set(members: &[u8]) -> ResourceSet {
     let mut all = ResourceSet::empty();
     for l in members {
         if *l < RESOURCES as u8 {
@@ -209,204 +208,8 @@ fn play(alloc: Global, story: &mut Story, turns: &[Turn]) -> Result<bool, Fail>
     Ok(true)
 }
 
-// The same from the beginning.
-fn are_right(alloc: Global, turns: &[Turn]) -> Result<bool, Fail> {
+/// Whether the turns, played from the beginning, each end just the waits that they have to end.
+pub fn are_right(alloc: Global, turns: &[Turn]) -> Result<bool, Fail> {
     let mut story = begin(alloc)?;
     play(alloc, &mut story, turns)
-}
-
-// A seat makes a move that ends no wait.
-fn makes(seat: u8, makes: Move) -> Turn {
-    Turn {
-        seat,
-        makes,
-        first: None,
-        second: None,
-    }
-}
-
-// The request of a seat is complete, which ends this wait.
-fn ends(seat: u8, end: WaitEnd) -> Turn {
-    Turn {
-        first: Some(end),
-        ..makes(seat, Move::Finish)
-    }
-}
-
-// A seat issues a request, which ends no wait.
-fn issues(seat: u8, kind: Kind, reads: &[u8], writes: &[u8], len: u32, later: u32) -> Turn {
-    makes(seat, Move::Issue(kind, set(reads), set(writes), len, later))
-}
-
-// A wait ended, of the request of this stamp of a seat.
-fn end(seat: u8, stamp: u64, which: Which, numbers: (u64, u64, u64)) -> WaitEnd {
-    let (reads, writes, units) = numbers;
-    WaitEnd {
-        seat,
-        stamp,
-        which,
-        reads,
-        writes,
-        units,
-    }
-}
-
-// Entitlement keeps out only conflicts; then one phase each.
-fn phases(alloc: Global) -> Result<bool, Fail> {
-    are_right(
-        alloc,
-        &[
-            issues(0, Kind::Read, &[0, 1], &[], 3, 0),
-            issues(1, Kind::Write, &[], &[0], 2, 0),
-            issues(2, Kind::Read, &[0], &[], 1, 0),
-            issues(3, Kind::Read, &[1], &[], 1, 0),
-            ends(0, end(1, 1, Which::First, (1, 0, 3))),
-            ends(1, end(2, 2, Which::First, (1, 1, 5))),
-        ],
-    )
-}
-
-// Places keep writes apart that do not conflict.
-fn places(alloc: Global) -> Result<bool, Fail> {
-    are_right(
-        alloc,
-        &[
-            issues(0, Kind::Write, &[], &[0], 2, 0),
-            issues(1, Kind::Write, &[], &[1], 5, 0),
-            ends(0, end(1, 1, Which::First, (0, 1, 2))),
-        ],
-    )
-}
-
-// A waiting read that touches the places of a write keeps it back.
-fn reads_between(alloc: Global) -> Result<bool, Fail> {
-    let read = end(1, 1, Which::First, (0, 1, 2));
-    let write = end(2, 2, Which::First, (0, 1, 2));
-    let both = Turn {
-        second: Some(write),
-        ..ends(0, read)
-    };
-    are_right(
-        alloc,
-        &[
-            issues(0, Kind::Write, &[], &[0], 2, 0),
-            issues(1, Kind::Read, &[0, 1], &[], 3, 0),
-            issues(2, Kind::Write, &[], &[2], 4, 0),
-            both,
-        ],
-    )
-}
-
-// A read and a write wait for the same write.
-fn both_wait(alloc: Global) -> Result<bool, Fail> {
-    let read = end(1, 1, Which::First, (0, 1, 2));
-    let write = end(2, 2, Which::First, (0, 1, 2));
-    let both = Turn {
-        second: Some(write),
-        ..ends(0, read)
-    };
-    are_right(
-        alloc,
-        &[
-            issues(0, Kind::Write, &[], &[3, 4], 2, 0),
-            issues(1, Kind::Read, &[3], &[], 1, 0),
-            issues(2, Kind::Write, &[], &[4], 1, 0),
-            both,
-        ],
-    )
-}
-
-// A mixed section holds up a write by its reading.
-fn reading_beside(alloc: Global) -> Result<bool, Fail> {
-    are_right(
-        alloc,
-        &[
-            issues(0, Kind::Mixed, &[0], &[3], 2, 0),
-            issues(1, Kind::Read, &[0], &[], 3, 0),
-            issues(2, Kind::Write, &[], &[0], 1, 0),
-            makes(1, Move::Finish),
-            ends(0, end(2, 2, Which::First, (0, 1, 2))),
-        ],
-    )
-}
-
-// The least of a line changes while it is there.
-fn line_changes(alloc: Global) -> Result<bool, Fail> {
-    are_right(
-        alloc,
-        &[
-            issues(0, Kind::Mixed, &[0], &[1], 1, 0),
-            issues(1, Kind::Mixed, &[0], &[5], 1, 0),
-            issues(2, Kind::Read, &[4], &[], 5, 0),
-            issues(3, Kind::Write, &[], &[4, 5], 1, 0),
-            makes(1, Move::Finish),
-            ends(2, end(3, 3, Which::First, (1, 1, 6))),
-        ],
-    )
-}
-
-// An upgrade that does not rise.
-fn stays(alloc: Global) -> Result<bool, Fail> {
-    are_right(
-        alloc,
-        &[
-            issues(0, Kind::Upgrade, &[0], &[], 3, 2),
-            issues(1, Kind::Read, &[0], &[], 1, 0),
-            ends(0, end(1, 1, Which::First, (1, 0, 3))),
-        ],
-    )
-}
-
-// An upgrade that rises.
-fn rises(alloc: Global) -> Result<bool, Fail> {
-    are_right(
-        alloc,
-        &[
-            issues(0, Kind::Upgrade, &[0], &[], 3, 2),
-            issues(1, Kind::Read, &[0], &[], 1, 0),
-            makes(0, Move::Rise),
-            ends(0, end(1, 1, Which::First, (1, 1, 5))),
-        ],
-    )
-}
-
-// A nested request asks for more.
-fn asks(alloc: Global) -> Result<bool, Fail> {
-    are_right(
-        alloc,
-        &[
-            issues(0, Kind::Read, &[3], &[], 3, 0),
-            issues(1, Kind::Nested, &[], &[0, 3], 4, 0),
-            makes(1, Move::Ask(set(&[3]))),
-            ends(0, end(1, 1, Which::Ask(0), (1, 0, 3))),
-        ],
-    )
-}
-
-// A nested request leaves while it is only entitled.
-fn leaves(alloc: Global) -> Result<bool, Fail> {
-    are_right(
-        alloc,
-        &[
-            issues(0, Kind::Read, &[3], &[], 3, 0),
-            issues(1, Kind::Nested, &[], &[0, 3], 4, 0),
-            issues(2, Kind::Read, &[0], &[], 1, 0),
-            ends(1, end(2, 2, Which::First, (1, 0, 3))),
-        ],
-    )
-}
-
-// Whether all these stories are told right.
-fn all_are_right(alloc: Global) -> Result<bool, Fail> {
-    let writes = phases(alloc)? && places(alloc)? && reads_between(alloc)?;
-    let lines = both_wait(alloc)? && reading_beside(alloc)? && line_changes(alloc)?;
-    let upgrades = stays(alloc)? && rises(alloc)?;
-    Ok(writes && lines && upgrades && asks(alloc)? && leaves(alloc)?)
-}
-
-#[test]
-fn covers_are_those_worked_by_hand(rt: HostRuntime) -> Result<(), Fail> {
-    let right = all_are_right(rt.alloc())?;
-    assert!(rt; right);
-    Ok(())
 }

@@ -24,4 +24,6 @@ mod machines;
 #[cfg(test)]
 mod sets;
 #[cfg(test)]
+mod stories;
+#[cfg(test)]
 mod values;
