@@ -15,7 +15,7 @@ use Rattle.rvalue.specs.Histories.{value_of, EntryAnswersRightly}
 use Rattle.rvalue.proofs.ValueLemmas.{value_of-longer}
 use Rattle.rstate.specs.Histories.{Beginning, MayFollow}
 use Rattle.rstate.proofs.homes.Lists.{same_item}
-use Rattle.ropening.specs.Closing.{IsClosedBy, IsLeft}
+use Rattle.rguard.specs.Closing.{IsClosedBy, IsLeft}
 use Rattle.rguard.specs.Seats.{SeatOf}
 use Rattle.rguard.proofs.Closed.{each_opens, each_listed, seats_there}
 use Rattle.accounts_example.specs.Accounts.{balance_of, is_taken, account_after}

@@ -23,7 +23,7 @@ use Rattle.rvalue.specs.Ledgers.{opening_ledger, is_taken, value_after}
 use Rattle.rvalue.specs.Entries.{EntryFields, edits_of}
 use Rattle.rvalue.specs.Histories.{edits_on}
 use Rattle.rstate.specs.Histories.{Beginning, MayFollow}
-use Rattle.ropening.specs.Closing.{IsClosedBy, IsLeft}
+use Rattle.rguard.specs.Closing.{IsClosedBy, IsLeft}
 use Rattle.rguard.specs.Seats.{SeatOf}
 use Rattle.rguard.proofs.Closed.{each_opens, each_listed, seats_there}
 use Rattle.rguard.specs.Sections.{write_of, sections_of}

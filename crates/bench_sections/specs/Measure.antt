@@ -9,7 +9,7 @@ use Rattle.rvalue.specs.declared.ledger.Ledger.{Ledger}
 use Rattle.rvalue.specs.declared.ledger.Edit.{Edit}
 use Rattle.rvalue.specs.Ledgers.{opening_ledger, is_taken, value_after}
 use Rattle.rvalue.specs.Entries.{EntryFields}
-use Rattle.ropening.specs.Closing.{IsClosedBy}
+use Rattle.rguard.specs.Closing.{IsClosedBy}
 use Rattle.rguard.specs.Seats.{SeatOf}
 use Rattle.rguard.specs.Guards.{AsSeen}
 use Rattle.rguard.specs.Resting.{Rests}

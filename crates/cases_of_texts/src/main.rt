@@ -5,8 +5,8 @@
 #![tactic(auto)]
 
 use io_ends::{MemSink, MemSource};
-use redge::answer;
 use rnlp_cli::ToolStatus;
+use rnlp_edge::answer;
 use rrun::NoPace;
 use rwatch::{Counter, WatchKind, Watcher, Watchers};
 use std::alloc::{AllocError, Global};

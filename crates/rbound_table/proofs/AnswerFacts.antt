@@ -19,16 +19,16 @@ use Rattle.rbound.specs.declared.bound.Bound.{Bound}
 use Rattle.rbound.specs.declared.rows.ZoneRows.{ZoneRows}
 use Rattle.rbound.proofs.LongestClaims.{read_is, ask_is}
 use Rattle.rbound.proofs.ZoneRowFacts.{numbers_are}
-use Rattle.rlongest.specs.Tables.{key_of}
-use Rattle.rlongest.specs.Lengths.{rows_in}
+use Rattle.rbound_table.specs.Tables.{key_of}
+use Rattle.rbound_table.specs.Lengths.{rows_in}
 use Rattle.rbound_table.specs.PlaceZones.{zone_at}
 use Rattle.rbound_table.specs.TableRows.{AreTableRows}
 use Rattle.rbound_table.specs.Answers.{AreZoneBounds, StandsAt, AreAnswers, bound_at, bound_in_zone, bound_by_place, write_answer, read_answer, ask_answer}
-use Rattle.rlongest.specs.declared.table.Key.TheVariants.{WritePlaces}
-use Rattle.rlongest.specs.declared.tables.Tables.{Tables}
+use Rattle.rbound_table.specs.declared.table.Key.TheVariants.{WritePlaces}
+use Rattle.rbound_table.specs.declared.tables.Tables.{Tables}
 use Rattle.rbound_table.specs.declared.answers.Answers.{Answers}
 use Rattle.rbound_table.proofs.PlaceZoneFacts.{zone_has, zone_closed, same_zone, zone_by_place}
-use Rattle.rlongest.proofs.WaitFacts.{keepers, delayers, barrer_is}
+use Rattle.rbound_table.proofs.WaitFacts.{keepers, delayers, barrer_is}
 use Rattle.rbound_table.proofs.ZoneFacts.{rows_are}
 
 -- ---- while it is made

@@ -3,3 +3,11 @@ pub mod ZoneFacts
 pub mod AnswerFacts
 pub mod BoundFacts
 pub mod TotalFacts
+pub mod TwoFacts
+pub mod TopFacts
+pub mod LeaderFacts
+pub mod RowFacts
+pub mod TableFacts
+pub mod QueryFacts
+pub mod HoldFacts
+pub mod WaitFacts

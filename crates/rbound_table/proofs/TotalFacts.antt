@@ -8,11 +8,11 @@ use Rattle.std.proofs.lemmas.List.Sums.{sum_by-cons, sum-map}
 use Rattle.rbound.specs.Bounds.{largest, tasks_of, one_if}
 use Rattle.rbound.specs.ZoneRows.{beside, row_at, other_at, writers_in, writes_in, all_may_write_in, reads_in, write_length_in, numbers_of}
 use Rattle.rbound.specs.declared.rows.ZoneRows.{ZoneRows}
-use Rattle.rlongest.specs.Two.{two_at}
+use Rattle.rbound_table.specs.Two.{two_at}
 use Rattle.rbound_table.specs.Totals.{AreTotals, only_reads, only_readers, length_in}
 use Rattle.rbound_table.specs.declared.totals.ZoneTotals.{ZoneTotals}
-use Rattle.rlongest.proofs.TwoFacts.{two_of_at}
-use Rattle.rlongest.proofs.TopFacts.{unequal}
+use Rattle.rbound_table.proofs.TwoFacts.{two_of_at}
+use Rattle.rbound_table.proofs.TopFacts.{unequal}
 
 pub as_number : (b : Bool) → bool_byte b ≡ one_if b
 as_number true = refl

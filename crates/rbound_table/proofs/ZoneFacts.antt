@@ -19,13 +19,13 @@ use Rattle.rbound.specs.declared.bound.Bound.{Bound}
 use Rattle.rbound.specs.declared.rows.ZoneRows.{ZoneRows}
 use Rattle.rbound.proofs.LongestClaims.{longest_same}
 use Rattle.rbound.proofs.BesideFacts.{in_range, map_same}
-use Rattle.rlongest.specs.Tables.{key_of, longest_in, IsTable}
-use Rattle.rlongest.specs.AllTables.{AreTables}
+use Rattle.rbound_table.specs.Tables.{key_of, longest_in, IsTable}
+use Rattle.rbound_table.specs.AllTables.{AreTables}
 use Rattle.rbound_table.specs.TableRows.{AreTableRows}
-use Rattle.rlongest.specs.declared.table.Cell.{Cell}
-use Rattle.rlongest.specs.declared.table.Key.TheVariants.{ReadPlaces, WritePlaces, UpgradePlaces}
-use Rattle.rlongest.specs.declared.tables.Tables.{Tables}
-use Rattle.rlongest.proofs.QueryFacts.{in_table}
+use Rattle.rbound_table.specs.declared.table.Cell.{Cell}
+use Rattle.rbound_table.specs.declared.table.Key.TheVariants.{ReadPlaces, WritePlaces, UpgradePlaces}
+use Rattle.rbound_table.specs.declared.tables.Tables.{Tables}
+use Rattle.rbound_table.proofs.QueryFacts.{in_table}
 
 pub bounds_more : (f : ℕ → Numbers) (old new : List Bound) (n : ℕ) (b : Bound) → map numbers_in old ≡ map f (range_with_len 0 n) → new ≡ old ++ b ∷ [] → numbers_in b ≡ f n → map numbers_in new ≡ map f (range_with_len 0 (n + 1))
 bounds_more f old new n b were is of = ap (map numbers_in) is ∙ map-append numbers_in old (b ∷ []) ∙ (λ i. were i ++ of i ∷ []) ∙ sym (map-range_with_len_more f 0 n n (omega arith))

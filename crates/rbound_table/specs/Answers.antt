@@ -16,10 +16,10 @@ use Rattle.rbound.specs.declared.bound.Bound.{Bound}
 use Rattle.rbound.specs.declared.rows.ZoneRows.{ZoneRows}
 use Rattle.rbound_table.specs.PlaceZones.{zone_at}
 use Rattle.rbound_table.specs.TableRows.{AreTableRows}
-use Rattle.rlongest.specs.AllTables.{AreTables}
-use Rattle.rlongest.specs.Lengths.{rows_in, longest_over}
-use Rattle.rlongest.specs.OtherLengths.{AreOtherLengths}
-use Rattle.rlongest.specs.declared.tables.Tables.{Tables}
+use Rattle.rbound_table.specs.AllTables.{AreTables}
+use Rattle.rbound_table.specs.Lengths.{rows_in, longest_over}
+use Rattle.rbound_table.specs.OtherLengths.{AreOtherLengths}
+use Rattle.rbound_table.specs.declared.tables.Tables.{Tables}
 use Rattle.rbound_table.specs.declared.answers.Answers.{Answers}
 
 -- ---- what is kept

@@ -3,3 +3,10 @@ pub mod Totals
 pub mod PlaceZones
 pub mod Answers
 pub mod BoundedNeeds
+pub mod Tables
+pub mod AllTables
+pub mod Two
+pub mod Lengths
+pub mod Leaders
+pub mod Delays
+pub mod OtherLengths

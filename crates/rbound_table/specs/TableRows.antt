@@ -3,8 +3,8 @@ use Rattle.std.specs.Prelude.{◌≡◌, ℕ, map}
 use Rattle.std.specs.List.{range_with_len}
 use Rattle.rset.specs.Sets.{Set}
 use Rattle.rbound.specs.declared.rows.ZoneRows.{ZoneRows}
-use Rattle.rlongest.specs.Tables.{longest_in}
-use Rattle.rlongest.specs.declared.tables.Tables.{Tables}
+use Rattle.rbound_table.specs.Tables.{longest_in}
+use Rattle.rbound_table.specs.declared.tables.Tables.{Tables}
 
 -- of each task, the longest that the tables of places have at the places of the zone
 pub record AreTableRows (tables : Tables) (tasks : ℕ) (zone : Set) (rows : ZoneRows) : Type 0 where

@@ -4,8 +4,8 @@ use Rattle.std.specs.List.{count_by}
 use Rattle.rbound.specs.Bounds.{tasks_of}
 use Rattle.rbound.specs.ZoneRows.{row_at}
 use Rattle.rbound.specs.declared.rows.ZoneRows.{ZoneRows}
-use Rattle.rlongest.specs.Two.{two_of}
-use Rattle.rlongest.specs.declared.two.TwoLongest.{TwoLongest}
+use Rattle.rbound_table.specs.Two.{two_of}
+use Rattle.rbound_table.specs.declared.two.TwoLongest.{TwoLongest}
 use Rattle.rbound_table.specs.declared.totals.ZoneTotals.{ZoneTotals}
 
 -- the number of tasks that a row has a length of

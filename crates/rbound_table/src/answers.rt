@@ -9,12 +9,14 @@ ghost use Rattle.rbound.specs.TaskNeeds.{needed_in};
 ghost use Rattle.rbound.specs.ZoneRows.{numbers_of};
 ghost use Rattle.rbound_table.specs.Answers.{StandsAt, AreWriteBounds, AreAnswers, bound_at, write_answer, read_answer, ask_answer, first_answer, rise_answer, asked_answer, bound_in_zone};
 
+use crate::lengths::longest_over;
+use crate::other_lengths::{OtherLengths, other_lengths_of};
 use crate::rows::rows_of;
+use crate::tables::{Tables, tables_of};
 use crate::totals::{bound_by, totals_of};
 use crate::zones::zones_of;
 use rbound::{Bound, Needed, Needs, ZoneRows};
 use rclaim::Claim;
-use rlongest::{OtherLengths, Tables, longest_over, other_lengths_of, tables_of};
 use rset::{RESOURCES, ResourceSet};
 use std::alloc::{AllocError, Global};
 

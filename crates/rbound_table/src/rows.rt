@@ -3,11 +3,12 @@ ghost use Rattle.std.specs.Prelude.{◌≡◌, IfOk, IsTrue, map};
 ghost use Rattle.std.specs.List.{range_with_len};
 ghost use Rattle.rset.specs.Sets.{all_below};
 ghost use Rattle.rset.specs.declared.TheConstants.{RESOURCES};
-ghost use Rattle.rlongest.specs.Tables.{longest_in};
+ghost use Rattle.rbound_table.specs.Tables.{longest_in};
 ghost use Rattle.rbound_table.specs.TableRows.{AreTableRows};
 
+use crate::table::{Cell, longest_in};
+use crate::tables::Tables;
 use rbound::ZoneRows;
-use rlongest::{Cell, Tables, longest_in};
 use rset::ResourceSet;
 use std::alloc::{AllocError, Global};
 

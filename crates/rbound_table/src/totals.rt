@@ -4,8 +4,9 @@ ghost use Rattle.rbound.specs.Bounds.{numbers_in, tasks_of};
 ghost use Rattle.rbound.specs.ZoneRows.{all_may_write_in, none_beside_in, numbers_of, reads_in, writers_in, writes_in};
 ghost use Rattle.rbound_table.specs.Totals.{AreTotals, two_in, writers_there, only_reads, only_readers, length_in};
 
+use crate::lengths::nth_length;
+use crate::two::{TwoLongest, no_length, only, two_at, two_of_both};
 use rbound::{Bound, ZoneRows, write_bound};
-use rlongest::{TwoLongest, no_length, nth_length, only, two_at, two_of_both};
 use std::alloc::{AllocError, Global};
 
 /// What the rows of a zone come to for all tasks at once.

@@ -1,7 +1,10 @@
--- The waits that states tell.
-pub mod Asked
-pub mod EachWait
-pub mod OneClaim
-pub mod Runs
-pub mod Waits
-pub mod Few
+-- The waits that states tell, followed from moment to moment.
+pub mod Asking
+pub mod Gone
+pub mod Knowing
+pub mod LetGo
+pub mod Noted
+pub mod Reading
+pub mod Rising
+pub mod Stood
+pub mod Waiting

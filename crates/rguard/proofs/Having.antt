@@ -27,8 +27,8 @@ use Rattle.rstate.specs.Contents.{is_ready}
 use Rattle.rstate.specs.Histories.{Beginning, lock_after, MayFollow, IsLawfulFrom}
 use Rattle.rstate.proofs.histories.Following.{in_turn_parts, lock_push, reached_push, reached_lawful}
 use Rattle.rguard.specs.Seats.{bare}
-use Rattle.rlent.proofs.seats.Along.{AreOfOthers, maker, others_behind, differs}
-use Rattle.rlent.proofs.seats.Claims.{is_of, of_seat, claim_next, issued_next}
+use Rattle.rguard.proofs.seats.Along.{AreOfOthers, maker, others_behind, differs}
+use Rattle.rguard.proofs.seats.Claims.{is_of, of_seat, claim_next, issued_next}
 
 -- a claim is the one of a request of this kind that reads and writes this
 record IsFor (kind : Kind) (reads writes : Set) (c : Claim) : Type 0 where

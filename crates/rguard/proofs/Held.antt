@@ -5,18 +5,17 @@ use Rattle.rclaim.specs.Requests.{RequestFields}
 use Rattle.rclaim.specs.declared.event.Event.TheVariants.{Issue}
 use Rattle.rmodel.specs.declared.granted.Granted.{Granted}
 use Rattle.rmodel.specs.Holds.{holds_of}
-use Rattle.rlock.specs.Known.{entries_by}
+use Rattle.rlock.specs.Known.{entries_by, Site}
 use Rattle.rlock.proofs.Entries.{entries_by-append}
 use Rattle.rvalue.specs.Entries.{EntryFields}
 use Rattle.rstate.specs.Contents.{is_ready}
 use Rattle.rstate.specs.Histories.{lock_after, IsLawfulFrom}
-use Rattle.rlock.specs.Known.{Site}
 use Rattle.rguard.specs.Seats.{SeatOf, Goes, bare}
 use Rattle.rguard.specs.Looks.{HasAcquired}
 use Rattle.rguard.specs.declared.guard.Guard.{Guard}
 use Rattle.rguard.specs.declared.guard.Guard.TheVariants.{Read, Write}
 use Rattle.rguard.specs.Guards.{GuardFields, AsSeen, HasSeenLawful, HasSeenOwn, Holding, HoldingToWrite, IsReady}
-use Rattle.rlent.proofs.seats.Along.{maker}
+use Rattle.rguard.proofs.seats.Along.{maker}
 use Rattle.rguard.proofs.Having.{is_plain, holds_request}
 
 -- a list has this entry of its own last: what stands before, and what stands behind, which is of others

@@ -1,6 +1,3 @@
-pub use Rattle.rlent.proofs.seats.Along
-pub use Rattle.rlent.proofs.seats.Claims
-pub use Rattle.rlent.proofs.seats.Halves
 pub mod Going
 pub mod Seeing
 pub mod Having
@@ -11,3 +8,15 @@ pub mod Acts
 pub mod Closed
 pub mod Sections
 pub mod Taking
+pub mod Copying
+pub mod seats
+pub mod Lending
+pub mod Looking
+pub mod Ending
+pub mod Beginning
+pub mod LentReading
+pub mod LentEditing
+pub mod Sharing
+pub mod LentRising
+pub mod Asking
+pub mod LastState

@@ -29,8 +29,8 @@ use Rattle.rstate.specs.Contents.{is_ready}
 use Rattle.rstate.specs.Histories.{Beginning, lock_after, MayFollow, IsLawfulFrom}
 use Rattle.rstate.proofs.histories.Following.{in_turn_parts, lock_push, reached_push, reached_lawful}
 use Rattle.rguard.specs.Seats.{bare}
-use Rattle.rlent.proofs.seats.Along.{AreOfOthers, maker, others_behind, differs, claim_along}
-use Rattle.rlent.proofs.seats.Claims.{is_of, of_seat, of_seat_and, may_rise_by, may_rise_next, claim_next, issued_next}
+use Rattle.rguard.proofs.seats.Along.{AreOfOthers, maker, others_behind, differs, claim_along}
+use Rattle.rguard.proofs.seats.Claims.{is_of, of_seat, of_seat_and, may_rise_by, may_rise_next, claim_next, issued_next}
 
 -- a claim is a half of the upgrade that reads this
 record IsHalfOf (reads : Set) (c : Claim) : Type 0 where

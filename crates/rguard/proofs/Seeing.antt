@@ -2,9 +2,9 @@
 use Rattle.std.proofs.Common.{ℕ, Bool, sym, subst, ◌∙◌}
 use Rattle.rstate.specs.Histories.{Beginning, IsLawfulFrom}
 use Rattle.rstate.proofs.homes.Lists.{same_item}
-use Rattle.rlent.specs.declared.kind.GuardKind.{GuardKind}
+use Rattle.rguard.specs.declared.kind.GuardKind.{GuardKind}
 use Rattle.rguard.specs.Guards.{HasSeenLawful, HasSeenOwn}
-use Rattle.rlent.specs.Sections.{SectionFields, Knows, Holds, Waits}
+use Rattle.rguard.specs.LentSections.{SectionFields, Knows, Holds, Waits}
 
 module _ {V E : Type 0} (after : V → E → V) (taken : V → E → Bool) (number : V → ℕ) (kind : GuardKind) (s : SectionFields V E) where
   lawful_known : (began : Beginning V) → Knows after taken number began s.site s.seat → HasSeenLawful after taken number s.seat

@@ -1,7 +1,7 @@
 -- What waits are for.
-use Rattle.rlent.specs.declared.kind.GuardKind.{GuardKind}
-use Rattle.rlent.specs.declared.kind.GuardKind.TheVariants as kinds
-use Rattle.rlent.specs.Sections.{SectionFields}
+use Rattle.rguard.specs.declared.kind.GuardKind.{GuardKind}
+use Rattle.rguard.specs.declared.kind.GuardKind.TheVariants as kinds
+use Rattle.rguard.specs.LentSections.{SectionFields}
 use Rattle.rguard.specs.Guards.{WaitFields}
 use Rattle.rguard.specs.declared.awaited.Awaited.{Awaited}
 use Rattle.rguard.specs.declared.awaited.Awaited.TheVariants.{Read, Write, Rise, Nest}

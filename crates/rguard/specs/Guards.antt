@@ -8,10 +8,10 @@ use Rattle.rlock.specs.Known.{Site, entries_by}
 use Rattle.rvalue.specs.declared.act.Act.{Act}
 use Rattle.rvalue.specs.Entries.{EntryFields}
 use Rattle.rstate.specs.Histories.{IsLawfulFrom}
-use Rattle.rlent.specs.declared.kind.GuardKind.{GuardKind}
-use Rattle.rlent.specs.declared.kind.GuardKind.TheVariants.{Nest}
-use Rattle.rlent.specs.Seats.{SeatOf, bare, Goes, IsOneTurn}
-pub use Rattle.rlent.specs.Guards.{GuardFields, kind_for, AsSeen, Holding, HoldingToWrite, IsReady, HasValue, IsPartOf, KeepsValues, KeepsHolding}
+use Rattle.rguard.specs.declared.kind.GuardKind.{GuardKind}
+use Rattle.rguard.specs.declared.kind.GuardKind.TheVariants.{Nest}
+use Rattle.rguard.specs.LentSeats.{SeatOf, bare, Goes, IsOneTurn}
+pub use Rattle.rguard.specs.LentGuards.{GuardFields, kind_for, AsSeen, Holding, HoldingToWrite, IsReady, HasValue, IsPartOf, KeepsValues, KeepsHolding}
 
 -- a wait: the same, and the kind of the guard that comes of it
 pub record WaitFields (V E : Type 0) : Type 0 where

@@ -5,8 +5,8 @@ use Rattle.rclaim.specs.declared.event.Event.TheVariants.{Issue}
 use Rattle.rlock.specs.Known.{Site}
 use Rattle.rguard.specs.Seats.{SeatOf, Goes, IsOneTurn, bare}
 use Rattle.rguard.specs.Guards.{GuardFields, WaitFields, IsReady, kind_for}
-use Rattle.rlent.specs.declared.kind.GuardKind.{GuardKind}
-use Rattle.rlent.specs.declared.kind.GuardKind.TheVariants as kinds
+use Rattle.rguard.specs.declared.kind.GuardKind.{GuardKind}
+use Rattle.rguard.specs.declared.kind.GuardKind.TheVariants as kinds
 use Rattle.rguard.specs.declared.guard.Guard.{Guard}
 use Rattle.rguard.specs.declared.guard.Guard.TheVariants.{Read, Write, Rise, Nest}
 use Rattle.rguard.specs.declared.pending.Looked.{Looked}

@@ -1,7 +1,7 @@
 //! What waits are for.
 ghost use Rattle.std.specs.Prelude.{◌≡◌, IfOk};
-ghost use Rattle.rlent.specs.Guards.{kind_for};
-ghost use Rattle.rlent.specs.Sections.{no_loans};
+ghost use Rattle.rguard.specs.LentGuards.{kind_for};
+ghost use Rattle.rguard.specs.LentSections.{no_loans};
 ghost use Rattle.rguard.specs.Awaiting.{awaited_kind};
 
 use crate::kinds::Rising;

@@ -1,7 +1,7 @@
 //! Guards by kind.
 ghost use Rattle.std.specs.Prelude.{◌≡◌};
 ghost use Rattle.rguard.specs.Awaiting.{awaited_kind};
-ghost use Rattle.rlent.specs.Sections.{Holds, guarded};
+ghost use Rattle.rguard.specs.LentSections.{Holds, guarded};
 ghost use Rattle.rguard.specs.Looks.{fields_of, kind_of};
 
 use crate::awaited::Awaited;
@@ -9,9 +9,9 @@ use crate::kinds::{Nesting, Reading, Writing};
 use crate::nest::NestGuard;
 use crate::read::ReadGuard;
 use crate::rise::RiseGuard;
+use crate::section::Section;
 use crate::section_guard::SectionGuard;
 use crate::write::WriteGuard;
-use rlent::Section;
 use rmodel::Machine;
 use rvalue::Editable;
 

@@ -1,8 +1,8 @@
 //! Kinds of guards as types.
 ghost use Rattle.std.specs.Prelude.{◌≡◌, true, refl};
-ghost use Rattle.rlent.specs.Sections.{may_edit, no_loans};
-ghost use Rattle.rlent.specs.declared.kind.GuardKind.{GuardKind};
-ghost use Rattle.rlent.specs.declared.kind.GuardKind.TheVariants.{Read, Write, Rise, Nest};
+ghost use Rattle.rguard.specs.LentSections.{may_edit, no_loans};
+ghost use Rattle.rguard.specs.declared.kind.GuardKind.{GuardKind};
+ghost use Rattle.rguard.specs.declared.kind.GuardKind.TheVariants.{Read, Write, Rise, Nest};
 
 use rstate::Lent;
 use std::alloc::Global;

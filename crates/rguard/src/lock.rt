@@ -4,13 +4,14 @@ ghost use Rattle.std.specs.Arc.{arc_value};
 ghost use Rattle.rmodel.specs.Holds.{nothing};
 ghost use Rattle.rlock.specs.Known.{newcomer};
 ghost use Rattle.rstate.specs.Histories.{Beginning};
-ghost use Rattle.ropening.specs.Closing.{IsClosedBy};
+ghost use Rattle.rguard.specs.Closing.{IsClosedBy};
 ghost use Rattle.rguard.specs.Seats.{IsOf, IsIdle};
 
-use rlent::{CountedGate, Seat};
+use crate::closing::Closed;
+use crate::counted::CountedGate;
+use crate::section::Seat;
 use rlock::Kept;
 use rmodel::Machine;
-use ropening::Closed;
 use rstate::State;
 use rvalue::Editable;
 use std::alloc::{AllocError, Global};
@@ -56,7 +57,7 @@ impl<T: Editable, M: Machine> Lock<State<T, M>> {
         ensures each { IfOk result (λ r. (k : ℕ) → k < seats → slice_get r.1.items k ≡ Some (let began : Beginning T = record { groups = (M.state machine).groups; seats = (M.state machine).seats; cap = (M.state machine).cap; values = values.items } in
             newcomer r.0.gate k began (record { beginning = began; entries = []; taken = replicate (M.state machine).seats nothing }))) }
     {
-        match ropening::open(alloc, machine, values, seats) {
+        match crate::opening::open(alloc, machine, values, seats) {
             Ok((gate, all)) => Ok((Lock { gate }, all)),
             Err(e) => Err(e),
         }
@@ -74,6 +75,6 @@ impl<T: Editable, M: Machine> Lock<State<T, M>> {
         ensures receipt { result.2 ≡ result.0.entries }
     {
         let Lock { gate } = self;
-        ropening::close(gate, seats)
+        crate::closing::close(gate, seats)
     }
 }

@@ -1,6 +1,6 @@
 //! Waits for a guard.
 ghost use Rattle.std.specs.Prelude.{◌≡◌, [], IfOk, IfErr};
-ghost use Rattle.rlent.specs.Sections.{no_loans};
+ghost use Rattle.rguard.specs.LentSections.{no_loans};
 ghost use Rattle.rguard.specs.Seats.{IsOf, IsIdle, SuitsSeat, Goes, ComesBack};
 ghost use Rattle.rguard.specs.Awaiting.{awaited_kind};
 ghost use Rattle.rguard.specs.Guards.{HasSeenLawful, HasSeenOwn, HasBegun, kind_for};
@@ -9,8 +9,8 @@ ghost use Rattle.rguard.specs.Looks.{LooksAt};
 use crate::awaited::{Awaited, room_for_all};
 use crate::guard::{Guard, guard_of};
 use crate::lock::Lock;
+use crate::section::{Seat, Section};
 use rclaim::{Kind, Request};
-use rlent::{Seat, Section};
 use rmodel::Machine;
 use rstate::{Lent, State};
 use rvalue::Editable;
@@ -26,10 +26,9 @@ pub struct Pending<'a, T: Editable, M: Machine> {
 }
 
 impl<'a, T: Editable, M: Machine> Model for Pending<'a, T, M> {
-    ghost use Rattle.rguard.specs.Awaiting.{awaited_kind};
+    ghost use Rattle.rguard.specs.Awaiting.{awaited_kind, waiting};
     ghost use Rattle.rguard.specs.Guards.{WaitFields};
-    ghost use Rattle.rlent.specs.Sections.{Waits};
-    ghost use Rattle.rguard.specs.Awaiting.{waiting};
+    ghost use Rattle.rguard.specs.LentSections.{Waits};
     ghost use Rattle.std.specs.Coded.{codes};
     ghost use Rattle.rclaim.specs.Codes.{set_code};
 

@@ -4,8 +4,8 @@ ghost use Rattle.rclaim.specs.declared.event.Event.TheVariants.{Finish};
 ghost use Rattle.rguard.specs.Seats.{Goes, IsOneTurn, IsIdle};
 
 use crate::kinds::Reading;
+use crate::section::Seat;
 use crate::section_guard::SectionGuard;
-use rlent::Seat;
 use rmodel::Machine;
 use rvalue::Editable;
 use std::sync::Wait;

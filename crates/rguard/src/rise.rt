@@ -5,11 +5,12 @@ ghost use Rattle.rguard.specs.Seats.{Goes, IsOneTurn, IsIdle};
 ghost use Rattle.rguard.specs.Guards.{IsReady};
 
 use crate::awaited::Awaited;
+use crate::kind::GuardKind;
 use crate::kinds::{Rising, Writing};
 use crate::pending::Pending;
+use crate::section::Seat;
 use crate::section_guard::SectionGuard;
 use crate::write::WriteGuard;
-use rlent::{GuardKind, Seat};
 use rmodel::Machine;
 use rvalue::Editable;
 use std::sync::Wait;

@@ -6,7 +6,7 @@ ghost use Rattle.rguard.specs.Seats.{Goes, IsOneTurn, IsIdle, bare};
 ghost use Rattle.rguard.specs.Guards.{HasSeenLawful, HasSeenOwn, Holding, HoldingToWrite, HasValue};
 
 use crate::kinds::{Editing, Guarding};
-use rlent::{Seat, Section};
+use crate::section::{Seat, Section};
 use rmodel::Machine;
 use rvalue::Editable;
 use std::alloc::{AllocError, Global};
@@ -21,7 +21,7 @@ pub struct SectionGuard<'a, T: Editable, M: Machine, K: Guarding> {
 
 impl<'a, T: Editable, M: Machine, K: Guarding> Model for SectionGuard<'a, T, M, K> {
     ghost use Rattle.rguard.specs.Guards.{GuardFields};
-    ghost use Rattle.rlent.specs.Sections.{Holds, guarded};
+    ghost use Rattle.rguard.specs.LentSections.{Holds, guarded};
     ghost use Rattle.std.specs.Coded.{codes};
     ghost use Rattle.rclaim.specs.Codes.{set_code};
 

@@ -5,3 +5,4 @@ pub mod Newcomers
 pub mod Parts
 pub mod Passes
 pub mod Shares
+pub mod Shelves

@@ -3,3 +3,5 @@ pub mod Known
 pub mod Rule
 pub mod Steps
 pub mod Views
+pub mod Roll
+pub mod Shelf

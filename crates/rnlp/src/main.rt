@@ -3,15 +3,15 @@
 
 ghost use Rattle.std.specs.Prelude.{◌≡◌, [], List, IfOk, OnErr, map, string_bytes};
 ghost use Rattle.std.specs.Process.{exit_status};
-ghost use Rattle.rforms.specs.Reports.{Entry};
+ghost use Rattle.rtrace_form.specs.Reports.{Entry};
 ghost use Rattle.rwatch.specs.Seen.{Seen};
-ghost use Rattle.ranswer.specs.Status.{status_number};
-ghost use Rattle.redge.specs.Program.{RunAnswer};
+ghost use Rattle.rnlp_cli.specs.Status.{status_number};
+ghost use Rattle.rnlp_edge.specs.Program.{RunAnswer};
 ghost use Rattle.rnlp.specs.Counters.{counters};
 
 use io_ends::{Sink, Source, StdinSource, StdoutSink};
-use redge::{Progress, explain, given_words, words_of};
 use rnlp_cli::ToolStatus;
+use rnlp_edge::{Progress, explain, given_words, words_of};
 use rrun::NoPace;
 use rwatch::{Counter, WatchKind, Watcher, Watchers};
 use std::alloc::AllocError;
@@ -72,7 +72,7 @@ fn run_watched<R: AllocGlobal + Eprint + Threads + Wait + Sync, S: Source, K: Si
     }
     let mut watchers = Watchers::new(list);
     let mut receipts = Vec::new(rt.alloc());
-    Ok(redge::run(
+    Ok(rnlp_edge::run(
         rt,
         words,
         source,

@@ -1,15 +1,16 @@
 // Drills.
 ghost use Rattle.std.specs.Prelude.{◌≡◌, ◌≤◌};
 ghost use Rattle.io_ends.specs.Faults.{Rose};
-ghost use Rattle.rscript_tools.specs.Words.{most_events};
-ghost use Rattle.rscript_tools.specs.Outputs.{drill_text};
-ghost use Rattle.rscript_tools.specs.Watched.{DrillWatched};
-ghost use Rattle.rscript_tools.specs.Writing.{IsWritten};
+ghost use Rattle.rnlp_cli.specs.Words.{most_events};
+ghost use Rattle.rnlp_cli.specs.Outputs.{drill_text};
+ghost use Rattle.rnlp_cli.specs.Watched.{DrillWatched};
+ghost use Rattle.rnlp_cli.specs.Writing.{IsWritten};
 
+use crate::status::ToolStatus;
+use crate::writing::write_output;
 use io_ends::Sink;
 use rdrill::{drill, drill_machine, push_summary, summary_room};
 use rplain::Plain;
-use rscript_tools::{ToolStatus, write_output};
 use rwatch::Audience;
 use std::alloc::Global;
 

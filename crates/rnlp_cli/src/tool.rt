@@ -1,17 +1,22 @@
 // The tools that wait for nobody.
 ghost use Rattle.std.specs.Prelude.{◌≡◌, false, Some, map, string_bytes};
 ghost use Rattle.io_ends.specs.Faults.{Rose};
-ghost use Rattle.rscript_tools.specs.Words.{plain_in, IsPlain};
-ghost use Rattle.rscript_tools.specs.Answer.{ToolAnswer};
-ghost use Rattle.rscript_tools.specs.Outputs.{is_streamed};
-ghost use Rattle.rscript_tools.specs.Told.{Tells};
-ghost use Rattle.rscript_tools.specs.Writing.{IsAnswer};
-ghost use Rattle.rscript_tools.specs.Watched.{Watched};
+ghost use Rattle.rnlp_cli.specs.Words.{plain_in, IsPlain};
+ghost use Rattle.rnlp_cli.specs.Answer.{ToolAnswer};
+ghost use Rattle.rnlp_cli.specs.Outputs.{is_streamed};
+ghost use Rattle.rnlp_cli.specs.Told.{Tells};
+ghost use Rattle.rnlp_cli.specs.Writing.{IsAnswer};
+ghost use Rattle.rnlp_cli.specs.Watched.{Watched};
 
+use crate::auditing::audit;
+use crate::bounding::bound;
+use crate::command::{Command, plain_of};
 use crate::drilling::drill_tool;
+use crate::reading::read_input;
+use crate::replaying::replay;
+use crate::status::ToolStatus;
+use crate::told::Told;
 use io_ends::{Sink, Source};
-use rlist_tools::{audit, replay};
-use rscript_tools::{Command, Told, ToolStatus, bound, plain_of, read_input};
 use rwatch::Audience;
 use std::alloc::Global;
 

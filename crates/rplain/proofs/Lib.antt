@@ -1,1 +1,2 @@
 pub mod stepping
+pub mod settling

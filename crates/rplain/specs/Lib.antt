@@ -1,2 +1,4 @@
 pub mod Machine
 pub mod Plain
+pub mod NewClaim
+pub mod Sweep

@@ -10,11 +10,11 @@ use Rattle.rmodel.specs.declared.claimed.Claimed.{Claimed}
 use Rattle.rmodel.specs.Claims.{is_read_half}
 use Rattle.rmodel.specs.Changes.{status_changes, grant_changes, AreActive}
 use Rattle.rmodel.specs.Steps.{changed, next, some_asks}
-use Rattle.rsettle.specs.Sweep.{AreReadWithin}
+use Rattle.rplain.specs.Sweep.{AreReadWithin}
 use Rattle.rmodel.specs.WellFormed.{IsSound}
 use Rattle.rmodel.specs.State.{LockState}
 use Rattle.rplain.specs.Machine.{Standing}
-use Rattle.rsettle.specs.NewClaim.{seen_of}
+use Rattle.rplain.specs.NewClaim.{seen_of}
 use Rattle.rmodel.specs.Reached.{IsReached}
 
 -- the lock state of a plain machine

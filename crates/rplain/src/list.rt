@@ -5,7 +5,7 @@ ghost use Rattle.rmodel.specs.Claims.{is_read_half};
 ghost use Rattle.rmodel.specs.Holds.{Alone, lacks, holds_of, may_rise, may_ask, is_part_of};
 ghost use Rattle.rmodel.specs.Steps.{asking, is_not_holding};
 ghost use Rattle.rmodel.specs.Changes.{status_in};
-ghost use Rattle.rsettle.specs.Sweep.{is_of};
+ghost use Rattle.rplain.specs.Sweep.{is_of};
 ghost use Rattle.rmodel.specs.WellFormed.{EachPair, Distinct};
 
 use rclaim::Status;

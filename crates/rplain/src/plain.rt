@@ -4,18 +4,19 @@ ghost use Rattle.rclaim.specs.Events.{IsNormalEvent, seat_of};
 ghost use Rattle.rclaim.specs.declared.event.Event.TheVariants.{Issue, Finish, Rise, Ask};
 ghost use Rattle.rplain.specs.Plain.{IsTaken};
 ghost use Rattle.rmodel.specs.Steps.{Fits, Accepts, refusal};
-ghost use Rattle.rsettle.specs.Sweep.{is_of};
+ghost use Rattle.rplain.specs.Sweep.{is_of};
 
+use crate::claims::push_claims;
+use crate::left::{take_read_half, take_seat};
 use crate::list::{
     ask, holds_of, incomplete, is_not_holding, is_part_of, may_ask, may_rise, place_of, status_in,
 };
+use crate::seen::{Seen, no_seen};
+use crate::settled::{give_once, settle, settle_any};
 use rclaim::{Changes, Event, Request, STATUS_ROOM, Status};
 use rexpand::Groups;
 use rmodel::{Claimed, Granted, Machine, Refused, is_upgrade};
 use rset::{ResourceSet, SEATS};
-use rsettle::{
-    Seen, give_once, no_seen, push_claims, settle, settle_any, take_read_half, take_seat,
-};
 use std::alloc::{AllocError, Global};
 use std::marker::Model;
 

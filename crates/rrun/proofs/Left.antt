@@ -9,15 +9,15 @@ use Rattle.rmodel.proofs.ListFacts.{false_from}
 use Rattle.rvalue.specs.declared.ledger.Edit.{Edit}
 use Rattle.rvalue.specs.declared.ledger.Ledger.{Ledger}
 use Rattle.rstate.proofs.homes.Lists.{same_item, get_map, get_there, any_here}
-use Rattle.rtasks.specs.Scripts.{ScriptFields}
-use Rattle.rtasks.specs.GuardSeats.{SeatOf}
-use Rattle.rtasks.specs.Runs.{HasRun}
-use Rattle.rtasks.specs.Seats.{IsSeatFor}
-use Rattle.rtasks.specs.declared.tasks.Ended.{Ended}
-use Rattle.rtasks.specs.Endings.{AreEnded}
-use Rattle.rtasks.specs.Tasks.{AreSeatsFor, HasEnded}
+use Rattle.rrun.specs.Scripts.{ScriptFields}
+use Rattle.rrun.specs.GuardSeats.{SeatOf}
+use Rattle.rrun.specs.Runs.{HasRun}
+use Rattle.rrun.specs.Seats.{IsSeatFor}
+use Rattle.rrun.specs.declared.tasks.Ended.{Ended}
+use Rattle.rrun.specs.Endings.{AreEnded}
+use Rattle.rrun.specs.Tasks.{AreSeatsFor, HasEnded}
 use Rattle.rrun.specs.Reporting.{HaveRun}
-use Rattle.rtasks.proofs.Ending.{less_from_slice_get}
+use Rattle.rrun.proofs.Ending.{less_from_slice_get}
 
 -- what is so of an answer by two facts
 pub both_ok : {X Y : Type 0} (r : Result X Y) (P Q R : X → Type 0) → ((x : X) → P x → Q x → R x) → IfOk r P → IfOk r Q → IfOk r R

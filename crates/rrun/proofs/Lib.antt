@@ -1,3 +1,11 @@
+pub use Rattle.rscript.proofs.Tasks
 pub mod Left
 pub mod Reported
 pub mod Telling
+pub mod Standing
+pub mod Doing
+pub mod Stepping
+pub mod Running
+pub mod Whole
+pub mod Parts
+pub mod Ending

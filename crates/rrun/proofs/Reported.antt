@@ -18,18 +18,18 @@ use Rattle.rvalue.proofs.InTurnLemmas.{AllInTurn-weaker}
 use Rattle.rstate.specs.Contents.{Contents}
 use Rattle.rstate.specs.Histories.{Beginning, IsListed, MayFollow}
 use Rattle.rstate.proofs.homes.Lists.{same_item, get_there, get_replicate}
-use Rattle.rforms.specs.Heads.{Head, is_nil}
-use Rattle.rforms.specs.Reports.{IsLawful, IsRightEntry, ledger_after}
-use Rattle.rreport.specs.Report.{ReportFields, told_by}
-use Rattle.rtasks.specs.Statement.{Statement}
-use Rattle.rtasks.specs.Scripts.{ScriptFields, IsScript}
-use Rattle.ropening.specs.Closing.{IsClosedBy, IsLeft}
-use Rattle.rtasks.specs.GuardSeats.{SeatOf, IsOf, IsIdle}
-use Rattle.rtasks.specs.Runs.{IsRunOf}
-use Rattle.rtasks.specs.Seats.{IsSeatFor}
+use Rattle.rtrace_form.specs.Heads.{Head, is_nil}
+use Rattle.rtrace_form.specs.Reports.{IsLawful, IsRightEntry, ledger_after}
+use Rattle.rtrace_write.specs.Report.{ReportFields, told_by}
+use Rattle.rrun.specs.Statement.{Statement}
+use Rattle.rrun.specs.Scripts.{ScriptFields, IsScript}
+use Rattle.rguard.specs.Closing.{IsClosedBy, IsLeft}
+use Rattle.rrun.specs.GuardSeats.{SeatOf, IsOf, IsIdle}
+use Rattle.rrun.specs.Runs.{IsRunOf}
+use Rattle.rrun.specs.Seats.{IsSeatFor}
 use Rattle.rrun.specs.Reporting.{beginning_of, HasOpened, TellsHeadOf, IsReportOf, HaveRun}
-use Rattle.rtasks.specs.Tasks.{AreSeatsFor}
-use Rattle.rtasks.proofs.Ending.{less_from_slice_get}
+use Rattle.rrun.specs.Tasks.{AreSeatsFor}
+use Rattle.rrun.proofs.Ending.{less_from_slice_get}
 
 -- ---- the beginning
 

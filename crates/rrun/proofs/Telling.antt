@@ -21,19 +21,19 @@ use Rattle.rvalue.specs.declared.ledger.Edit.{Edit}
 use Rattle.rvalue.specs.declared.ledger.Edit.TheVariants as edit
 use Rattle.rvalue.specs.Entries.{EntryFields}
 use Rattle.rstate.proofs.homes.Lists.{get_there}
-use Rattle.rforms.specs.Heads.{Head, is_nil, are_read_groups}
-use Rattle.rforms.specs.Reports.{IsRightEntry, lock_after}
-use Rattle.rforms.specs.Written.{IsTellable, MayBeWritten}
-use Rattle.rforms.proofs.lists.Histories.{lock-tasks}
-use Rattle.rreport.specs.Report.{ReportFields, told_by as report_told}
-use Rattle.rreport.proofs.Counts.{some_length}
-use Rattle.rtasks.specs.Statements.{FitsBehind, IsWithin, amount_of}
-use Rattle.rtasks.specs.Statement.{Statement}
-use Rattle.rtasks.specs.Statement.TheVariants as statement
-use Rattle.rtasks.specs.Scripts.{ScriptFields, IsScript}
-use Rattle.rtasks.proofs.Tasks.{task_at}
+use Rattle.rtrace_form.specs.Heads.{Head, is_nil, are_read_groups}
+use Rattle.rtrace_form.specs.Reports.{IsRightEntry, lock_after}
+use Rattle.rtrace_form.specs.Written.{IsTellable, MayBeWritten}
+use Rattle.rtrace_form.proofs.lists.Histories.{lock-tasks}
+use Rattle.rtrace_write.specs.Report.{ReportFields, told_by as report_told}
+use Rattle.rtrace_write.proofs.Counts.{some_length}
+use Rattle.rrun.specs.Statements.{FitsBehind, IsWithin, amount_of}
+use Rattle.rrun.specs.Statement.{Statement}
+use Rattle.rrun.specs.Statement.TheVariants as statement
+use Rattle.rrun.specs.Scripts.{ScriptFields, IsScript}
+use Rattle.rrun.proofs.Tasks.{task_at}
 use Rattle.rrun.specs.Reporting.{IsReportOf}
-use Rattle.rtasks.specs.Runs.{Told, told_by, deed_of, deeds_next, entry_now, run_of}
+use Rattle.rrun.specs.Runs.{Told, told_by, deed_of, deeds_next, entry_now, run_of}
 
 -- ---- statements
 

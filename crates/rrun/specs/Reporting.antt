@@ -7,13 +7,13 @@ use Rattle.rvalue.specs.declared.ledger.Ledger.{Ledger}
 use Rattle.rvalue.specs.Entries.{EntryFields}
 use Rattle.rvalue.specs.Ledgers.{opening_ledger}
 use Rattle.rstate.specs.Histories.{Beginning}
-use Rattle.rforms.specs.Reports.{IsLawful}
-use Rattle.rreport.specs.Report.{ReportFields, told_by, IsOverResources, HasItsLedgers}
-use Rattle.rtasks.specs.Statement.{Statement}
-use Rattle.rtasks.specs.Scripts.{ScriptFields}
-use Rattle.rtasks.specs.GuardSeats.{SeatOf}
-use Rattle.rtasks.specs.Runs.{HasRun, IsRunOf}
-use Rattle.rtasks.specs.Tasks.{AreSeatsFor}
+use Rattle.rtrace_form.specs.Reports.{IsLawful}
+use Rattle.rtrace_write.specs.Report.{ReportFields, told_by, IsOverResources, HasItsLedgers}
+use Rattle.rrun.specs.Statement.{Statement}
+use Rattle.rrun.specs.Scripts.{ScriptFields}
+use Rattle.rrun.specs.GuardSeats.{SeatOf}
+use Rattle.rrun.specs.Runs.{HasRun, IsRunOf}
+use Rattle.rrun.specs.Tasks.{AreSeatsFor}
 
 -- how the runtime of a script begins: with what the script declares, a seat for each task, each of which may have a request, and ledgers as they open
 abbrev pub beginning_of : ScriptFields → Beginning Ledger

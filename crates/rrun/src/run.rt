@@ -2,17 +2,20 @@
 ghost use Rattle.std.specs.Prelude.{◌≡◌, ◌≤◌, [], map, length, vec_capacity, IfOk};
 ghost use Rattle.std.specs.Arc.{arc_value};
 ghost use Rattle.std.specs.List.{list_any};
-ghost use Rattle.rforms.specs.Written.{MayBeWritten};
-ghost use Rattle.rreport.specs.Report.{told_by};
-ghost use Rattle.rtasks.specs.Tasks.{AreSeatsFor};
+ghost use Rattle.rtrace_form.specs.Written.{MayBeWritten};
+ghost use Rattle.rtrace_write.specs.Report.{told_by};
+ghost use Rattle.rrun.specs.Tasks.{AreSeatsFor};
 ghost use Rattle.rrun.specs.Reporting.{HaveRun, HasOpened, TellsHeadOf, IsReportOf};
 
+use crate::pace::Pace;
+use crate::tasks::{Ended, run_tasks};
 use rexpand::Groups;
+use rguard::{Closed, Receipt, Rnlp, Seat};
 use rmodel::Machine;
 use rplain::Plain;
-use rreport::Report;
+use rscript::Script;
 use rset::NameTable;
-use rtasks::{Closed, Ended, Pace, Receipt, Rnlp, Script, Seat, run_tasks};
+use rtrace_write::Report;
 use rvalue::{Edit, Ledger};
 use std::alloc::{AllocError, Global};
 use std::sync::{Arc, Wait};

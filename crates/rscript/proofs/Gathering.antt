@@ -6,14 +6,14 @@ use Rattle.rset.specs.Sets.{Set}
 use Rattle.rclaim.specs.Requests.{RequestFields}
 use Rattle.rmodel.specs.Claims.{is_nested}
 use Rattle.rvalue.specs.InTurn.{AllInTurn}
-use Rattle.rforms.proofs.facts.Choices.{some_is, some_none}
+use Rattle.rtrace_form.proofs.facts.Choices.{some_is, some_none}
 use Rattle.rbound.specs.Needs.{Needs, RequestNeeds}
 use Rattle.rbound.specs.TaskNeeds.{TaskNeeds, with_request, with_ask, with_last_ask, last_is_nested, requests_of, none_needed}
-use Rattle.rscript_records.specs.Statements.{FitsBehind, IsTask, section_next, section_after, is_there}
-use Rattle.rscript_records.specs.declared.place.Where.TheVariants.{InNested}
-use Rattle.rscript_records.specs.declared.section.Section.{Section}
-use Rattle.rscript_records.specs.declared.statement.Statement.{Statement}
-use Rattle.rscript_records.specs.declared.statement.Statement.TheVariants as statement
+use Rattle.rscript.specs.Statements.{FitsBehind, IsTask, section_next, section_after, is_there}
+use Rattle.rscript.specs.declared.place.Where.TheVariants.{InNested}
+use Rattle.rscript.specs.declared.section.Section.{Section}
+use Rattle.rscript.specs.declared.statement.Statement.{Statement}
+use Rattle.rscript.specs.declared.statement.Statement.TheVariants as statement
 use Rattle.rscript.specs.Scripts.{ScriptFields, IsScript}
 use Rattle.rscript.specs.Needs.{asks_in, requests_in, needs_of, none_yet, with_statement, GoesOn}
 use Rattle.rscript.proofs.Tasks.{task_at}

@@ -1,3 +1,4 @@
+pub use Rattle.rtrace_form.proofs.Made
 pub mod facts
 pub mod forth
 pub mod back
@@ -5,3 +6,5 @@ pub mod texts
 pub mod Takes
 pub mod Tasks
 pub mod Gathering
+pub mod record_facts
+pub mod lines

@@ -3,37 +3,36 @@ use Rattle.std.proofs.Common.{◌≡◌, ℕ, suc, ◌≤◌, Bool, true, false,
 use Rattle.std.proofs.lemmas.Bool.Decides.{nat_tests}
 use Rattle.std.proofs.lemmas.List.{append-nil}
 use Rattle.std.proofs.lemmas.List.Sums.{fold_push}
-use Rattle.rset.specs.Sets.{all_below}
+use Rattle.rset.specs.Sets.{all_below, Set}
 use Rattle.rset.proofs.SetLemmas.{all_below_at}
 use Rattle.rset.proofs.SetMembers.{some_member}
-use Rattle.rforms.specs.declared.errors.RowErr.{RowErr}
-use Rattle.rforms.specs.declared.errors.RowErr.TheVariants as why
+use Rattle.rtrace_form.specs.declared.errors.RowErr.{RowErr}
+use Rattle.rtrace_form.specs.declared.errors.RowErr.TheVariants as why
 use Rattle.std.specs.Prelude.{Result, Ok, Err, OnOk, is_none, option_map, option_to_list, IfSome}
 use Rattle.std.specs.FinSet.{empty, len}
-use Rattle.rset.specs.Sets.{Set}
 use Rattle.rset.specs.declared.TheConstants.{RESOURCES}
 use Rattle.rexpand.specs.Groups.{ReadGroups}
 use Rattle.rexpand.specs.declared.TheConstants.{GROUPS}
-use Rattle.rforms.specs.Records.{Row}
-use Rattle.rforms.specs.Decided.{field_of}
-use Rattle.rforms.specs.Fields.{paired, read, all_known, all_counted, Said, Fresh, Members}
-use Rattle.rforms.specs.Heads.{is_nil}
-use Rattle.rforms.specs.SetFields.{set_told}
-use Rattle.rforms.specs.Walks.{when, or_else, first_of}
-use Rattle.rscript_records.specs.Statements.{section_next}
-use Rattle.rscript_records.specs.Words.{fields_of, word_in}
-use Rattle.rscript_records.specs.Lines.{Line, Opens, HasResource, HasGroup, HasTask, Does, Ends, names_of, line_by, meant_as, meaning}
-use Rattle.rscript_records.specs.Causes.{name_causes, line_causes, meant_causes, said_causes, statement_causes, groups_in}
-use Rattle.rscript_records.specs.Told.{is_statement, Tells, IsWrong}
-use Rattle.rscript_records.specs.declared.code.Code.{Code}
-use Rattle.rscript_records.specs.declared.code.Code.TheVariants.{UnknownName, EmptyGroup}
-use Rattle.rscript_records.specs.declared.section.Section.{Section}
-use Rattle.rscript_records.specs.declared.statement.Statement.{Statement}
-use Rattle.rscript_records.specs.declared.word.Word.{Word}
-use Rattle.rscript_records.specs.declared.word.Word.TheVariants as word
-use Rattle.rscript_records.proofs.facts.Causes.{first_of-append}
-use Rattle.rscript_records.proofs.facts.Shapes.{long_of, one_row, two_row}
-use Rattle.rscript_records.proofs.facts.Tells.{line_first, unknown_wrong, told_causes}
+use Rattle.rtrace_form.specs.Records.{Row}
+use Rattle.rtrace_form.specs.Decided.{field_of}
+use Rattle.rtrace_form.specs.Fields.{paired, read, all_known, all_counted, Said, Fresh, Members}
+use Rattle.rtrace_form.specs.Heads.{is_nil}
+use Rattle.rtrace_form.specs.SetFields.{set_told}
+use Rattle.rtrace_form.specs.Walks.{when, or_else, first_of}
+use Rattle.rscript.specs.Statements.{section_next}
+use Rattle.rscript.specs.Words.{fields_of, word_in}
+use Rattle.rscript.specs.Lines.{Line, Opens, HasResource, HasGroup, HasTask, Does, Ends, names_of, line_by, meant_as, meaning}
+use Rattle.rscript.specs.Causes.{name_causes, line_causes, meant_causes, said_causes, statement_causes, groups_in}
+use Rattle.rscript.specs.Told.{is_statement, Tells, IsWrong}
+use Rattle.rscript.specs.declared.code.Code.{Code}
+use Rattle.rscript.specs.declared.code.Code.TheVariants.{UnknownName, EmptyGroup}
+use Rattle.rscript.specs.declared.section.Section.{Section}
+use Rattle.rscript.specs.declared.statement.Statement.{Statement}
+use Rattle.rscript.specs.declared.word.Word.{Word}
+use Rattle.rscript.specs.declared.word.Word.TheVariants as word
+use Rattle.rscript.proofs.record_facts.Causes.{first_of-append}
+use Rattle.rscript.proofs.record_facts.Shapes.{long_of, one_row, two_row}
+use Rattle.rscript.proofs.record_facts.Tells.{line_first, unknown_wrong, told_causes}
 use Rattle.rscript.specs.SoFar.{SoFar, steps_in, section_of, followed_by, with_line, with_meaning, with_row}
 use Rattle.rscript.specs.Faults.{placed_causes}
 use Rattle.rscript.specs.Reading.{statements_in, latest_in, Knows, Adds, Closes, Takes, Refuses}

@@ -5,9 +5,9 @@ use Rattle.std.specs.Prelude.{slice_get}
 use Rattle.std.specs.List.{AllByRecursion}
 use Rattle.rset.specs.Sets.{Set}
 use Rattle.rvalue.specs.InTurn.{AllInTurn}
-use Rattle.rforms.proofs.facts.Choices.{some_is, some_none}
-use Rattle.rscript_records.specs.Statements.{FitsBehind, IsTask}
-use Rattle.rscript_records.specs.declared.statement.Statement.{Statement}
+use Rattle.rtrace_form.proofs.facts.Choices.{some_is, some_none}
+use Rattle.rscript.specs.Statements.{FitsBehind, IsTask}
+use Rattle.rscript.specs.declared.statement.Statement.{Statement}
 use Rattle.rscript.specs.Scripts.{ScriptFields, IsScript}
 
 at_place : {X : Type 0} (P : X → Type 0) (xs : List X) (k : ℕ) (x : X) → AllByRecursion P xs → slice_get xs k ≡ Some x → P x

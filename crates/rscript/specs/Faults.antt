@@ -2,19 +2,19 @@
 use Rattle.std.specs.Prelude.{ℕ, Bool, true, false, not, ◌&&◌, ◌==◌, nat_le, List, [], ◌∷◌, ◌++◌, length, fold, Option, Some, None}
 use Rattle.rset.specs.declared.TheConstants.{RESOURCES, SEATS}
 use Rattle.rexpand.specs.declared.TheConstants.{GROUPS}
-use Rattle.rforms.specs.Records.{Row}
-use Rattle.rforms.specs.Decided.{field_of}
-use Rattle.rforms.specs.Heads.{is_nil}
-use Rattle.rforms.specs.Walks.{when, first_of, fault_from}
-use Rattle.rscript_records.specs.Statements.{is_there}
-use Rattle.rscript_records.specs.Words.{word_in}
-use Rattle.rscript_records.specs.Causes.{name_causes, said_causes}
-use Rattle.rscript_records.specs.Places.{stands, at_end}
-use Rattle.rscript_records.specs.declared.section.Section.{Section}
-use Rattle.rscript_records.specs.declared.word.Word.{Word}
-use Rattle.rscript_records.specs.declared.word.Word.TheVariants as word
-use Rattle.rscript_records.specs.declared.code.Code.{Code}
-use Rattle.rscript_records.specs.declared.code.Code.TheVariants.{BadField, BadOrder, NoResources, NoTask, TooMany, NoEnd}
+use Rattle.rtrace_form.specs.Records.{Row}
+use Rattle.rtrace_form.specs.Decided.{field_of}
+use Rattle.rtrace_form.specs.Heads.{is_nil}
+use Rattle.rtrace_form.specs.Walks.{when, first_of, fault_from}
+use Rattle.rscript.specs.Statements.{is_there}
+use Rattle.rscript.specs.Words.{word_in}
+use Rattle.rscript.specs.Causes.{name_causes, said_causes}
+use Rattle.rscript.specs.Places.{stands, at_end}
+use Rattle.rscript.specs.declared.section.Section.{Section}
+use Rattle.rscript.specs.declared.word.Word.{Word}
+use Rattle.rscript.specs.declared.word.Word.TheVariants as word
+use Rattle.rscript.specs.declared.code.Code.{Code}
+use Rattle.rscript.specs.declared.code.Code.TheVariants.{BadField, BadOrder, NoResources, NoTask, TooMany, NoEnd}
 use Rattle.rscript.specs.SoFar.{SoFar, section_of, nothing_yet, with_row}
 
 -- ---- places

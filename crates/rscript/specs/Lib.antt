@@ -5,3 +5,11 @@ pub mod Faults
 pub mod Reading
 pub mod Texts
 pub mod Needs
+pub mod Codes
+pub mod Statements
+pub mod Words
+pub mod Lines
+pub mod Places
+pub mod Causes
+pub mod Decided
+pub mod Told

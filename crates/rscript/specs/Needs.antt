@@ -3,8 +3,8 @@ use Rattle.std.specs.Prelude.{◌≡◌, ℕ, true, List, [], ◌∷◌, map, le
 use Rattle.rset.specs.Sets.{Set, all_below}
 use Rattle.rbound.specs.Needs.{Needs, RequestNeeds}
 use Rattle.rbound.specs.TaskNeeds.{TaskNeeds, none_needed, with_request, with_ask, last_is_nested}
-use Rattle.rscript_records.specs.declared.statement.Statement.{Statement}
-use Rattle.rscript_records.specs.declared.statement.Statement.TheVariants as statement
+use Rattle.rscript.specs.declared.statement.Statement.{Statement}
+use Rattle.rscript.specs.declared.statement.Statement.TheVariants as statement
 use Rattle.rscript.specs.Scripts.{ScriptFields}
 
 -- the sets for which statements ask, in order, until the next section begins

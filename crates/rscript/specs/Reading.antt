@@ -2,15 +2,15 @@
 use Rattle.std.specs.Prelude.{◌≡◌, ◌≤◌, Bool, true, false, List, [], ◌∷◌, ◌++◌, length, map, Option, Some, None, IfSome}
 use Rattle.std.specs.declared.vec.Vec.{Vec}
 use Rattle.std.specs.declared.alloc.Global.{Global}
-use Rattle.rforms.specs.Records.{Row}
-use Rattle.rforms.specs.Heads.{is_nil}
-use Rattle.rforms.specs.Walks.{first_of}
-use Rattle.rscript_records.specs.Statements.{section_next}
-use Rattle.rscript_records.specs.Causes.{groups_in}
-use Rattle.rscript_records.specs.Places.{at_resources, at_tasks}
-use Rattle.rscript_records.specs.declared.code.Code.{Code}
-use Rattle.rscript_records.specs.declared.statement.Statement.{Statement}
-use Rattle.rscript_records.specs.declared.word.Word.{Word}
+use Rattle.rtrace_form.specs.Records.{Row}
+use Rattle.rtrace_form.specs.Heads.{is_nil}
+use Rattle.rtrace_form.specs.Walks.{first_of}
+use Rattle.rscript.specs.Statements.{section_next}
+use Rattle.rscript.specs.Causes.{groups_in}
+use Rattle.rscript.specs.Places.{at_resources, at_tasks}
+use Rattle.rscript.specs.declared.code.Code.{Code}
+use Rattle.rscript.specs.declared.statement.Statement.{Statement}
+use Rattle.rscript.specs.declared.word.Word.{Word}
 use Rattle.rscript.specs.SoFar.{SoFar, section_of, with_row}
 use Rattle.rscript.specs.Faults.{placed_causes}
 use Rattle.rscript.specs.declared.reading.Reading.{Reading}

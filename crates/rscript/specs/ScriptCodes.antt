@@ -6,8 +6,8 @@ use Rattle.rset.specs.Sets.{Set}
 use Rattle.rclaim.specs.Codes.{set_code}
 use Rattle.rclaim.specs.Requests.{RequestFields, request_code}
 use Rattle.rvalue.specs.declared.ledger.Edit.TheVariants as edit
-use Rattle.rscript_records.specs.declared.statement.Statement.{Statement}
-use Rattle.rscript_records.specs.declared.statement.Statement.TheVariants as statement
+use Rattle.rscript.specs.declared.statement.Statement.{Statement}
+use Rattle.rscript.specs.declared.statement.Statement.TheVariants as statement
 use Rattle.rscript.specs.Scripts.{ScriptFields}
 
 -- a beginning by its request, an edit by its place, its kind and its amount, a show by its place, an ask by its part, a rise by 0 and a finish by 1

@@ -4,11 +4,11 @@ use Rattle.std.specs.List.{AllZip, AllByRecursion}
 use Rattle.rset.specs.Sets.{Set, all_below}
 use Rattle.rset.specs.Names.{is_table}
 use Rattle.rset.specs.declared.TheConstants.{RESOURCES, SEATS}
-use Rattle.rforms.specs.Records.{Row, AreRowsOf}
-use Rattle.rforms.specs.Heads.{is_nil, are_read_groups}
-use Rattle.rscript_records.specs.Statements.{IsTask}
-use Rattle.rscript_records.specs.Lines.{Line, Opens, HasResource, HasGroup, HasTask, Does, Ends, names_of, meaning}
-use Rattle.rscript_records.specs.declared.statement.Statement.{Statement}
+use Rattle.rtrace_form.specs.Records.{Row, AreRowsOf}
+use Rattle.rtrace_form.specs.Heads.{is_nil, are_read_groups}
+use Rattle.rscript.specs.Statements.{IsTask}
+use Rattle.rscript.specs.Lines.{Line, Opens, HasResource, HasGroup, HasTask, Does, Ends, names_of, meaning}
+use Rattle.rscript.specs.declared.statement.Statement.{Statement}
 
 -- its resources, its read groups and its tasks, each in the order of the text, and the statements of each task
 pub record ScriptFields : Type 0 where

@@ -1,12 +1,12 @@
 -- What the lines before a record have said, and what each line adds to it.
 use Rattle.std.specs.Prelude.{ℕ, List, [], ◌∷◌, ◌++◌, Option, Some, None, option_map, option_to_list}
 use Rattle.rset.specs.Sets.{Set}
-use Rattle.rforms.specs.Records.{Row}
-use Rattle.rscript_records.specs.Statements.{section_after}
-use Rattle.rscript_records.specs.Lines.{Line, Opens, HasResource, HasGroup, HasTask, Does, Ends, names_of, meaning}
-use Rattle.rscript_records.specs.Places.{at_start, at_version, at_resources, at_groups, at_tasks, at_end}
-use Rattle.rscript_records.specs.declared.section.Section.{Section}
-use Rattle.rscript_records.specs.declared.statement.Statement.{Statement}
+use Rattle.rtrace_form.specs.Records.{Row}
+use Rattle.rscript.specs.Statements.{section_after}
+use Rattle.rscript.specs.Lines.{Line, Opens, HasResource, HasGroup, HasTask, Does, Ends, names_of, meaning}
+use Rattle.rscript.specs.Places.{at_start, at_version, at_resources, at_groups, at_tasks, at_end}
+use Rattle.rscript.specs.declared.section.Section.{Section}
+use Rattle.rscript.specs.declared.statement.Statement.{Statement}
 use Rattle.rscript.specs.Scripts.{ScriptFields}
 
 -- ---- what was said

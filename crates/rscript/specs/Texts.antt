@@ -1,10 +1,10 @@
 -- Scripts as they are written, and what is known of a text once its records were taken.
 use Rattle.std.specs.Prelude.{◌≡◌, ℕ, Bool, List, map, Option, Some}
-use Rattle.rforms.specs.Records.{Row, AreRowsOf}
-use Rattle.rforms.specs.declared.errors.TextErr.{TextErr}
-use Rattle.rforms.specs.declared.errors.TextErr.TheVariants as text
-use Rattle.rscript_records.specs.Lines.{names_of, spelled}
-use Rattle.rscript_records.specs.declared.code.Code.{Code}
+use Rattle.rtrace_form.specs.Records.{Row, AreRowsOf}
+use Rattle.rtrace_form.specs.declared.errors.TextErr.{TextErr}
+use Rattle.rtrace_form.specs.declared.errors.TextErr.TheVariants as text
+use Rattle.rscript.specs.Lines.{names_of, spelled}
+use Rattle.rscript.specs.declared.code.Code.{Code}
 use Rattle.rscript.specs.Scripts.{ScriptFields, lines_of}
 use Rattle.rscript.specs.SoFar.{SoFar}
 use Rattle.rscript.specs.Faults.{code_of, is_ended, first_fault, read_all}

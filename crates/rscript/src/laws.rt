@@ -1,6 +1,6 @@
 //! Laws of scripts, each the contract of a function that does nothing.
 ghost use Rattle.std.specs.Prelude.{◌≡◌, ℕ, List, None};
-ghost use Rattle.rforms.specs.Records.{Row};
+ghost use Rattle.rtrace_form.specs.Records.{Row};
 ghost use Rattle.rscript.specs.Scripts.{ScriptFields, IsScript, Spells, IsTextOf};
 ghost use Rattle.rscript.specs.SoFar.{told_in};
 ghost use Rattle.rscript.specs.Faults.{first_fault, read_all};

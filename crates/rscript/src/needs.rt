@@ -1,12 +1,12 @@
 // What a script needs.
 ghost use Rattle.std.specs.Prelude.{◌≡◌, ◌<◌, [], IfOk, OnOk, length, slice_set};
 ghost use Rattle.rbound.specs.TaskNeeds.{requests_of};
-ghost use Rattle.rscript_records.specs.Statements.{IsTask};
+ghost use Rattle.rscript.specs.Statements.{IsTask};
 ghost use Rattle.rscript.specs.Needs.{requests_in, needs_of, none_yet, with_statement, GoesOn};
 
-use crate::Script;
+use crate::script::Script;
+use crate::statement::Statement;
 use rbound::Needs;
-use rscript_records::Statement;
 use std::alloc::{AllocError, Global};
 
 impl Script {

@@ -1,22 +1,27 @@
 // The reader of a script, record by record.
 ghost use Rattle.std.specs.Prelude.{◌≡◌, ◌≤◌, ◌==◌, None, Some, true, OnOk, IfErr};
 ghost use Rattle.csv.specs.Records.{fields_of};
-ghost use Rattle.rscript_records.specs.Places.{at_resources, at_tasks};
-ghost use Rattle.rscript_records.specs.Words.{word_in};
-ghost use Rattle.rscript_records.specs.Told.{is_statement};
+ghost use Rattle.rscript.specs.Places.{at_resources, at_tasks};
+ghost use Rattle.rscript.specs.Words.{word_in};
+ghost use Rattle.rscript.specs.Told.{is_statement};
 ghost use Rattle.rscript.specs.SoFar.{SoFar, nothing_yet};
 ghost use Rattle.rscript.specs.Faults.{stands_at};
 ghost use Rattle.rscript.specs.Reading.{Knows, Adds, Closes, Takes, Refuses};
 
+use crate::code::Code;
+use crate::faults::fault_of;
+use crate::place::{
+    AT_END, AT_GROUPS, AT_RESOURCES, AT_START, AT_TASKS, AT_VERSION, is_there, stand_of,
+};
+use crate::section::{Section, section_after};
+use crate::statement::Statement;
+use crate::tables::{add_group, declare, has_all_groups, make_groups};
+use crate::told::statement_of;
+use crate::word::Word;
 use csv::ByteRecord;
 use rexpand::Groups;
-use rforms::{RowErr, field_of};
-use rscript_records::{
-    AT_END, AT_GROUPS, AT_RESOURCES, AT_START, AT_TASKS, AT_VERSION, Code, Section, Statement,
-    Word, add_group, declare, fault_of, has_all_groups, is_there, make_groups, section_after,
-    set_of, stand_of, statement_of,
-};
 use rset::NameTable;
+use rtrace_form::{RowErr, field_of, set_of};
 use std::alloc::Global;
 use std::mem;
 

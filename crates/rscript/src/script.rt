@@ -5,11 +5,12 @@ ghost use Rattle.rscript.specs.SoFar.{SoFar, nothing_yet, told_in};
 ghost use Rattle.rscript.specs.Texts.{error_of, IsFirstFault};
 ghost use Rattle.rscript.specs.Reading.{Knows};
 
+use crate::code::Code;
 use crate::reading::Reading;
+use crate::statement::Statement;
 use rexpand::Groups;
-use rforms::{TextErr, take_text};
-use rscript_records::{Code, Statement};
 use rset::NameTable;
+use rtrace_form::{TextErr, take_text};
 use std::alloc::Global;
 use std::marker::Model;
 use std::mem;

@@ -1,15 +1,17 @@
 // A reader of scripts takes the records of a text one after another.
 ghost use Rattle.std.specs.Prelude.{◌≡◌};
 
+use crate::code::Code;
+use crate::place::AT_END;
 use crate::reading::Reading;
+use crate::record::word_in;
 use csv::ByteRecord;
-use rforms::{Records, RowErr};
-use rscript_records::{AT_END, Code, word_in};
+use rtrace_form::{Records, RowErr};
 
 impl Records for Reading {
     ghost use Rattle.rscript.specs.Reading.{Knows};
     ghost use Rattle.rscript.specs.Texts.{script_code, is_script_done, KnowsSaid};
-    ghost use Rattle.rscript_records.specs.declared.code.Code.TheVariants.{NoEnd};
+    ghost use Rattle.rscript.specs.declared.code.Code.TheVariants.{NoEnd};
 
     type Code = Code;
 

@@ -3,24 +3,24 @@ use Rattle.std.proofs.Common.{◌≡◌, ℕ, suc, ◌+◌, ◌<◌, true, List,
 use Rattle.std.specs.Prelude.{option_map, option_to_list}
 use Rattle.std.proofs.lemmas.List.{length-map}
 use Rattle.rbound.specs.Bounds.{Numbers}
-use Rattle.rforms.specs.Records.{Row}
-use Rattle.rforms.specs.Lines.{Line, Waits}
-use Rattle.rforms.specs.Waits.{bound_in, all_ended}
-use Rattle.rforms.specs.Reports.{Entry, lines_of}
-use Rattle.rforms.specs.SoFar.{SoFar, nothing_yet, names_in, head_in, entries_in, told_in, with_row, with_act, bare}
-use Rattle.rforms.specs.Faults.{read_all}
-use Rattle.rforms.specs.Takers.{list_code, is_list_done, HasTaken}
-use Rattle.rforms.specs.WrongBounds.{bound_said, bounds_said, or_more}
-use Rattle.rforms.specs.declared.fault.Code.TheVariants.{NoEnd}
-use Rattle.rforms.proofs.forth.Rows.{HaveTold, have_told}
-use Rattle.rforms.proofs.lists.BlankLines.{blank, lines_blank}
-use Rattle.rforms.proofs.lists.Likes.{told_from, bounds_in, bounds_are_due}
-use Rattle.rforms.proofs.texts.Lists.{read_more, bounds_more, list_faults}
-use Rattle.rlines.specs.declared.reading.Reading.{Reading}
-use Rattle.rreading.specs.declared.taken.Taken.{Taken}
-use Rattle.rreading.specs.declared.taken.Taken.TheVariants as taken
-use Rattle.rlines.specs.Knows.{Knows}
-use Rattle.rreading.specs.Takes.{Adds, TakesRow, TellsBound, bound_of}
+use Rattle.rtrace_form.specs.Records.{Row}
+use Rattle.rtrace_form.specs.Lines.{Line, Waits}
+use Rattle.rtrace_form.specs.Waits.{bound_in, all_ended}
+use Rattle.rtrace_form.specs.Reports.{Entry, lines_of}
+use Rattle.rtrace_form.specs.SoFar.{SoFar, nothing_yet, names_in, head_in, entries_in, told_in, with_row, with_act, bare}
+use Rattle.rtrace_form.specs.Faults.{read_all}
+use Rattle.rtrace_form.specs.Takers.{list_code, is_list_done, HasTaken}
+use Rattle.rtrace_form.specs.WrongBounds.{bound_said, bounds_said, or_more}
+use Rattle.rtrace_form.specs.declared.fault.Code.TheVariants.{NoEnd}
+use Rattle.rtrace_form.proofs.forth.Rows.{HaveTold, have_told}
+use Rattle.rtrace_form.proofs.lists.BlankLines.{blank, lines_blank}
+use Rattle.rtrace_form.proofs.lists.Likes.{told_from, bounds_in, bounds_are_due}
+use Rattle.rtrace_form.proofs.texts.Lists.{read_more, bounds_more, list_faults}
+use Rattle.rtrace_read.specs.declared.reading.Reading.{Reading}
+use Rattle.rtrace_read.specs.declared.taken.Taken.{Taken}
+use Rattle.rtrace_read.specs.declared.taken.Taken.TheVariants as taken
+use Rattle.rtrace_read.specs.Knows.{Knows}
+use Rattle.rtrace_read.specs.Takes.{Adds, TakesRow, TellsBound, bound_of}
 use Rattle.rtrace.specs.declared.count.Counting.{Counting}
 use Rattle.rtrace.specs.ToldBounds.{KnowsBounds}
 use Rattle.rtrace.specs.Collects.{KnowsCount, one_if_told, one_if_event, waits_told}

@@ -1,16 +1,16 @@
 -- What was taken is kept, one record more at a time.
 use Rattle.std.proofs.Common.{◌≡◌, Bool, ◌++◌, Option, None, sym, ap, subst, ◌∙◌}
 use Rattle.std.specs.Prelude.{option_map, option_to_list}
-use Rattle.rforms.specs.Records.{Row}
-use Rattle.rforms.specs.Reports.{Entry}
-use Rattle.rforms.specs.SoFar.{SoFar, with_act, with_row}
-use Rattle.rforms.specs.Faults.{code_of}
+use Rattle.rtrace_form.specs.Records.{Row}
+use Rattle.rtrace_form.specs.Reports.{Entry}
+use Rattle.rtrace_form.specs.SoFar.{SoFar, with_act, with_row}
+use Rattle.rtrace_form.specs.Faults.{code_of}
 use Rattle.rtrace.specs.declared.collect.Collecting.{Collecting}
-use Rattle.rlines.specs.declared.reading.Reading.{Reading}
-use Rattle.rreading.specs.declared.taken.Taken.{Taken}
-use Rattle.rreading.specs.declared.taken.Taken.TheVariants as taken
-use Rattle.rlines.specs.Knows.{Knows}
-use Rattle.rreading.specs.Takes.{Adds, TakesRow}
+use Rattle.rtrace_read.specs.declared.reading.Reading.{Reading}
+use Rattle.rtrace_read.specs.declared.taken.Taken.{Taken}
+use Rattle.rtrace_read.specs.declared.taken.Taken.TheVariants as taken
+use Rattle.rtrace_read.specs.Knows.{Knows}
+use Rattle.rtrace_read.specs.Takes.{Adds, TakesRow}
 use Rattle.rtrace.specs.Collects.{KnowsAll, Keeps}
 
 module _ (whole : Bool) (old new : Collecting) (reading : Reading) (s t : SoFar) (h : KnowsAll whole old s) (knows : Knows whole reading t) where

@@ -5,3 +5,11 @@ pub mod BoundSteps
 pub mod WaitSteps
 pub mod ToldSteps
 pub mod Keeping
+pub mod Splits
+pub mod Windows
+pub mod Gaining
+pub mod Feeding
+pub mod Errors
+pub mod KeyedBounds
+pub mod Knowing
+pub mod OverKeys

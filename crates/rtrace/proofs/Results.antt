@@ -1,13 +1,13 @@
 -- Results of the takers.
 use Rattle.std.proofs.Common.{◌≡◌, ap, subst}
 use Rattle.std.specs.Prelude.{Result, Ok, Err, OnOk, IfOk, IfErr, IsErrOf}
-use Rattle.rforms.specs.declared.fault.Code.{Code}
-use Rattle.rforms.specs.declared.fault.Fault.{Fault}
-use Rattle.rforms.specs.declared.errors.TextErr.{TextErr}
-use Rattle.rforms.specs.declared.errors.TextErr.TheVariants as text
-use Rattle.rstream.specs.Errors.{IsOfText}
-use Rattle.rstream.specs.declared.error.StreamErr.{StreamErr}
-use Rattle.rstream.specs.declared.error.StreamErr.TheVariants as stream
+use Rattle.rtrace_form.specs.declared.fault.Code.{Code}
+use Rattle.rtrace_form.specs.declared.fault.Fault.{Fault}
+use Rattle.rtrace_form.specs.declared.errors.TextErr.{TextErr}
+use Rattle.rtrace_form.specs.declared.errors.TextErr.TheVariants as text
+use Rattle.rtrace.specs.Errors.{IsOfText}
+use Rattle.rtrace.specs.declared.error.StreamErr.{StreamErr}
+use Rattle.rtrace.specs.declared.error.StreamErr.TheVariants as stream
 
 -- what holds at `Ok` follows from what holds there
 pub if_ok : {T E : Type 0} (r : Result T E) (P Q : T → Type 0) → IfOk r P → ((x : T) → P x → Q x) → IfOk r Q

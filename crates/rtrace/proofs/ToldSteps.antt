@@ -8,33 +8,33 @@ use Rattle.rmodel.specs.Steps.{AreAccepted}
 use Rattle.rmodel.specs.WellFormed.{Among}
 use Rattle.rplain.specs.Machine.{Standing}
 use Rattle.rbound.specs.Bounds.{Numbers, numbers_in}
-use Rattle.rcover.specs.declared.wait_end.WaitEnd.{WaitEnd}
-use Rattle.rwaits.specs.Past.{Past, start_of, with_event}
-use Rattle.rwaits.specs.declared.following.Following.{Following}
-use Rattle.rneeds.specs.Keys.{IsLastEnded}
-use Rattle.rneeds.specs.Knows.{bound_by}
-use Rattle.rbound_told.specs.Told.{Told, said, waits_of, AreBefore}
-use Rattle.rbound_told.specs.Knows.{KnowsTold}
-use Rattle.rbound_told.specs.declared.told.ToldBounds.{ToldBounds}
-use Rattle.rforms.specs.Heads.{Head, is_nil, read_groups}
-use Rattle.rforms.specs.Records.{Row}
-use Rattle.rforms.specs.Waits.{all_ended, bound_in, ended_in, events_of}
-use Rattle.rforms.specs.Reports.{Entry}
-use Rattle.rforms.specs.SoFar.{SoFar, nothing_yet, at_groups, head_in, entries_in, names_in, with_act, with_row, bare}
-use Rattle.rforms.specs.Faults.{code_of, read_all}
-use Rattle.rforms.specs.WrongBounds.{bound_said, bounds_said, bounds_due, or_more, first_other, first_wrong_bound, wrong_bound}
-use Rattle.rforms.proofs.facts.Choices.{some_is}
-use Rattle.rforms.proofs.texts.Lists.{read_more, bounds_more}
+use Rattle.rcover_laws.specs.declared.wait_end.WaitEnd.{WaitEnd}
+use Rattle.rcover.specs.Past.{Past, start_of, with_event}
+use Rattle.rcover.specs.declared.following.Following.{Following}
+use Rattle.rbound_history.specs.Keys.{IsLastEnded}
+use Rattle.rbound_history.specs.Knows.{bound_by}
+use Rattle.rtrace.specs.Told.{Told, said, waits_of, AreBefore}
+use Rattle.rtrace.specs.Knows.{KnowsTold}
+use Rattle.rtrace.specs.declared.told.ToldBounds.{ToldBounds}
+use Rattle.rtrace_form.specs.Heads.{Head, is_nil, read_groups}
+use Rattle.rtrace_form.specs.Records.{Row}
+use Rattle.rtrace_form.specs.Waits.{all_ended, bound_in, ended_in, events_of}
+use Rattle.rtrace_form.specs.Reports.{Entry}
+use Rattle.rtrace_form.specs.SoFar.{SoFar, nothing_yet, at_groups, head_in, entries_in, names_in, with_act, with_row, bare}
+use Rattle.rtrace_form.specs.Faults.{code_of, read_all}
+use Rattle.rtrace_form.specs.WrongBounds.{bound_said, bounds_said, bounds_due, or_more, first_other, first_wrong_bound, wrong_bound}
+use Rattle.rtrace_form.proofs.facts.Choices.{some_is}
+use Rattle.rtrace_form.proofs.texts.Lists.{read_more, bounds_more}
 use Rattle.rtrace.specs.declared.bounds.BoundsKept.{BoundsKept}
-use Rattle.rlines.specs.declared.reading.Reading.{Reading}
-use Rattle.rreading.specs.declared.taken.BoundTold.{BoundTold}
-use Rattle.rreading.specs.declared.taken.Taken.{Taken}
-use Rattle.rreading.specs.declared.taken.Taken.TheVariants as taken
-use Rattle.rlines.specs.Knows.{Knows, StandBehind, past_in, ended_at, waits_due}
-use Rattle.rreading.specs.Takes.{Adds, bound_of}
+use Rattle.rtrace_read.specs.declared.reading.Reading.{Reading}
+use Rattle.rtrace_read.specs.declared.taken.BoundTold.{BoundTold}
+use Rattle.rtrace_read.specs.declared.taken.Taken.{Taken}
+use Rattle.rtrace_read.specs.declared.taken.Taken.TheVariants as taken
+use Rattle.rtrace_read.specs.Knows.{Knows, StandBehind, past_in, ended_at, waits_due}
+use Rattle.rtrace_read.specs.Takes.{Adds, bound_of}
 use Rattle.rtrace.specs.ToldBounds.{AreTold, IsMade, KnowsBounds, HasRead}
-use Rattle.rlines.proofs.Steps.{events_push}
-use Rattle.rlines.proofs.DueWaits.{among_drop}
+use Rattle.rtrace_read.proofs.Steps.{events_push}
+use Rattle.rtrace_read.proofs.DueWaits.{among_drop}
 use Rattle.rtrace.proofs.WaitSteps.{AreAll, row_on, row_wait, row_head, all_at_end, some_not}
 
 -- ---- the past

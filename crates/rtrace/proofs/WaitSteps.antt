@@ -14,28 +14,28 @@ use Rattle.rvalue.specs.declared.act.Act.{Act}
 use Rattle.rvalue.specs.declared.act.Act.TheVariants.{Edited, Shown}
 use Rattle.rvalue.specs.declared.ledger.Edit.{Edit}
 use Rattle.rvalue.specs.declared.ledger.Edit.TheVariants as edit
-use Rattle.rcover.specs.declared.wait_end.WaitEnd.{WaitEnd}
-use Rattle.rforms.specs.Heads.{Head, is_nil}
-use Rattle.rforms.specs.Records.{Row}
-use Rattle.rforms.specs.Lines.{Line, Opens, HasResource, HasGroup, HasTask, HasCap, Happens, Does, BecomesEntitled, BecomesSatisfied, Grants, Waits, Leaves, Ends, word_of}
-use Rattle.rforms.specs.Waits.{all_ended, ended_from, ended_in}
-use Rattle.rforms.specs.Reports.{Entry}
-use Rattle.rforms.specs.SoFar.{SoFar, stands, head_in, entries_in, names_in, lock_in, at_ledgers, with_act, bare, with_line, with_meaning, with_row, event_place}
-use Rattle.rforms.specs.Faults.{code_of, is_change_due, is_first, is_same_line}
-use Rattle.rforms.specs.ToldWaits.{tells_wait}
-use Rattle.rforms.specs.WrongBounds.{bound_told, bound_said}
-use Rattle.rforms.specs.declared.word.Stage.{Stage}
-use Rattle.rforms.proofs.facts.Choices.{some_none}
-use Rattle.rforms.proofs.facts.Fine.{IsFine}
-use Rattle.rforms.proofs.facts.Said.{clean, IsClean}
-use Rattle.rforms.proofs.facts.Tests.{not_false}
-use Rattle.rforms.proofs.lists.Places.{no_change, none_due, placed}
-use Rattle.rforms.proofs.lists.ToldWaits.{all_ended_push}
-use Rattle.rlines.specs.declared.reading.Reading.{Reading}
-use Rattle.rlines.specs.Knows.{Knows, ended_at, last_ended, waits_due}
+use Rattle.rcover_laws.specs.declared.wait_end.WaitEnd.{WaitEnd}
+use Rattle.rtrace_form.specs.Heads.{Head, is_nil}
+use Rattle.rtrace_form.specs.Records.{Row}
+use Rattle.rtrace_form.specs.Lines.{Line, Opens, HasResource, HasGroup, HasTask, HasCap, Happens, Does, BecomesEntitled, BecomesSatisfied, Grants, Waits, Leaves, Ends, word_of}
+use Rattle.rtrace_form.specs.Waits.{all_ended, ended_from, ended_in}
+use Rattle.rtrace_form.specs.Reports.{Entry}
+use Rattle.rtrace_form.specs.SoFar.{SoFar, stands, head_in, entries_in, names_in, lock_in, at_ledgers, with_act, bare, with_line, with_meaning, with_row, event_place}
+use Rattle.rtrace_form.specs.Faults.{code_of, is_change_due, is_first, is_same_line}
+use Rattle.rtrace_form.specs.ToldWaits.{tells_wait}
+use Rattle.rtrace_form.specs.WrongBounds.{bound_told, bound_said}
+use Rattle.rtrace_form.specs.declared.word.Stage.{Stage}
+use Rattle.rtrace_form.proofs.facts.Choices.{some_none}
+use Rattle.rtrace_form.proofs.facts.Fine.{IsFine}
+use Rattle.rtrace_form.proofs.facts.Said.{clean, IsClean}
+use Rattle.rtrace_form.proofs.facts.Tests.{not_false}
+use Rattle.rtrace_form.proofs.lists.Places.{no_change, none_due, placed}
+use Rattle.rtrace_form.proofs.lists.ToldWaits.{all_ended_push}
+use Rattle.rtrace_read.specs.declared.reading.Reading.{Reading}
+use Rattle.rtrace_read.specs.Knows.{Knows, ended_at, last_ended, waits_due}
 use Rattle.rtrace.specs.ToldBounds.{waits_left}
-use Rattle.rlines.proofs.DueWaits.{waits_in, all_due}
-use Rattle.rlines.proofs.EventSteps.{due_is, event_high}
+use Rattle.rtrace_read.proofs.DueWaits.{waits_in, all_due}
+use Rattle.rtrace_read.proofs.EventSteps.{due_is, event_high}
 
 -- ---- what was told, and what is left
 

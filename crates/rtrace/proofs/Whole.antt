@@ -5,26 +5,26 @@ use Rattle.std.specs.Prelude.{option_to_list, slice_get, unwrap_or, Result, Ok, 
 use Rattle.std.specs.List.{range_with_len}
 use Rattle.rexpand.specs.Groups.{ReadGroups}
 use Rattle.rvalue.specs.declared.ledger.Ledger.{Ledger}
-use Rattle.rforms.specs.Heads.{read_groups}
-use Rattle.rforms.specs.Records.{Row, AreRowsOf}
-use Rattle.rforms.specs.Texts.{IsTextOf}
-use Rattle.rforms.specs.Walks.{or_else}
-use Rattle.rforms.specs.WrongBounds.{first_wrong_bound, first_fault, wrong_bound}
-use Rattle.rforms.specs.Faults.{code_of, is_ended, first_record_fault, read_all}
-use Rattle.rforms.specs.Reports.{Report, Spells, ledger_after}
-use Rattle.rforms.specs.SoFar.{SoFar, nothing_yet, at_groups, head_in, entries_in, told_in, with_row}
-use Rattle.rforms.proofs.facts.Choices.{some_is, some_none}
-use Rattle.rlines.specs.declared.reading.Reading.{Reading}
+use Rattle.rtrace_form.specs.Heads.{read_groups}
+use Rattle.rtrace_form.specs.Records.{Row, AreRowsOf}
+use Rattle.rtrace_form.specs.Texts.{IsTextOf}
+use Rattle.rtrace_form.specs.Walks.{or_else}
+use Rattle.rtrace_form.specs.WrongBounds.{first_wrong_bound, first_fault, wrong_bound}
+use Rattle.rtrace_form.specs.Faults.{code_of, is_ended, first_record_fault, read_all}
+use Rattle.rtrace_form.specs.Reports.{Report, Spells, ledger_after}
+use Rattle.rtrace_form.specs.SoFar.{SoFar, nothing_yet, at_groups, head_in, entries_in, told_in, with_row}
+use Rattle.rtrace_form.proofs.facts.Choices.{some_is, some_none}
+use Rattle.rtrace_read.specs.declared.reading.Reading.{Reading}
 use Rattle.rtrace.specs.declared.collect.Collecting.{Collecting}
-use Rattle.rreport.specs.Report.{ReportFields, told_by, IsOverResources, HasItsLedgers}
-use Rattle.rforms.specs.Takers.{HasTaken, IsFaultOf, IsFirstFault, list_code, is_list_done}
-use Rattle.rforms.specs.declared.fault.Code.{Code}
-use Rattle.rforms.specs.declared.fault.Code.TheVariants.{NoEnd, WrongBound}
-use Rattle.rforms.specs.declared.fault.Fault.{Fault}
-use Rattle.rforms.proofs.facts.Codes.{told_last}
-use Rattle.rforms.proofs.facts.Walks.{no_fault}
-use Rattle.rforms.proofs.forth.Rows.{right_bounds}
-use Rattle.rforms.proofs.texts.Lists.{list_faults}
+use Rattle.rtrace_write.specs.Report.{ReportFields, told_by, IsOverResources, HasItsLedgers}
+use Rattle.rtrace_form.specs.Takers.{HasTaken, IsFaultOf, IsFirstFault, list_code, is_list_done}
+use Rattle.rtrace_form.specs.declared.fault.Code.{Code}
+use Rattle.rtrace_form.specs.declared.fault.Code.TheVariants.{NoEnd, WrongBound}
+use Rattle.rtrace_form.specs.declared.fault.Fault.{Fault}
+use Rattle.rtrace_form.proofs.facts.Codes.{told_last}
+use Rattle.rtrace_form.proofs.facts.Walks.{no_fault}
+use Rattle.rtrace_form.proofs.forth.Rows.{right_bounds}
+use Rattle.rtrace_form.proofs.texts.Lists.{list_faults}
 use Rattle.rtrace.specs.declared.count.Counting.{Counting}
 use Rattle.rtrace.specs.Counts.{IsCountOf}
 use Rattle.rtrace.specs.Collects.{KnowsAll, KnowsCount, IsFinished}

@@ -1,20 +1,20 @@
 -- What the takers of whole texts know.
 use Rattle.std.specs.Prelude.{◌≡◌, ℕ, Bool, true, false, List, ◌++◌, length, Option, Some, None, option_map, option_to_list, unwrap_or}
 use Rattle.rbound.specs.Bounds.{Numbers}
-use Rattle.rforms.specs.Records.{Row}
-use Rattle.rforms.specs.SoFar.{SoFar, nothing_yet, entries_in, bare, with_act}
-use Rattle.rforms.specs.Faults.{read_all}
-use Rattle.rforms.specs.WrongBounds.{bounds_said}
-use Rattle.rlines.specs.Knows.{Knows}
-use Rattle.rlines.specs.Takes.{StillDue}
+use Rattle.rtrace_form.specs.Records.{Row}
+use Rattle.rtrace_form.specs.SoFar.{SoFar, nothing_yet, entries_in, bare, with_act}
+use Rattle.rtrace_form.specs.Faults.{read_all}
+use Rattle.rtrace_form.specs.WrongBounds.{bounds_said}
+use Rattle.rtrace_read.specs.Knows.{Knows}
+use Rattle.rtrace_read.specs.LineTakes.{StillDue}
 use Rattle.rtrace.specs.ToldBounds.{KnowsBounds}
-use Rattle.rreport.specs.Report.{ReportFields}
+use Rattle.rtrace_write.specs.Report.{ReportFields}
 use Rattle.rtrace.specs.declared.collect.Collecting.{Collecting}
 use Rattle.rtrace.specs.declared.lists.ReportTaker.{ReportTaker}
 use Rattle.rtrace.specs.declared.count.Counting.{Counting}
-use Rattle.rreading.specs.Takes.{OneMoreAtMost}
-use Rattle.rreading.specs.declared.taken.Taken.{Taken}
-use Rattle.rreading.specs.declared.taken.Taken.TheVariants as taken
+use Rattle.rtrace_read.specs.Takes.{OneMoreAtMost}
+use Rattle.rtrace_read.specs.declared.taken.Taken.{Taken}
+use Rattle.rtrace_read.specs.declared.taken.Taken.TheVariants as taken
 
 -- all that was said so far is kept
 pub record KnowsAll (whole : Bool) (taker : Collecting) (s : SoFar) : Type 0 where

@@ -1,8 +1,8 @@
 -- How much a report tells.
 use Rattle.std.specs.Prelude.{◌≡◌, ℕ, true, List, length}
-use Rattle.rforms.specs.Reports.{Report}
-use Rattle.rforms.specs.Waits.{all_ended}
-use Rattle.rforms.specs.Texts.{IsTextOf}
+use Rattle.rtrace_form.specs.Reports.{Report}
+use Rattle.rtrace_form.specs.Waits.{all_ended}
+use Rattle.rtrace_form.specs.Texts.{IsTextOf}
 use Rattle.rtrace.specs.declared.count.AuditCounts.{AuditCounts}
 
 -- the text is of a report that tells so much: each of its events, and each wait that they ended

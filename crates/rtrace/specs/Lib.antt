@@ -1,3 +1,12 @@
 pub mod ToldBounds
 pub mod Collects
 pub mod Counts
+pub mod Coming
+pub mod Windows
+pub mod Feeding
+pub mod Errors
+pub mod Told
+pub mod Keys
+pub mod KeyFacts
+pub mod Kept
+pub mod Knows

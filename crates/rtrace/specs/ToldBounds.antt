@@ -1,22 +1,22 @@
 -- What a taker of a report keeps of the bounds that it tells, until they can be judged.
 use Rattle.std.specs.Prelude.{◌≡◌, ℕ, ◌+◌, true, false, nat_lt, List, [], ◌++◌, length, Option, Some, None, if◌then◌else◌}
 use Rattle.rexpand.specs.Groups.{ReadGroups}
-use Rattle.rcover.specs.declared.wait_end.WaitEnd.{WaitEnd}
-use Rattle.rwaits.specs.Past.{Past}
-use Rattle.rforms.specs.Heads.{is_nil}
-use Rattle.rforms.specs.Records.{Row}
-use Rattle.rforms.specs.Waits.{all_ended}
-use Rattle.rforms.specs.SoFar.{SoFar, nothing_yet, at_ledgers, head_in, entries_in}
-use Rattle.rforms.specs.Faults.{read_all}
-use Rattle.rforms.specs.WrongBounds.{bounds_said}
-use Rattle.rbound_told.specs.Told.{Told, said, waits_of, AreBefore}
-use Rattle.rbound_told.specs.Knows.{KnowsTold}
-use Rattle.rbound_told.specs.declared.told.ToldBounds.{ToldBounds}
-use Rattle.rlines.specs.Knows.{Knows, past_in, waits_due}
-use Rattle.rreading.specs.Takes.{TakesRow, TellsBound}
+use Rattle.rcover_laws.specs.declared.wait_end.WaitEnd.{WaitEnd}
+use Rattle.rcover.specs.Past.{Past}
+use Rattle.rtrace_form.specs.Heads.{is_nil}
+use Rattle.rtrace_form.specs.Records.{Row}
+use Rattle.rtrace_form.specs.Waits.{all_ended}
+use Rattle.rtrace_form.specs.SoFar.{SoFar, nothing_yet, at_ledgers, head_in, entries_in}
+use Rattle.rtrace_form.specs.Faults.{read_all}
+use Rattle.rtrace_form.specs.WrongBounds.{bounds_said}
+use Rattle.rtrace.specs.Told.{Told, said, waits_of, AreBefore}
+use Rattle.rtrace.specs.Knows.{KnowsTold}
+use Rattle.rtrace.specs.declared.told.ToldBounds.{ToldBounds}
+use Rattle.rtrace_read.specs.Knows.{Knows, past_in, waits_due}
+use Rattle.rtrace_read.specs.Takes.{TakesRow, TellsBound}
 use Rattle.rtrace.specs.declared.bounds.BoundsKept.{BoundsKept}
-use Rattle.rlines.specs.declared.reading.Reading.{Reading}
-use Rattle.rreading.specs.declared.taken.Taken.{Taken}
+use Rattle.rtrace_read.specs.declared.reading.Reading.{Reading}
+use Rattle.rtrace_read.specs.declared.taken.Taken.{Taken}
 
 -- what judges bounds was told these events, and these bounds of waits that they ended; before the first event there is nothing
 abbrev pub AreTold : Option ToldBounds → Past → List Told → Type 0

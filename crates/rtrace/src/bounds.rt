@@ -2,20 +2,20 @@
 ghost use Rattle.std.specs.Prelude.{◌≡◌, ◌++◌, ◌∷◌, ◌<◌, ◌^◌, [], List, length, OnOk, IfOk, option_map, true};
 ghost use Rattle.rbound.specs.Bounds.{numbers_in};
 ghost use Rattle.rmodel.specs.Steps.{AreAccepted};
-ghost use Rattle.rwaits.specs.Past.{Past, start_of, with_event};
-ghost use Rattle.rneeds.specs.Keys.{IsLastEnded};
-ghost use Rattle.rbound_told.specs.Told.{Told, AreBefore};
-ghost use Rattle.rforms.specs.Records.{Row};
-ghost use Rattle.rforms.specs.Faults.{read_all};
-ghost use Rattle.rforms.specs.SoFar.{at_end};
-ghost use Rattle.rforms.specs.WrongBounds.{first_wrong_bound, wrong_bound};
-ghost use Rattle.rlines.specs.Knows.{Knows};
+ghost use Rattle.rcover.specs.Past.{Past, start_of, with_event};
+ghost use Rattle.rbound_history.specs.Keys.{IsLastEnded};
+ghost use Rattle.rtrace.specs.Told.{Told, AreBefore};
+ghost use Rattle.rtrace_form.specs.Records.{Row};
+ghost use Rattle.rtrace_form.specs.Faults.{read_all};
+ghost use Rattle.rtrace_form.specs.SoFar.{at_end};
+ghost use Rattle.rtrace_form.specs.WrongBounds.{first_wrong_bound, wrong_bound};
+ghost use Rattle.rtrace_read.specs.Knows.{Knows};
 ghost use Rattle.rtrace.specs.ToldBounds.{AreTold, IsMade, KnowsBounds, HasRead};
-ghost use Rattle.rlines.specs.declared.reading.Reading.{Reading};
+ghost use Rattle.rtrace_read.specs.declared.reading.Reading.{Reading};
 
-use rbound_told::ToldBounds;
+use crate::told::ToldBounds;
 use rclaim::Event;
-use rreading::{BoundTold, Reading, Taken};
+use rtrace_read::{BoundTold, Reading, Taken};
 use std::alloc::{AllocError, Global};
 
 /// What a taker of a report keeps of the bounds that it tells. It grows with the shapes of requests, and not with waits or

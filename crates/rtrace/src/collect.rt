@@ -1,17 +1,17 @@
 // Keeping the history of a text as it is read.
 ghost use Rattle.std.specs.Prelude.{◌≡◌, ◌++◌, Bool, false, OnOk, OnErr, IfOk, IfErr, Some, option_to_list, option_map};
-ghost use Rattle.rforms.specs.SoFar.{with_act};
-ghost use Rattle.rforms.specs.declared.fault.Code.TheVariants.{NoEnd};
+ghost use Rattle.rtrace_form.specs.SoFar.{with_act};
+ghost use Rattle.rtrace_form.specs.declared.fault.Code.TheVariants.{NoEnd};
 ghost use Rattle.rvalue.specs.declared.act.Act.{Act};
 ghost use Rattle.rvalue.specs.declared.ledger.Edit.{Edit};
-ghost use Rattle.rreport.specs.Report.{told_by, IsOverResources, HasItsLedgers};
+ghost use Rattle.rtrace_write.specs.Report.{told_by, IsOverResources, HasItsLedgers};
 
 use csv::ByteRecord;
 use rclaim::Event;
-use rforms::{Code, Records, RowErr, TextErr};
-use rreading::{Reading, Taken, take};
-use rreport::Report;
 use rset::NameTable;
+use rtrace_form::{Code, Records, RowErr, TextErr};
+use rtrace_read::{Reading, Taken, take};
+use rtrace_write::Report;
 use rvalue::{Act, Edit, Entry, History};
 use std::alloc::{AllocError, Global};
 use std::mem;
@@ -30,7 +30,7 @@ pub struct Collecting {
 }
 
 impl Records for Collecting {
-    ghost use Rattle.rforms.specs.Takers.{list_code, is_list_done, KnowsSaid};
+    ghost use Rattle.rtrace_form.specs.Takers.{list_code, is_list_done, KnowsSaid};
     ghost use Rattle.rtrace.specs.Collects.{KnowsList};
 
     type Code = Code;
@@ -64,7 +64,7 @@ impl Records for Collecting {
 }
 
 impl Collecting {
-    ghost use Rattle.rforms.specs.SoFar.{SoFar, nothing_yet, told_in, bare};
+    ghost use Rattle.rtrace_form.specs.SoFar.{SoFar, nothing_yet, told_in, bare};
     ghost use Rattle.rtrace.specs.Collects.{KnowsAll, Keeps, IsFinished};
 
     /// Nothing was taken. No memory is taken.

@@ -2,24 +2,25 @@
 ghost use Rattle.std.specs.Prelude.{◌≡◌, ◌≤◌, ◌<◌, ◌+◌, ◌≢◌, ℕ, IfOk, IfErr, OnOk, IsErrOf, true, [], List};
 ghost use Rattle.io_ends.specs.Faults.{Rose};
 ghost use Rattle.io_ends.specs.Ends.{Took, TookAtMost};
-ghost use Rattle.rforms.specs.Takers.{IsFirstFault, HasTaken, StandsAt, list_code, is_list_done};
-ghost use Rattle.rforms.specs.declared.fault.Code.{Code};
-ghost use Rattle.rforms.specs.declared.fault.Code.TheVariants.{NoEnd, WrongBound};
-ghost use Rattle.rforms.specs.declared.fault.Fault.{Fault};
-ghost use Rattle.rstream.specs.Coming.{Came, CameWhole};
-ghost use Rattle.rstream.specs.Errors.{IsOfSource, IsOfText};
-ghost use Rattle.rstream.specs.Feeding.{StandsBrokenOff};
+ghost use Rattle.rtrace_form.specs.Takers.{IsFirstFault, HasTaken, StandsAt, list_code, is_list_done};
+ghost use Rattle.rtrace_form.specs.declared.fault.Code.{Code};
+ghost use Rattle.rtrace_form.specs.declared.fault.Code.TheVariants.{NoEnd, WrongBound};
+ghost use Rattle.rtrace_form.specs.declared.fault.Fault.{Fault};
+ghost use Rattle.rtrace.specs.Coming.{Came, CameWhole};
+ghost use Rattle.rtrace.specs.Errors.{IsOfSource, IsOfText};
+ghost use Rattle.rtrace.specs.Feeding.{StandsBrokenOff};
 ghost use Rattle.rtrace.specs.Collects.{KnowsCount, CountStays, one_if_told, one_if_event};
 ghost use Rattle.rtrace.specs.Counts.{IsCountOf};
-ghost use Rattle.rreading.specs.Takes.{bound_of};
+ghost use Rattle.rtrace_read.specs.Takes.{bound_of};
 
 use crate::bounds::BoundsKept;
+use crate::error::StreamErr;
+use crate::feed::take_source;
 use crate::owned::let_go;
 use csv::ByteRecord;
 use io_ends::Source;
-use rforms::{Code, Fault, Records, RowErr};
-use rreading::{Reading, Taken, take};
-use rstream::{StreamErr, take_source};
+use rtrace_form::{Code, Fault, Records, RowErr};
+use rtrace_read::{Reading, Taken, take};
 use std::alloc::Global;
 
 /// Takes the records of a report, counts its events and its waits, and keeps what it tells of bounds.
@@ -42,9 +43,9 @@ pub struct Counting {
 impl Records for Counting {
     ghost use Rattle.std.specs.Prelude.{◌++◌, ◌∷◌, ◌^◌, length, Some, None};
     ghost use Rattle.csv.specs.Records.{fields_of};
-    ghost use Rattle.rforms.specs.Records.{Row};
-    ghost use Rattle.rforms.specs.Takers.{list_code, is_list_done};
-    ghost use Rattle.rreading.specs.Takes.{NamesStay};
+    ghost use Rattle.rtrace_form.specs.Records.{Row};
+    ghost use Rattle.rtrace_form.specs.Takers.{list_code, is_list_done};
+    ghost use Rattle.rtrace_read.specs.Takes.{NamesStay};
     ghost use Rattle.rtrace.specs.Collects.{KnowsCount, CountStays};
 
     type Code = Code;

@@ -1,25 +1,25 @@
 // Reading a whole text.
 ghost use Rattle.std.specs.Prelude.{◌≡◌, ◌<◌, ◌^◌, ◌++◌, ◌∷◌, [], ℕ, List, length, true, false, OnOk, IfOk};
-ghost use Rattle.rforms.specs.Records.{Row};
-ghost use Rattle.rforms.specs.Takers.{IsFirstFault, HasTaken, list_code, is_list_done};
-ghost use Rattle.rforms.specs.SoFar.{nothing_yet};
+ghost use Rattle.rtrace_form.specs.Records.{Row};
+ghost use Rattle.rtrace_form.specs.Takers.{IsFirstFault, HasTaken, list_code, is_list_done};
+ghost use Rattle.rtrace_form.specs.SoFar.{nothing_yet};
 ghost use Rattle.rtrace.specs.Collects.{Keeps, KnowsList, KnowsReport};
 ghost use Rattle.rtrace.specs.ToldBounds.{KnowsBounds, HasRead};
-ghost use Rattle.rlines.specs.declared.reading.Reading.{Reading};
-ghost use Rattle.rforms.specs.Texts.{IsTextOf};
-ghost use Rattle.rforms.specs.Written.{MayBeWritten};
-ghost use Rattle.rforms.specs.declared.fault.Code.{Code};
-ghost use Rattle.rforms.specs.declared.fault.Code.TheVariants.{NoEnd};
-ghost use Rattle.rforms.specs.declared.fault.Fault.{Fault};
-ghost use Rattle.rreport.specs.Report.{told_by, IsOverResources, HasItsLedgers};
+ghost use Rattle.rtrace_read.specs.declared.reading.Reading.{Reading};
+ghost use Rattle.rtrace_form.specs.Texts.{IsTextOf};
+ghost use Rattle.rtrace_form.specs.Written.{MayBeWritten};
+ghost use Rattle.rtrace_form.specs.declared.fault.Code.{Code};
+ghost use Rattle.rtrace_form.specs.declared.fault.Code.TheVariants.{NoEnd};
+ghost use Rattle.rtrace_form.specs.declared.fault.Fault.{Fault};
+ghost use Rattle.rtrace_write.specs.Report.{told_by, IsOverResources, HasItsLedgers};
 
 use crate::bounds::BoundsKept;
 use crate::collect::Collecting;
 use crate::owned::let_go;
 use csv::ByteRecord;
-use rforms::{Code, Fault, Records, RowErr, TextErr, take_text};
-use rreading::{Taken, take};
-use rreport::Report;
+use rtrace_form::{Code, Fault, Records, RowErr, TextErr, take_text};
+use rtrace_read::{Taken, take};
+use rtrace_write::Report;
 use std::alloc::{AllocError, Global};
 
 /// Takes the records of a report, and keeps what they say, and what they tell of bounds.
@@ -32,7 +32,7 @@ pub struct ReportTaker {
 }
 
 impl Records for ReportTaker {
-    ghost use Rattle.rforms.specs.Takers.{list_code, is_list_done};
+    ghost use Rattle.rtrace_form.specs.Takers.{list_code, is_list_done};
     ghost use Rattle.rtrace.specs.Collects.{KnowsReport};
 
     type Code = Code;

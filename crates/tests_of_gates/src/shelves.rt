@@ -1,8 +1,7 @@
 //! A pass takes values out of a shelf behind a gate, and gives them home.
 ghost use Rattle.std.specs.Prelude.{◌≡◌};
 
-use rlock::{Gate, Pass};
-use rlock_samples::{Shelf, Spot, add, give_home, take_out};
+use rlock::{Gate, Pass, Shelf, Spot, add, give_home, take_out};
 use std::alloc::{AllocError, Global};
 use std::sync::Wait;
 use std::test::Fail;

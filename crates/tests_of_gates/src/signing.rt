@@ -2,11 +2,10 @@
 ghost use Rattle.std.specs.Prelude.{◌≡◌, ℕ, ◌<◌, length, All, IsTrue, IfOk, slice_index_or};
 ghost use denote.Param.Send.{IsSync};
 ghost use Rattle.rlock.specs.Known.{Known};
-ghost use Rattle.rlock_samples.specs.declared.roll.Roll.{Roll};
-ghost use Rattle.rlock_samples.specs.declared.roll.Signature.{Signature};
+ghost use Rattle.rlock.specs.declared.roll.Roll.{Roll};
+ghost use Rattle.rlock.specs.declared.roll.Signature.{Signature};
 
-use rlock::{Gate, Pass};
-use rlock_samples::Roll;
+use rlock::{Gate, Pass, Roll};
 use rset::SEATS;
 use std::alloc::{AllocError, Global};
 use std::process::Abort;

@@ -5,11 +5,11 @@ use Rattle.rclaim.specs.declared.event.Event.{Event}
 use Rattle.rexpand.specs.Groups.{ReadGroups}
 use Rattle.rmodel.specs.State.{LockState, opening}
 use Rattle.rmodel.specs.Steps.{after, AreAccepted}
-use Rattle.rwaits.specs.Past.{Past}
-use Rattle.rwaits.specs.Follows.{Follows}
-use Rattle.rwaits.specs.Knows.{Knows}
-use Rattle.rwaits.specs.declared.covers.Covers.{Covers}
-use Rattle.rwaits.specs.declared.following.Following.{Following}
+use Rattle.rcover.specs.Past.{Past}
+use Rattle.rcover.specs.Follows.{Follows}
+use Rattle.rcover.specs.Knows.{Knows}
+use Rattle.rcover.specs.declared.covers.Covers.{Covers}
+use Rattle.rcover.specs.declared.following.Following.{Following}
 
 -- these events over these groups, for so many seats
 abbrev pub past : ReadGroups → ℕ → List Event → Past

@@ -3,19 +3,19 @@ ghost use Rattle.std.specs.Prelude.{◌≡◌, [], OnOk, IfOk};
 ghost use Rattle.rset.specs.declared.TheConstants.{RESOURCES};
 ghost use Rattle.rmodel.specs.State.{opening};
 ghost use Rattle.rmodel.specs.Steps.{Fits};
-ghost use Rattle.rwaits.specs.Follows.{Follows};
-ghost use Rattle.rwaits.specs.Knows.{Knows};
+ghost use Rattle.rcover.specs.Follows.{Follows};
+ghost use Rattle.rcover.specs.Knows.{Knows};
 ghost use Rattle.tests_of_rules.specs.Stories.{IsStory, past};
 
 use crate::groups::two_groups;
 use rclaim::{Event, Kind, Request};
-use rcover::WaitEnd;
+use rcover::{Covers, Following};
+use rcover_laws::WaitEnd;
+use rcover_plain::plain_cover;
 use rexpand::Groups;
 use rmodel::{Machine, admit};
 use rplain::Plain;
-use rplain_cover::plain_cover;
 use rset::{RESOURCES, ResourceSet};
-use rwaits::{Covers, Following};
 use std::alloc::Global;
 use std::test::Fail;
 

@@ -2,7 +2,7 @@
 use crate::covers::{Move, Turn, are_right, set};
 use rbound::Which;
 use rclaim::Kind;
-use rcover::WaitEnd;
+use rcover_laws::WaitEnd;
 use std::alloc::Global;
 use std::test::Fail;
 

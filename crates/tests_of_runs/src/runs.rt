@@ -1,13 +1,13 @@
 //! Runs of scripts, in which every kind of request meets others.
 ghost use Rattle.std.specs.Prelude.{IfSome};
-ghost use Rattle.rforms.specs.Written.{MayBeWritten};
-ghost use Rattle.rreport.specs.Report.{told_by, IsOverResources, HasItsLedgers};
+ghost use Rattle.rtrace_form.specs.Written.{MayBeWritten};
+ghost use Rattle.rtrace_write.specs.Report.{told_by, IsOverResources, HasItsLedgers};
 
 use io_ends::{MemSink, MemSource};
-use rreport::{Report, write_report};
 use rrun::{NoPace, run_script};
 use rscript::read_script;
 use rtrace::audit_stream;
+use rtrace_write::{Report, write_report};
 use rvalue::Ledger;
 use std::alloc::{AllocError, Global};
 use std::sync::Wait;

@@ -1,7 +1,7 @@
 //! One section of a task, run alone.
 ghost use Rattle.std.specs.Prelude.{◌<◌, IfOk, length};
 ghost use Rattle.rrun.specs.Reporting.{HasOpened};
-ghost use Rattle.rsection.specs.Seats.{IsSeatFor};
+ghost use Rattle.rrun.specs.Seats.{IsSeatFor};
 
 use crate::stopping::opened_for;
 use rclaim::{Event, Kind};

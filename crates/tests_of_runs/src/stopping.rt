@@ -2,7 +2,7 @@
 //! stopped in it: `rt try --test --fail-alloc N` refuses one, by hand.
 ghost use Rattle.std.specs.Prelude.{◌≡◌, IfOk};
 ghost use Rattle.rrun.specs.Reporting.{HasOpened};
-ghost use Rattle.rtasks.specs.Tasks.{AreSeatsFor};
+ghost use Rattle.rrun.specs.Tasks.{AreSeatsFor};
 
 use crate::runs::{has_added, report_of};
 use crate::tools::run_with;

@@ -1,7 +1,7 @@
 // Bounds of scripts, told with ample memory.
 ghost use Rattle.std.specs.Prelude.{◌≤◌, IfOk, IfSome};
 
-use rbound_text::bound_text;
+use rnlp_cli::bound_text;
 use rscript::{Script, read_script};
 use std::alloc::Global;
 use std::test::Fail;

@@ -1,11 +1,11 @@
 // Reports, read and written again with ample memory.
 ghost use Rattle.std.specs.Prelude.{IfOk};
-ghost use Rattle.rforms.specs.Written.{MayBeWritten};
-ghost use Rattle.rreport.specs.Report.{told_by, IsOverResources, HasItsLedgers};
+ghost use Rattle.rtrace_form.specs.Written.{MayBeWritten};
+ghost use Rattle.rtrace_write.specs.Report.{told_by, IsOverResources, HasItsLedgers};
 
 use io_ends::MemSink;
-use rreport::{Report, WriteErr, write_report};
 use rtrace::{TextErr, read_events, read_report};
+use rtrace_write::{Report, WriteErr, write_report};
 use std::alloc::Global;
 use std::test::Fail;
 

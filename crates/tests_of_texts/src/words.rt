@@ -3,8 +3,8 @@ ghost use Rattle.std.specs.Io.{WritesAtMost};
 
 use crate::runs::{SMALLEST, SMALLEST_REPORT, one_word};
 use io_ends::{MemSink, MemSource};
-use redge::{answer, given_words, words_of};
 use rnlp_cli::ToolStatus;
+use rnlp_edge::{answer, given_words, words_of};
 use rrun::NoPace;
 use rwatch::Watchers;
 use std::alloc::Global;

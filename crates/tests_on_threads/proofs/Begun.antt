@@ -15,8 +15,8 @@ use Rattle.rlock.specs.Known.{Site}
 use Rattle.rvalue.specs.Entries.{EntryFields}
 use Rattle.rvalue.specs.declared.act.Act.{Act}
 use Rattle.rstate.specs.Histories.{lock_after}
-use Rattle.rscript_records.specs.Statements.{begun, with_asked, with_risen}
-use Rattle.rscript_records.specs.declared.section.Section.{Section}
+use Rattle.rscript.specs.Statements.{begun, with_asked, with_risen}
+use Rattle.rscript.specs.declared.section.Section.{Section}
 use Rattle.rguard.specs.declared.guard.Guard.{Guard}
 use Rattle.rguard.specs.declared.guard.Guard.TheVariants.{Nest}
 use Rattle.rguard.specs.declared.guard.Guard.TheVariants as guards
@@ -25,9 +25,9 @@ use Rattle.rguard.specs.Looks.{HasAcquired}
 use Rattle.rguard.specs.Resting.{IsAt, HoldsAll, MayWriteAll, all_with}
 use Rattle.rguard.proofs.Resting.{is_inside_itself, suits}
 use Rattle.rguard.specs.Seats.{SeatOf, SuitsSeat, Goes, bare}
-use Rattle.rsection.specs.Working.{section_told, section_made}
-use Rattle.rsection.proofs.Doing.{may_do}
-use Rattle.rsection.proofs.Standing.{Stands, none_in, stands}
+use Rattle.rrun.specs.Working.{section_told, section_made}
+use Rattle.rrun.proofs.Doing.{may_do}
+use Rattle.rrun.proofs.Standing.{Stands, none_in, stands}
 use Rattle.tests_on_threads.specs.Begun.{single, nesting, raising, HasBegunLast}
 
 contains_single : (l : ℕ) → contains (single l) l ≡ true

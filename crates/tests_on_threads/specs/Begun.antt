@@ -5,8 +5,8 @@ use Rattle.rset.specs.Sets.{Set}
 use Rattle.rclaim.specs.Requests.{RequestFields, normalised}
 use Rattle.rclaim.specs.declared.request.Kind.TheVariants as kinds
 use Rattle.rguard.specs.Seats.{SeatOf}
-use Rattle.rsection.specs.Working.{section_made}
-use Rattle.rscript_records.specs.Statements.{begun}
+use Rattle.rrun.specs.Working.{section_made}
+use Rattle.rscript.specs.Statements.{begun}
 
 -- the set of this resource alone
 abbrev pub single : ℕ → Set

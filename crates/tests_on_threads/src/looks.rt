@@ -1,6 +1,6 @@
 //! Waits to read, look by look.
 ghost use Rattle.std.specs.Prelude.{◌≡◌, IfOk, IfErr};
-ghost use Rattle.rlent.specs.declared.kind.GuardKind.TheVariants as kinds;
+ghost use Rattle.rguard.specs.declared.kind.GuardKind.TheVariants as kinds;
 ghost use Rattle.rguard.specs.Resting.{IsAt, Rests, HoldsAll, all_with};
 ghost use Rattle.tests_on_threads.specs.Waiting.{WaitsToRead};
 

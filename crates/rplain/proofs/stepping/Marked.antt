@@ -27,12 +27,12 @@ use Rattle.rplain.specs.Plain.{AreMarked}
 use Rattle.rmodel.specs.State.{LockState}
 use Rattle.rmodel.specs.Steps.{Accepts, Comes, changed, next, incomplete_of, is_not_holding, refusal}
 use Rattle.rmodel.specs.Settling.{settled}
-use Rattle.rsettle.specs.Sweep.{is_of, is_read_of}
+use Rattle.rplain.specs.Sweep.{is_of, is_read_of}
 use Rattle.rmodel.specs.WellFormed.{EachPair, Distinct, IsSound}
 use Rattle.rmodel.proofs.ListFacts.{contrary, false_from, all_append, all_at, all_of_zip, none_from}
 use Rattle.rmodel.proofs.settling.Giving.{same_given}
 use Rattle.rmodel.proofs.settling.Settlement.{settles_settled}
-use Rattle.rsettle.proofs.settling.Own.{first_tells}
+use Rattle.rplain.proofs.settling.Own.{first_tells}
 use Rattle.rmodel.proofs.reaching.Soundness.{count_first, passed, same_claims, sound_changed, read_of_half}
 
 pub unequal : (m n : ℕ) → (m == n) ≡ false → m ≢ n

@@ -21,7 +21,7 @@ use Rattle.rmodel.proofs.ListFacts.{contrary, false_from, any_among, passing, in
 use Rattle.rmodel.proofs.reaching.Came.{in_append}
 use Rattle.rmodel.proofs.settling.Keeping.{not_false}
 use Rattle.rmodel.proofs.settling.OneSettlement.{both_cases}
-use Rattle.rsettle.specs.Sweep.{is_of, is_read_of}
+use Rattle.rplain.specs.Sweep.{is_of, is_read_of}
 use Rattle.rplain.specs.Plain.{AreOnlyMarks, is_whole_of}
 use Rattle.rplain.proofs.stepping.Marked.{next_same, unequal}
 

@@ -6,24 +6,24 @@ use Rattle.std.specs.Prelude.{is_none, option_map}
 use Rattle.rset.specs.Names.{number_in}
 use Rattle.rset.specs.declared.TheConstants.{RESOURCES, SEATS}
 use Rattle.rexpand.specs.declared.TheConstants.{GROUPS}
-use Rattle.rforms.specs.Records.{Row}
-use Rattle.rforms.specs.Decided.{field_of}
-use Rattle.rforms.specs.Numbers.{number_told, length_told, cap_told}
-use Rattle.rforms.specs.SetFields.{set_told}
-use Rattle.rforms.specs.Fields.{Names, Field, Said, Fresh, OneResource, OneTask, Members, Number, Length, Limit, Values, all_counted, all_known, read}
-use Rattle.rforms.specs.Heads.{is_nil, is_bad_name}
-use Rattle.rforms.specs.Walks.{when, or_else, first_of}
-use Rattle.rforms.proofs.facts.Choices.{map_some}
-use Rattle.rforms.proofs.facts.ReadGood.{pair_some}
-use Rattle.rforms.proofs.back.Rows.{read_counted}
-use Rattle.rscript_records.specs.Words.{fields_of}
-use Rattle.rscript_records.specs.Lines.{Line, Opens, HasResource, HasGroup, HasTask, Does, Ends, line_by, word_of, meaning, meant_as, names_of}
-use Rattle.rscript_records.specs.Causes.{line_causes, meant_causes}
-use Rattle.rscript_records.specs.declared.word.Word.{Word}
-use Rattle.rscript_records.specs.declared.word.Word.TheVariants as word
-use Rattle.rscript_records.specs.declared.code.Code.{Code}
-use Rattle.rscript_records.specs.declared.code.Code.TheVariants.{BadOrder, NoResources, NoTask, TooMany, UnknownName, BadNumber, EmptyGroup}
-use Rattle.rscript_records.proofs.facts.Causes.{first_of-append, name_none, statement_none}
+use Rattle.rtrace_form.specs.Records.{Row}
+use Rattle.rtrace_form.specs.Decided.{field_of}
+use Rattle.rtrace_form.specs.Numbers.{number_told, length_told, cap_told}
+use Rattle.rtrace_form.specs.SetFields.{set_told}
+use Rattle.rtrace_form.specs.Fields.{Names, Field, Said, Fresh, OneResource, OneTask, Members, Number, Length, Limit, Values, all_counted, all_known, read}
+use Rattle.rtrace_form.specs.Heads.{is_nil, is_bad_name}
+use Rattle.rtrace_form.specs.Walks.{when, or_else, first_of}
+use Rattle.rtrace_form.proofs.facts.Choices.{map_some}
+use Rattle.rtrace_form.proofs.facts.ReadGood.{pair_some}
+use Rattle.rtrace_form.proofs.back.Rows.{read_counted}
+use Rattle.rscript.specs.Words.{fields_of}
+use Rattle.rscript.specs.Lines.{Line, Opens, HasResource, HasGroup, HasTask, Does, Ends, line_by, word_of, meaning, meant_as, names_of}
+use Rattle.rscript.specs.Causes.{line_causes, meant_causes}
+use Rattle.rscript.specs.declared.word.Word.{Word}
+use Rattle.rscript.specs.declared.word.Word.TheVariants as word
+use Rattle.rscript.specs.declared.code.Code.{Code}
+use Rattle.rscript.specs.declared.code.Code.TheVariants.{BadOrder, NoResources, NoTask, TooMany, UnknownName, BadNumber, EmptyGroup}
+use Rattle.rscript.proofs.record_facts.Causes.{first_of-append, name_none, statement_none}
 use Rattle.rscript.specs.SoFar.{SoFar, section_of}
 use Rattle.rscript.specs.Faults.{may_stand, needs_resources, is_end, declared_causes, code_of, code_by}
 use Rattle.rscript.proofs.facts.Fine.{IsFine, IsNext, fresh_is}

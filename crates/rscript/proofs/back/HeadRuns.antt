@@ -4,11 +4,11 @@ use Rattle.std.proofs.lemmas.List.{append-nil}
 use Rattle.rset.specs.Names.{is_table}
 use Rattle.rset.specs.Sets.{Set}
 use Rattle.rset.specs.declared.TheConstants.{RESOURCES}
-use Rattle.rforms.specs.Heads.{is_nil, are_read_groups}
-use Rattle.rforms.proofs.facts.Tables.{table-front, groups-front}
-use Rattle.rforms.proofs.back.Runs.{last_place, last_again}
-use Rattle.rscript_records.specs.Lines.{Opens, HasResource, HasGroup}
-use Rattle.rscript_records.specs.declared.word.Word.TheVariants as word
+use Rattle.rtrace_form.specs.Heads.{is_nil, are_read_groups}
+use Rattle.rtrace_form.proofs.facts.Tables.{table-front, groups-front}
+use Rattle.rtrace_form.proofs.back.Runs.{last_place, last_again}
+use Rattle.rscript.specs.Lines.{Opens, HasResource, HasGroup}
+use Rattle.rscript.specs.declared.word.Word.TheVariants as word
 use Rattle.rscript.specs.Scripts.{AreWithin}
 use Rattle.rscript.specs.SoFar.{SoFar, nothing_yet}
 use Rattle.rscript.proofs.facts.Fine.{stands_there}

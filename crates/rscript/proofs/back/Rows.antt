@@ -1,11 +1,11 @@
 -- Records that spell a script have no fault.
 use Rattle.std.proofs.Common.{◌≡◌, ℕ, List, [], ◌∷◌, fold, Some, None, refl, sym, ap, subst, ◌∙◌}
 use Rattle.std.specs.List.{AllZip}
-use Rattle.rforms.specs.Records.{Row}
-use Rattle.rforms.specs.Walks.{AllClean}
-use Rattle.rforms.proofs.facts.Walks.{clean_none}
-use Rattle.rscript_records.specs.Lines.{Line, meaning, names_of}
-use Rattle.rscript_records.specs.declared.code.Code.TheVariants.{NoEnd}
+use Rattle.rtrace_form.specs.Records.{Row}
+use Rattle.rtrace_form.specs.Walks.{AllClean}
+use Rattle.rtrace_form.proofs.facts.Walks.{clean_none}
+use Rattle.rscript.specs.Lines.{Line, meaning, names_of}
+use Rattle.rscript.specs.declared.code.Code.TheVariants.{NoEnd}
 use Rattle.rscript.specs.Scripts.{ScriptFields, Spells, lines_of}
 use Rattle.rscript.specs.SoFar.{SoFar, nothing_yet, told_in, with_line, with_row}
 use Rattle.rscript.specs.Faults.{code_of, is_ended, first_fault, read_all}

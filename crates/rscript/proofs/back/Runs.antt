@@ -1,8 +1,8 @@
 -- Lines that may come one after another, and where they lead.
 use Rattle.std.proofs.Common.{◌≡◌, ℕ, List, [], ◌∷◌, ◌++◌, fold, Option, refl, sym, ap, subst, ◌∙◌}
 use Rattle.rset.specs.Sets.{Set}
-use Rattle.rscript_records.specs.Lines.{Line}
-use Rattle.rscript_records.specs.declared.statement.Statement.{Statement}
+use Rattle.rscript.specs.Lines.{Line}
+use Rattle.rscript.specs.declared.statement.Statement.{Statement}
 use Rattle.rscript.specs.SoFar.{SoFar, with_line}
 use Rattle.rscript.proofs.facts.Fine.{IsNext, AllNext}
 

@@ -7,15 +7,15 @@ use Rattle.rset.specs.Names.{is_table}
 use Rattle.rset.specs.Sets.{Set}
 use Rattle.rset.specs.declared.TheConstants.{SEATS}
 use Rattle.rvalue.specs.InTurn.{AllInTurn}
-use Rattle.rforms.specs.Heads.{is_nil}
-use Rattle.rforms.proofs.facts.Tables.{table-front}
-use Rattle.rforms.proofs.back.Runs.{last_place, last_again}
-use Rattle.rscript_records.specs.declared.place.Where.{Where}
-use Rattle.rscript_records.specs.Statements.{FitsBehind, IsTask, is_there, section_after}
-use Rattle.rscript_records.specs.Lines.{Line, Opens, HasResource, HasGroup, HasTask, Does, Ends, statement_word}
-use Rattle.rscript_records.specs.declared.statement.Statement.{Statement}
-use Rattle.rscript_records.specs.declared.statement.Statement.TheVariants as statement
-use Rattle.rscript_records.specs.declared.word.Word.TheVariants as word
+use Rattle.rtrace_form.specs.Heads.{is_nil}
+use Rattle.rtrace_form.proofs.facts.Tables.{table-front}
+use Rattle.rtrace_form.proofs.back.Runs.{last_place, last_again}
+use Rattle.rscript.specs.declared.place.Where.{Where}
+use Rattle.rscript.specs.Statements.{FitsBehind, IsTask, is_there, section_after}
+use Rattle.rscript.specs.Lines.{Line, Opens, HasResource, HasGroup, HasTask, Does, Ends, statement_word}
+use Rattle.rscript.specs.declared.statement.Statement.{Statement}
+use Rattle.rscript.specs.declared.statement.Statement.TheVariants as statement
+use Rattle.rscript.specs.declared.word.Word.TheVariants as word
 use Rattle.rscript.specs.Scripts.{ScriptFields, task_lines, lines_of, IsScript}
 use Rattle.rscript.specs.SoFar.{SoFar, nothing_yet, section_of, told_in}
 use Rattle.rscript.specs.Faults.{is_ended, needs_resources, is_end}

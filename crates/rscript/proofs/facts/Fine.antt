@@ -12,26 +12,26 @@ use Rattle.rclaim.specs.declared.TheConstants.{LENGTH_LIMIT}
 use Rattle.rclaim.specs.declared.request.Kind.{Kind}
 use Rattle.rclaim.specs.declared.request.Kind.TheVariants.{Read, Write, Mixed, Upgrade, Nested}
 use Rattle.rvalue.specs.declared.ledger.Edit.TheVariants as edit
-use Rattle.rforms.specs.Records.{Row}
-use Rattle.rforms.specs.Decided.{field_of}
-use Rattle.rforms.specs.Events.{request_refusal}
-use Rattle.rforms.specs.Fields.{Names, Said, Fresh, Values, read, AllGood}
-use Rattle.rforms.specs.Heads.{is_nil, is_bad_name}
-use Rattle.rforms.specs.Walks.{first_of}
-use Rattle.rforms.proofs.facts.Choices.{some_is, some_none}
-use Rattle.rforms.proofs.facts.Coming.{request_right, kind_below}
-use Rattle.rforms.proofs.facts.Said.{last_none}
-use Rattle.rforms.proofs.facts.Walks.{when_not}
-use Rattle.rscript_records.specs.Statements.{IsWithin, IsRight, is_there}
-use Rattle.rscript_records.specs.Words.{fields_of}
-use Rattle.rscript_records.specs.Lines.{Line, Opens, HasResource, HasGroup, HasTask, Does, Ends, names_of, line_by, word_of}
-use Rattle.rscript_records.specs.Places.{stands}
-use Rattle.rscript_records.specs.Causes.{line_causes}
-use Rattle.rscript_records.specs.declared.word.Word.{Word}
-use Rattle.rscript_records.specs.declared.word.Word.TheVariants as word
-use Rattle.rscript_records.specs.declared.statement.Statement.TheVariants as statement
-use Rattle.rscript_records.specs.declared.code.Code.TheVariants.{TooMany, EmptyGroup}
-use Rattle.rscript_records.proofs.facts.Causes.{name_fine, statement_right}
+use Rattle.rtrace_form.specs.Records.{Row}
+use Rattle.rtrace_form.specs.Decided.{field_of}
+use Rattle.rtrace_form.specs.Events.{request_refusal}
+use Rattle.rtrace_form.specs.Fields.{Names, Said, Fresh, Values, read, AllGood}
+use Rattle.rtrace_form.specs.Heads.{is_nil, is_bad_name}
+use Rattle.rtrace_form.specs.Walks.{first_of}
+use Rattle.rtrace_form.proofs.facts.Choices.{some_is, some_none}
+use Rattle.rtrace_form.proofs.facts.Coming.{request_right, kind_below}
+use Rattle.rtrace_form.proofs.facts.Said.{last_none}
+use Rattle.rtrace_form.proofs.facts.Walks.{when_not}
+use Rattle.rscript.specs.Statements.{IsWithin, IsRight, is_there}
+use Rattle.rscript.specs.Words.{fields_of}
+use Rattle.rscript.specs.Lines.{Line, Opens, HasResource, HasGroup, HasTask, Does, Ends, names_of, line_by, word_of}
+use Rattle.rscript.specs.Places.{stands}
+use Rattle.rscript.specs.Causes.{line_causes}
+use Rattle.rscript.specs.declared.word.Word.{Word}
+use Rattle.rscript.specs.declared.word.Word.TheVariants as word
+use Rattle.rscript.specs.declared.statement.Statement.TheVariants as statement
+use Rattle.rscript.specs.declared.code.Code.TheVariants.{TooMany, EmptyGroup}
+use Rattle.rscript.proofs.record_facts.Causes.{name_fine, statement_right}
 use Rattle.rscript.specs.SoFar.{SoFar, section_of, with_line}
 use Rattle.rscript.specs.Faults.{may_stand, needs_resources, is_end, declared_causes}
 

@@ -1,21 +1,21 @@
 -- What a record says that has a meaning, and what one without a fault says.
 use Rattle.std.proofs.Common.{◌≡◌, true, false, not, ◌&&◌, Option, Some, None, refl, sym, ap, subst, ◌∙◌}
 use Rattle.rclaim.specs.declared.request.Kind.TheVariants.{Read, Write, Mixed, Upgrade, Nested}
-use Rattle.rforms.specs.Records.{Row}
-use Rattle.rforms.specs.Fields.{Names, Values, read, all_counted, all_known}
-use Rattle.rforms.specs.Heads.{is_nil}
-use Rattle.rforms.specs.Walks.{when, first_of}
-use Rattle.rforms.proofs.facts.Choices.{some_none, map_some}
-use Rattle.rforms.proofs.facts.ReadGood.{read_good}
-use Rattle.rforms.proofs.facts.Tests.{not_false}
-use Rattle.rforms.proofs.facts.Walks.{when_not, or_none}
-use Rattle.rscript_records.specs.Words.{fields_of, word_in}
-use Rattle.rscript_records.specs.Lines.{Line, line_by, word_of, meaning, meant_as, names_of}
-use Rattle.rscript_records.specs.Causes.{meant_causes}
-use Rattle.rscript_records.specs.declared.word.Word.{Word}
-use Rattle.rscript_records.specs.declared.word.Word.TheVariants as word
-use Rattle.rscript_records.specs.declared.code.Code.TheVariants.{BadOrder, NoResources, NoTask, UnknownName, BadNumber}
-use Rattle.rscript_records.proofs.facts.Causes.{none_of_both}
+use Rattle.rtrace_form.specs.Records.{Row}
+use Rattle.rtrace_form.specs.Fields.{Names, Values, read, all_counted, all_known}
+use Rattle.rtrace_form.specs.Heads.{is_nil}
+use Rattle.rtrace_form.specs.Walks.{when, first_of}
+use Rattle.rtrace_form.proofs.facts.Choices.{some_none, map_some}
+use Rattle.rtrace_form.proofs.facts.ReadGood.{read_good}
+use Rattle.rtrace_form.proofs.facts.Tests.{not_false}
+use Rattle.rtrace_form.proofs.facts.Walks.{when_not, or_none}
+use Rattle.rscript.specs.Words.{fields_of, word_in}
+use Rattle.rscript.specs.Lines.{Line, line_by, word_of, meaning, meant_as, names_of}
+use Rattle.rscript.specs.Causes.{meant_causes}
+use Rattle.rscript.specs.declared.word.Word.{Word}
+use Rattle.rscript.specs.declared.word.Word.TheVariants as word
+use Rattle.rscript.specs.declared.code.Code.TheVariants.{BadOrder, NoResources, NoTask, UnknownName, BadNumber}
+use Rattle.rscript.proofs.record_facts.Causes.{none_of_both}
 use Rattle.rscript.specs.SoFar.{SoFar, section_of}
 use Rattle.rscript.specs.Faults.{may_stand, needs_resources, is_end, declared_causes, code_of, code_by}
 use Rattle.rscript.proofs.facts.Fine.{IsFine, IsNext, fine_by}

@@ -3,9 +3,9 @@ use Rattle.std.proofs.Common.{◌≡◌, List, [], ◌∷◌, ◌++◌, length, 
 use Rattle.std.proofs.lemmas.List.{append-nil}
 use Rattle.std.specs.Prelude.{option_to_list}
 use Rattle.rset.specs.declared.TheConstants.{RESOURCES, SEATS}
-use Rattle.rforms.proofs.facts.Tables.{table-empty, groups-empty}
-use Rattle.rscript_records.specs.Statements.{IsTask}
-use Rattle.rscript_records.specs.Lines.{Line, Opens, HasResource, HasGroup, HasTask, Does, Ends}
+use Rattle.rtrace_form.proofs.facts.Tables.{table-empty, groups-empty}
+use Rattle.rscript.specs.Statements.{IsTask}
+use Rattle.rscript.specs.Lines.{Line, Opens, HasResource, HasGroup, HasTask, Does, Ends}
 use Rattle.rscript.specs.Scripts.{IsScript, lines_of}
 use Rattle.rscript.specs.SoFar.{SoFar, nothing_yet, told_in, with_line}
 use Rattle.rscript.proofs.facts.Fine.{IsNext, AllNext}

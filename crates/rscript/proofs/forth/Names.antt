@@ -2,13 +2,13 @@
 use Rattle.std.proofs.Common.{◌≡◌, ℕ, ◌≤◌, List, [], ◌∷◌, fold, Some, refl, sym, ap, subst, ◌∙◌, arith}
 use Rattle.std.specs.Prelude.{option_map}
 use Rattle.rclaim.specs.declared.request.Kind.TheVariants.{Read, Write, Mixed, Upgrade, Nested}
-use Rattle.rforms.specs.Records.{Row}
-use Rattle.rforms.specs.Fields.{Values}
-use Rattle.rforms.proofs.forth.Names.{AgreeOnAll, read_same}
-use Rattle.rscript_records.specs.Words.{fields_of}
-use Rattle.rscript_records.specs.Lines.{Line, Opens, HasResource, HasGroup, HasTask, Does, Ends, line_by, names_of, meaning, meant_as}
-use Rattle.rscript_records.specs.declared.word.Word.{Word}
-use Rattle.rscript_records.specs.declared.word.Word.TheVariants as word
+use Rattle.rtrace_form.specs.Records.{Row}
+use Rattle.rtrace_form.specs.Fields.{Values}
+use Rattle.rtrace_form.proofs.forth.Names.{AgreeOnAll, read_same}
+use Rattle.rscript.specs.Words.{fields_of}
+use Rattle.rscript.specs.Lines.{Line, Opens, HasResource, HasGroup, HasTask, Does, Ends, line_by, names_of, meaning, meant_as}
+use Rattle.rscript.specs.declared.word.Word.{Word}
+use Rattle.rscript.specs.declared.word.Word.TheVariants as word
 use Rattle.rscript.specs.SoFar.{SoFar, with_line}
 use Rattle.rscript.proofs.facts.Fine.{IsNext, AllNext, placed_at}
 use Rattle.rscript.proofs.facts.Said.{says}

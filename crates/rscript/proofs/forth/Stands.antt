@@ -7,10 +7,10 @@ use Rattle.rset.specs.Names.{is_table}
 use Rattle.rset.specs.Sets.{Set}
 use Rattle.rset.specs.declared.TheConstants.{RESOURCES, SEATS}
 use Rattle.rvalue.specs.InTurn.{AllInTurn}
-use Rattle.rforms.specs.Heads.{is_nil, are_read_groups}
-use Rattle.rscript_records.specs.Statements.{FitsBehind, IsTask}
-use Rattle.rscript_records.specs.Lines.{Line}
-use Rattle.rscript_records.specs.declared.statement.Statement.{Statement}
+use Rattle.rtrace_form.specs.Heads.{is_nil, are_read_groups}
+use Rattle.rscript.specs.Statements.{FitsBehind, IsTask}
+use Rattle.rscript.specs.Lines.{Line}
+use Rattle.rscript.specs.declared.statement.Statement.{Statement}
 use Rattle.rscript.specs.Scripts.{said_lines, lines_of, AreWithin}
 use Rattle.rscript.specs.SoFar.{SoFar, steps_in, section_of, told_in}
 

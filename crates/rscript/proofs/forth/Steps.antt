@@ -6,15 +6,15 @@ use Rattle.std.specs.List.{AllByRecursion}
 use Rattle.rset.specs.Sets.{Set}
 use Rattle.rset.specs.declared.TheConstants.{RESOURCES, SEATS}
 use Rattle.rvalue.specs.declared.ledger.Edit.TheVariants as edit
-use Rattle.rforms.proofs.facts.Tables.{table-push, groups-push}
-use Rattle.rscript_records.specs.declared.place.Where.{Where}
-use Rattle.rscript_records.specs.declared.section.Section.{Section}
-use Rattle.rscript_records.specs.Statements.{IsRight, FitsBehind, IsTask, is_there, where_of, section_after}
-use Rattle.rscript_records.specs.Lines.{Line, Opens, HasResource, HasGroup, HasTask, Does, Ends, statement_word}
-use Rattle.rscript_records.specs.Places.{stands}
-use Rattle.rscript_records.specs.declared.statement.Statement.{Statement}
-use Rattle.rscript_records.specs.declared.statement.Statement.TheVariants as statement
-use Rattle.rscript_records.specs.declared.word.Word.TheVariants as word
+use Rattle.rtrace_form.proofs.facts.Tables.{table-push, groups-push}
+use Rattle.rscript.specs.declared.place.Where.{Where}
+use Rattle.rscript.specs.declared.section.Section.{Section}
+use Rattle.rscript.specs.Statements.{IsRight, FitsBehind, IsTask, is_there, where_of, section_after}
+use Rattle.rscript.specs.Lines.{Line, Opens, HasResource, HasGroup, HasTask, Does, Ends, statement_word}
+use Rattle.rscript.specs.Places.{stands}
+use Rattle.rscript.specs.declared.statement.Statement.{Statement}
+use Rattle.rscript.specs.declared.statement.Statement.TheVariants as statement
+use Rattle.rscript.specs.declared.word.Word.TheVariants as word
 use Rattle.rscript.specs.Scripts.{said_lines, AreWithin}
 use Rattle.rscript.specs.SoFar.{SoFar, steps_in, section_of, followed_by, with_line}
 use Rattle.rscript.proofs.facts.Fine.{IsNext, placed_at}

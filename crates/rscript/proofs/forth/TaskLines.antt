@@ -2,8 +2,8 @@
 use Rattle.std.proofs.Common.{◌≡◌, ℕ, List, [], ◌∷◌, ◌++◌, length, map, refl, sym, ap, ◌∙◌, arith, append_assoc, length-append}
 use Rattle.std.proofs.lemmas.List.{append-nil, map-append}
 use Rattle.rset.specs.Sets.{Set}
-use Rattle.rscript_records.specs.Lines.{Line, Opens, HasResource, HasGroup, HasTask, Does}
-use Rattle.rscript_records.specs.declared.statement.Statement.{Statement}
+use Rattle.rscript.specs.Lines.{Line, Opens, HasResource, HasGroup, HasTask, Does}
+use Rattle.rscript.specs.declared.statement.Statement.{Statement}
 use Rattle.rscript.specs.Scripts.{task_lines, said_lines}
 
 one_more : {X : Type 0} (f : X → Line) (xs : List X) (x : X) (rest : List Line) → rest ≡ [] → (map f xs ++ rest) ++ f x ∷ [] ≡ map f (xs ++ x ∷ []) ++ rest

@@ -2,8 +2,8 @@
 use Rattle.std.proofs.Common.{◌≡◌, ℕ, List, sym, subst, ◌∙◌}
 use Rattle.csv.specs.Reading.{default_config, strip_bom}
 use Rattle.csv.specs.declared.parser.State.TheVariants as st
-use Rattle.rforms.specs.Records.{Row}
-use Rattle.rforms.proofs.texts.Records.{rows_unique}
+use Rattle.rtrace_form.specs.Records.{Row}
+use Rattle.rtrace_form.proofs.texts.Records.{rows_unique}
 use Rattle.rscript.specs.Scripts.{ScriptFields, Spells, IsTextOf}
 use Rattle.rscript.proofs.back.Rows.{spelled_clean}
 

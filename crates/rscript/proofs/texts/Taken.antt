@@ -2,21 +2,21 @@
 use Rattle.std.proofs.Common.{◌≡◌, ℕ, Bool, true, false, not, List, [], ◌∷◌, ◌++◌, Option, Some, None, refl, sym, ap, subst, ◌∙◌}
 use Rattle.std.proofs.lemmas.List.Sums.{fold_push}
 use Rattle.std.specs.Prelude.{Result, Ok, Err, IfOk}
-use Rattle.rforms.specs.Records.{Row}
-use Rattle.rforms.specs.Takers.{followed, fault_of, IsFaultOf, HasTaken}
-use Rattle.rforms.specs.Walks.{when, first_of}
-use Rattle.rforms.specs.declared.fault.Fault.{Fault}
-use Rattle.rforms.proofs.texts.Lists.{fault_by_state}
-use Rattle.rscript_records.specs.Words.{word_in}
+use Rattle.rtrace_form.specs.Records.{Row}
+use Rattle.rtrace_form.specs.Takers.{followed, fault_of, IsFaultOf, HasTaken}
+use Rattle.rtrace_form.specs.Walks.{when, first_of}
+use Rattle.rtrace_form.specs.declared.fault.Fault.{Fault}
+use Rattle.rtrace_form.proofs.texts.Lists.{fault_by_state}
+use Rattle.rscript.specs.Words.{word_in}
 use Rattle.rscript.specs.Scripts.{ScriptFields, Spells, IsScript, IsTextOf}
 use Rattle.rscript.specs.SoFar.{SoFar, nothing_yet, section_of, told_in, with_row}
 use Rattle.rscript.specs.Faults.{stands_at, placed_causes, code_by, code_of, is_ended, first_fault, read_all}
 use Rattle.rscript.specs.Reading.{Knows, Takes, Refuses}
-use Rattle.rforms.specs.declared.errors.TextErr.{TextErr}
-use Rattle.rforms.specs.declared.errors.TextErr.TheVariants as text
-use Rattle.rscript_records.specs.declared.code.Code.{Code}
-use Rattle.rscript_records.specs.declared.code.Code.TheVariants.{BadField, BadOrder, NoEnd}
-use Rattle.rscript_records.specs.declared.word.Word.{Word}
+use Rattle.rtrace_form.specs.declared.errors.TextErr.{TextErr}
+use Rattle.rtrace_form.specs.declared.errors.TextErr.TheVariants as text
+use Rattle.rscript.specs.declared.code.Code.{Code}
+use Rattle.rscript.specs.declared.code.Code.TheVariants.{BadField, BadOrder, NoEnd}
+use Rattle.rscript.specs.declared.word.Word.{Word}
 use Rattle.rscript.specs.Texts.{script_code, is_script_done, KnowsSaid, error_of, IsFirstFault}
 use Rattle.rscript.specs.declared.reading.Reading.{Reading}
 use Rattle.rscript.specs.declared.script.ScriptErr.{ScriptErr}

@@ -10,14 +10,14 @@ use Rattle.rclaim.specs.declared.request.Kind.{Kind}
 use Rattle.rclaim.specs.declared.request.Kind.TheVariants.{Read, Write, Mixed, Upgrade, Nested}
 use Rattle.rvalue.specs.InTurn.{AllInTurn}
 use Rattle.rvalue.specs.declared.ledger.Edit.TheVariants as edit
-use Rattle.rforms.specs.Fields.{AreTables, AllGood}
-use Rattle.rscript_records.specs.Statements.{FitsBehind, IsWithin, IsTask}
-use Rattle.rscript_records.specs.Words.{fields_of}
-use Rattle.rscript_records.specs.Lines.{Line, Opens, HasResource, HasGroup, Does, Ends, names_of, meaning, spelled, request_values}
-use Rattle.rscript_records.specs.declared.statement.Statement.{Statement}
-use Rattle.rscript_records.specs.declared.statement.Statement.TheVariants as statement
-use Rattle.rscript_records.specs.declared.word.Word.TheVariants as word
-use Rattle.rscript_records.proofs.lines.LineBack.{IsWritable, meaning_back}
+use Rattle.rtrace_form.specs.Fields.{AreTables, AllGood}
+use Rattle.rscript.specs.Statements.{FitsBehind, IsWithin, IsTask}
+use Rattle.rscript.specs.Words.{fields_of}
+use Rattle.rscript.specs.Lines.{Line, Opens, HasResource, HasGroup, Does, Ends, names_of, meaning, spelled, request_values}
+use Rattle.rscript.specs.declared.statement.Statement.{Statement}
+use Rattle.rscript.specs.declared.statement.Statement.TheVariants as statement
+use Rattle.rscript.specs.declared.word.Word.TheVariants as word
+use Rattle.rscript.proofs.lines.LineBack.{IsWritable, meaning_back}
 use Rattle.rscript.specs.Scripts.{ScriptFields, task_lines, lines_of, AreWithin, IsScript, Spells}
 use Rattle.rscript.specs.Texts.{script_rows}
 use Rattle.rscript.proofs.forth.Stands.{all_with}

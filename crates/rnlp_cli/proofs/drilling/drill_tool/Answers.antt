@@ -1,7 +1,7 @@
 use Rattle.std.proofs.Common.{◌∙◌}
 use Rattle.rdrill.specs.Summary.{summary_text}
-use Rattle.rscript_tools.specs.Outputs.{drill_text}
-use Rattle.rscript_tools.proofs.Outcomes.{surely_written}
+use Rattle.rnlp_cli.specs.Outputs.{drill_text}
+use Rattle.rnlp_cli.proofs.Outcomes.{surely_written}
 use Rattle.rnlp_cli.proofs.drilling.drill_tool.Goals as goal
 
 pub returns-clause-written : goal.returns-clause-written

@@ -1,8 +1,8 @@
 use Rattle.std.proofs.Common.{Some, refl}
-use Rattle.rscript_tools.proofs.Outcomes.{written}
-use Rattle.rscript_tools.proofs.Tellings.{written_tells}
-use Rattle.rscript_tools.specs.Outputs.{drill_text}
-use Rattle.rscript_tools.specs.Command.TheVariants.{Drill}
+use Rattle.rnlp_cli.proofs.Outcomes.{written}
+use Rattle.rnlp_cli.proofs.Tellings.{written_tells}
+use Rattle.rnlp_cli.specs.Outputs.{drill_text}
+use Rattle.rnlp_cli.specs.declared.command.Command.TheVariants.{Drill}
 use Rattle.rnlp_cli.proofs.tool.run_command.Goals as goal
 
 pub returns-in-Replay-clause-answer : goal.returns-in-Replay-clause-answer

@@ -1,14 +1,14 @@
 use Rattle.std.proofs.Common.{Option, Some, map, sym, ap, ◌∙◌, subst}
 use Rattle.std.specs.Prelude.{string_bytes}
-use Rattle.rscript_tools.proofs.ToolAnswers.{answered, unread}
-use Rattle.rscript_tools.proofs.Tellings.{tells_left, unread_tells}
-use Rattle.rscript_tools.proofs.Watches.{unread_watched, watched_left}
-use Rattle.rscript_tools.specs.Answer.{ToolAnswer}
-use Rattle.rscript_tools.specs.Words.{plain_in}
-use Rattle.rscript_tools.specs.Told.{Tells, told_behind}
-use Rattle.rscript_tools.specs.Watched.{Watched}
-use Rattle.rscript_tools.specs.Command.{Command}
-use Rattle.rscript_tools.proofs.Streams.{streamed_is}
+use Rattle.rnlp_cli.proofs.ToolAnswers.{answered, unread}
+use Rattle.rnlp_cli.proofs.Tellings.{tells_left, unread_tells}
+use Rattle.rnlp_cli.proofs.Watches.{unread_watched, watched_left}
+use Rattle.rnlp_cli.specs.Answer.{ToolAnswer}
+use Rattle.rnlp_cli.specs.Words.{plain_in}
+use Rattle.rnlp_cli.specs.Told.{Tells, told_behind}
+use Rattle.rnlp_cli.specs.Watched.{Watched}
+use Rattle.rnlp_cli.specs.declared.command.Command.{Command}
+use Rattle.rnlp_cli.proofs.Streams.{streamed_is}
 use Rattle.rnlp_cli.proofs.tool.told_tool.Goals as goal
 
 pub returns-in-Ok-clause-answer : goal.returns-in-Ok-clause-answer

@@ -3,7 +3,7 @@ use Rattle.std.proofs.lemmas.Result.{IfOk-weaker}
 use Rattle.std.specs.Arc.{arc_value}
 use Rattle.rvalue.specs.declared.ledger.Edit.{Edit}
 use Rattle.rvalue.specs.Entries.{EntryFields}
-use Rattle.rreport.specs.Report.{ReportFields}
+use Rattle.rtrace_write.specs.Report.{ReportFields}
 use Rattle.rrun.specs.Reporting.{TellsHeadOf}
 use Rattle.rrun.proofs.Left.{both_ok}
 use Rattle.rrun.proofs.Reported.{all_of, all_idle, all_there, is_report}

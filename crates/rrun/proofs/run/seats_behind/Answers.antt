@@ -1,6 +1,6 @@
 use Rattle.std.proofs.Common.{false, sym, ap, ◌∙◌}
 use Rattle.std.specs.List.{list_any}
-use Rattle.rtasks.specs.declared.tasks.Ended.{Ended}
+use Rattle.rrun.specs.declared.tasks.Ended.{Ended}
 use Rattle.rrun.proofs.Left.{are_left, have_run}
 use Rattle.rrun.proofs.run.seats_behind.Goals as goal
 

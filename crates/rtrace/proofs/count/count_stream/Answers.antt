@@ -1,8 +1,8 @@
 use Rattle.std.proofs.Common.{Err, true, ap}
-use Rattle.rforms.proofs.texts.Lists.{list_fault}
-use Rattle.rforms.proofs.texts.Place.{err_is}
-use Rattle.rreport.proofs.Writing.{always_on_ok}
-use Rattle.rstream.proofs.Errors.{none_of_source}
+use Rattle.rtrace_form.proofs.texts.Lists.{list_fault}
+use Rattle.rtrace_form.proofs.texts.Place.{err_is}
+use Rattle.rtrace_write.proofs.Writing.{always_on_ok}
+use Rattle.rtrace.proofs.Errors.{none_of_source}
 use Rattle.rtrace.proofs.Results.{if_ok, no_read_fault, not_too_long}
 use Rattle.rtrace.proofs.Whole.{no_bound_refused}
 use Rattle.rtrace.proofs.count.count_stream.Goals as goal

@@ -1,9 +1,9 @@
 use Rattle.std.proofs.Common.{true, sym, ap, subst, ◌∙◌}
 use Rattle.std.specs.Prelude.{option_map}
-use Rattle.rforms.specs.WrongBounds.{wrong_bound}
-use Rattle.rforms.specs.Takers.{IsFirstFault}
-use Rattle.rforms.specs.declared.fault.Code.{Code}
-use Rattle.rforms.specs.declared.fault.Fault.{Fault}
+use Rattle.rtrace_form.specs.WrongBounds.{wrong_bound}
+use Rattle.rtrace_form.specs.Takers.{IsFirstFault}
+use Rattle.rtrace_form.specs.declared.fault.Code.{Code}
+use Rattle.rtrace_form.specs.declared.fault.Fault.{Fault}
 use Rattle.rtrace.specs.Collects.{KnowsCount}
 use Rattle.rtrace.proofs.Results.{stream_bad_is}
 use Rattle.rtrace.proofs.Whole.{taken_nine, wrong_is, counts_of}

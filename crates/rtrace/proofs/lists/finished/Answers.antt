@@ -1,10 +1,10 @@
 use Rattle.std.proofs.Common.{true, sym, ap, subst, ◌∙◌}
 use Rattle.std.specs.Prelude.{option_map}
-use Rattle.rforms.specs.Faults.{read_all}
-use Rattle.rforms.specs.WrongBounds.{wrong_bound}
-use Rattle.rforms.specs.Takers.{IsFirstFault}
-use Rattle.rforms.specs.declared.fault.Code.{Code}
-use Rattle.rforms.specs.declared.fault.Fault.{Fault}
+use Rattle.rtrace_form.specs.Faults.{read_all}
+use Rattle.rtrace_form.specs.WrongBounds.{wrong_bound}
+use Rattle.rtrace_form.specs.Takers.{IsFirstFault}
+use Rattle.rtrace_form.specs.declared.fault.Code.{Code}
+use Rattle.rtrace_form.specs.declared.fault.Fault.{Fault}
 use Rattle.rtrace.specs.Collects.{KnowsReport}
 use Rattle.rtrace.proofs.Results.{if_ok, bad_is}
 use Rattle.rtrace.proofs.Whole.{read_whole_at, taken_nine, wrong_is, right_spells}

@@ -1,6 +1,6 @@
 use Rattle.std.proofs.Common.{false}
-use Rattle.rforms.proofs.texts.Lists.{list_taken, list_fault}
-use Rattle.rforms.proofs.lists.NoActs.{no_wrong_bound}
+use Rattle.rtrace_form.proofs.texts.Lists.{list_taken, list_fault}
+use Rattle.rtrace_form.proofs.lists.NoActs.{no_wrong_bound}
 use Rattle.rtrace.specs.Collects.{KnowsList}
 use Rattle.rtrace.proofs.Results.{same_error}
 use Rattle.rtrace.proofs.Whole.{read_whole}

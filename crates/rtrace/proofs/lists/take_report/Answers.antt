@@ -1,5 +1,5 @@
 use Rattle.std.proofs.Common.{true}
-use Rattle.rforms.proofs.texts.Lists.{list_fault}
+use Rattle.rtrace_form.proofs.texts.Lists.{list_fault}
 use Rattle.rtrace.proofs.Results.{if_ok, same_error}
 use Rattle.rtrace.proofs.Writable.{writable}
 use Rattle.rtrace.proofs.lists.take_report.Goals as goal

@@ -1,8 +1,8 @@
 use Rattle.std.proofs.Common.{rules, ◌≡◌, ◌<◌, ℕ, List, length, get_or, true, None, [], sym, ap, ◌∙◌, subst}
 use Rattle.std.proofs.lemmas.List.{get_or_default}
 use Rattle.rlock.specs.Known.{Known}
-use Rattle.rlock_samples.specs.declared.roll.Roll.{Roll}
-use Rattle.rlock_samples.specs.declared.roll.Signature.{Signature}
+use Rattle.rlock.specs.declared.roll.Roll.{Roll}
+use Rattle.rlock.specs.declared.roll.Signature.{Signature}
 use Rattle.tests_of_gates.proofs.signing.closed.Goals as goal
 
 pub close-requires-clause-all : goal.close-requires-clause-all

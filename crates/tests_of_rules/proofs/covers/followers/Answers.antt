@@ -1,6 +1,6 @@
 use Rattle.std.proofs.Common.{[], subst, arith}
 use Rattle.rexpand.specs.Groups.{ReadGroups}
-use Rattle.rwaits.specs.Knows.{Knows}
+use Rattle.rcover.specs.Knows.{Knows}
 use Rattle.tests_of_rules.specs.Stories.{past}
 use Rattle.tests_of_rules.proofs.covers.followers.Goals as goal
 

@@ -5,8 +5,8 @@ use Rattle.rmodel.specs.State.{LockState, opening}
 use Rattle.rmodel.specs.Steps.{Comes, AreAccepted, next, after}
 use Rattle.rmodel.proofs.reaching.Histories.{accepted_push, after_append, sizes_next}
 use Rattle.std.specs.Result.{IsOk}
-use Rattle.rwaits.specs.Follows.{Follows}
-use Rattle.rwaits.specs.Knows.{Knows}
+use Rattle.rcover.specs.Follows.{Follows}
+use Rattle.rcover.specs.Knows.{Knows}
 use Rattle.tests_of_rules.specs.Stories.{past}
 use Rattle.tests_of_rules.proofs.covers.step.Goals as goal
 

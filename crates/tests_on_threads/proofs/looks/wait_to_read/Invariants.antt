@@ -1,5 +1,5 @@
 use Rattle.std.proofs.Common.{◌≡◌}
-use Rattle.rlent.specs.declared.kind.GuardKind.TheVariants as kinds
+use Rattle.rguard.specs.declared.kind.GuardKind.TheVariants as kinds
 use Rattle.rguard.specs.Resting.{IsAt, all_with}
 use Rattle.tests_on_threads.specs.Waiting.{WaitsToRead}
 use Rattle.tests_on_threads.proofs.looks.wait_to_read.Given as goal

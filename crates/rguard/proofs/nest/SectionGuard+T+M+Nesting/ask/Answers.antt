@@ -1,7 +1,7 @@
 use Rattle.std.proofs.Common.{◌≡◌, [], ◌∷◌, sym, subst, ◌∙◌}
 use Rattle.rclaim.specs.declared.event.Event.TheVariants.{Ask}
-use Rattle.rlent.specs.Sections.{guarded}
-use Rattle.rlent.specs.declared.kind.GuardKind.TheVariants as kinds
+use Rattle.rguard.specs.LentSections.{guarded}
+use Rattle.rguard.specs.declared.kind.GuardKind.TheVariants as kinds
 use Rattle.rguard.specs.Guards.{GuardFields, IsPartOf, KeepsValues, KeepsHolding}
 use Rattle.rguard.specs.Seats.{Goes, ComesBack, bare}
 use Rattle.rguard.proofs.Going.{goes_on}

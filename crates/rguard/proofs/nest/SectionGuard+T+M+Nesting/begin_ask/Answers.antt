@@ -1,9 +1,9 @@
 use Rattle.std.proofs.Common.{◌≡◌, [], refl, sym, subst}
 use Rattle.rguard.specs.Guards.{GuardFields, HasAsked, IsPartOf, KeepsValues, KeepsHolding}
 use Rattle.rguard.specs.Seats.{Goes, ComesBack}
-use Rattle.rlent.specs.Sections.{guarded}
+use Rattle.rguard.specs.LentSections.{guarded}
 use Rattle.rguard.specs.Awaiting.{waiting}
-use Rattle.rlent.specs.declared.kind.GuardKind.TheVariants.{Nest}
+use Rattle.rguard.specs.declared.kind.GuardKind.TheVariants.{Nest}
 use Rattle.rguard.proofs.nest.SectionGuard+T+M+Nesting.begin_ask.Goals as goal
 
 pub ask-requires-clause-part : goal.ask-requires-clause-part

@@ -1,5 +1,5 @@
-use Rattle.rlent.specs.declared.kind.GuardKind.TheVariants.{Read}
-use Rattle.rlent.proofs.Editing.{ends_of_shows}
+use Rattle.rguard.specs.declared.kind.GuardKind.TheVariants.{Read}
+use Rattle.rguard.proofs.LentEditing.{ends_of_shows}
 use Rattle.rguard.proofs.read.SectionGuard+T+M+Reading.finish.Goals as goal
 
 pub end-requires-after_bounds : goal.end-requires-after_bounds

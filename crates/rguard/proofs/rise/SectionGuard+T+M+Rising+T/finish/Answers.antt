@@ -1,5 +1,5 @@
-use Rattle.rlent.specs.declared.kind.GuardKind.TheVariants.{Rise}
-use Rattle.rlent.proofs.Editing.{ends_of_shows}
+use Rattle.rguard.specs.declared.kind.GuardKind.TheVariants.{Rise}
+use Rattle.rguard.proofs.LentEditing.{ends_of_shows}
 use Rattle.rguard.proofs.rise.SectionGuard+T+M+Rising+T.finish.Goals as goal
 
 pub end-requires-after_bounds : goal.end-requires-after_bounds

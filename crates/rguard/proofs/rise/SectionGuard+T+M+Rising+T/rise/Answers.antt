@@ -1,6 +1,6 @@
 use Rattle.std.proofs.Common.{[], ◌∷◌, subst, ◌∙◌, ap}
 use Rattle.rclaim.specs.declared.event.Event.TheVariants.{Rise}
-use Rattle.rlent.specs.declared.kind.GuardKind.TheVariants as kinds
+use Rattle.rguard.specs.declared.kind.GuardKind.TheVariants as kinds
 use Rattle.rguard.specs.Guards.{GuardFields}
 use Rattle.rguard.specs.Seats.{Goes}
 use Rattle.rguard.proofs.Going.{goes_on}

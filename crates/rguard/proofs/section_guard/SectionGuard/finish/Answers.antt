@@ -1,6 +1,6 @@
 use Rattle.std.proofs.Common.{[], ◌∷◌, subst}
 use Rattle.rclaim.specs.declared.event.Event.TheVariants.{Finish}
-use Rattle.rlent.specs.Sections.{SectionFields}
+use Rattle.rguard.specs.LentSections.{SectionFields}
 use Rattle.rguard.specs.Guards.{GuardFields}
 use Rattle.rguard.specs.Seats.{Goes, IsOneTurn}
 use Rattle.rguard.proofs.section_guard.SectionGuard.finish.Goals as goal

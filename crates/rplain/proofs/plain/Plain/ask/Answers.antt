@@ -15,12 +15,12 @@ use Rattle.rmodel.specs.Steps.{changed, given, asking}
 use Rattle.rplain.proofs.stepping.PlainSteps.{kept_comes, taken, ask_settled}
 use Rattle.rmodel.proofs.reaching.FewClaims.{few_claims}
 use Rattle.rmodel.proofs.reaching.Reached.{reached_next}
-use Rattle.rsettle.specs.NewClaim.{seen_of}
-use Rattle.rsettle.proofs.settling.SweepSteps.{seen_standing}
+use Rattle.rplain.specs.NewClaim.{seen_of}
+use Rattle.rplain.proofs.settling.SweepSteps.{seen_standing}
 use Rattle.rmodel.proofs.settling.Standing.{asking_standing, given_standing}
 use Rattle.std.proofs.lemmas.Bool.{true≢false}
-use Rattle.rsettle.specs.Sweep.{AreReadWithin}
-use Rattle.rsettle.proofs.settling.SoFar.{within_next, within_asking}
+use Rattle.rplain.specs.Sweep.{AreReadWithin}
+use Rattle.rplain.proofs.settling.SoFar.{within_next, within_asking}
 use Rattle.rmodel.proofs.reaching.Soundness.{sound_changed, asking_same}
 use Rattle.rplain.proofs.plain.Plain.ask.Goals as goal
 

@@ -4,24 +4,23 @@ use Rattle.rmodel.specs.declared.claimed.Claimed.{Claimed}
 use Rattle.rclaim.specs.Changes.{ChangeLists}
 use Rattle.std.proofs.Math.ListN.{set}
 use Rattle.std.specs.List.{count_by}
-use Rattle.rplain.specs.Plain.{AreMarked, AreOnlyMarks}
+use Rattle.rplain.specs.Plain.{AreMarked, AreOnlyMarks, state_of}
 use Rattle.rplain.proofs.stepping.Marked.{issued_marked, marked_next, issued_halves, halves_next, as_number}
 use Rattle.rplain.proofs.stepping.OnlyMarks.{issued_only, only_next}
 use Rattle.rmodel.specs.Changes.{status_changes, grant_changes}
 use Rattle.rmodel.specs.Claims.{waiting, claims_of, is_upgrade, is_read_half}
 use Rattle.rmodel.specs.State.{LockState}
-use Rattle.rplain.specs.Plain.{state_of}
 use Rattle.rmodel.specs.Reached.{IsReached}
 use Rattle.rplain.proofs.stepping.PlainSteps.{kept_comes, taken}
 use Rattle.rmodel.proofs.reaching.FewClaims.{few_claims, two_claims}
-use Rattle.rsettle.proofs.settling.IssueSteps.{issue_is, told_is}
+use Rattle.rplain.proofs.settling.IssueSteps.{issue_is, told_is}
 use Rattle.std.proofs.lemmas.Bool.{or_parts}
 use Rattle.std.specs.FinSet.{union, len, is_subset}
 use Rattle.rset.proofs.SetLemmas.{within_union_right}
 use Rattle.rset.specs.Sets.{Set}
 use Rattle.rmodel.specs.Steps.{next, some_asks}
-use Rattle.rsettle.specs.Sweep.{AreReadWithin}
-use Rattle.rsettle.proofs.settling.SoFar.{within_more, within_issued, unasked_issued, within_next, unasked_next}
+use Rattle.rplain.specs.Sweep.{AreReadWithin}
+use Rattle.rplain.proofs.settling.SoFar.{within_more, within_issued, unasked_issued, within_next, unasked_next}
 use Rattle.rmodel.proofs.reaching.Reached.{reached_next}
 use Rattle.rplain.proofs.plain.Plain.issue.Goals as goal
 

@@ -1,7 +1,7 @@
 use Rattle.std.proofs.Common.{ap, ◌∙◌}
 use Rattle.std.specs.Prelude.{position}
 use Rattle.rplain.specs.Machine.{Standing}
-use Rattle.rsettle.specs.Sweep.{is_of}
+use Rattle.rplain.specs.Sweep.{is_of}
 use Rattle.rplain.proofs.stepping.Marked.{none_placed}
 use Rattle.rplain.proofs.plain.Plain.place.Goals as goal
 

@@ -11,14 +11,14 @@ use Rattle.rmodel.specs.Reached.{IsReached}
 use Rattle.rmodel.specs.Settling.{settled}
 use Rattle.rmodel.specs.State.{LockState}
 use Rattle.rmodel.specs.Steps.{changed, given, some_asks}
-use Rattle.rsettle.specs.declared.left.Left.{Left}
-use Rattle.rsettle.specs.Sweep.{is_read_of, AreReadWithin, IsLeft}
-use Rattle.rsettle.proofs.settling.RemovedSteps.{is_left_by}
+use Rattle.rplain.specs.declared.left.Left.{Left}
+use Rattle.rplain.specs.Sweep.{is_read_of, AreReadWithin, IsLeft}
+use Rattle.rplain.proofs.settling.RemovedSteps.{is_left_by}
 use Rattle.rplain.proofs.stepping.PlainSteps.{kept_comes, taken}
 use Rattle.rmodel.proofs.reaching.FewClaims.{few_claims}
 use Rattle.rmodel.proofs.reaching.Reached.{reached_next}
 use Rattle.rmodel.proofs.ListFacts.{all_filter}
-use Rattle.rsettle.proofs.settling.SoFar.{within_next, unasked_left, unasked_next}
+use Rattle.rplain.proofs.settling.SoFar.{within_next, unasked_left, unasked_next}
 use Rattle.rmodel.proofs.reaching.Soundness.{sound_changed}
 use Rattle.rplain.proofs.plain.Plain.rise.Goals as goal
 

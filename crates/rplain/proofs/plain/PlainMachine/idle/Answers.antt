@@ -1,8 +1,8 @@
 use Rattle.std.proofs.Common.{not, sym, ap, ◌∙◌}
 use Rattle.std.specs.Option.{is_some}
-use Rattle.rsettle.specs.Sweep.{is_of}
+use Rattle.rplain.specs.Sweep.{is_of}
 use Rattle.rplain.proofs.stepping.Marked.{placed_where}
-use Rattle.rsettle.proofs.settling.OneSwept.{not_not}
+use Rattle.rplain.proofs.settling.OneSwept.{not_not}
 use Rattle.rplain.proofs.plain.PlainMachine.idle.Goals as goal
 
 pub returns : goal.returns

@@ -6,11 +6,11 @@ use Rattle.rmodel.specs.Claims.{is_read_half}
 use Rattle.rplain.proofs.stepping.Marked.{none_marked}
 use Rattle.rplain.proofs.stepping.OnlyMarks.{none_only}
 use Rattle.rset.specs.declared.TheConstants.{SEATS}
-use Rattle.rsettle.specs.NewClaim.{seen_of}
-use Rattle.rsettle.proofs.settling.SweepSteps.{seen_none}
+use Rattle.rplain.specs.NewClaim.{seen_of}
+use Rattle.rplain.proofs.settling.SweepSteps.{seen_none}
 use Rattle.rmodel.specs.Reached.{IsReached}
 use Rattle.rmodel.specs.Steps.{some_asks}
-use Rattle.rsettle.proofs.settling.SoFar.{within_none}
+use Rattle.rplain.proofs.settling.SoFar.{within_none}
 use Rattle.rmodel.specs.State.{opening}
 use Rattle.rmodel.proofs.reaching.Reached.{reached_opening}
 use Rattle.rplain.proofs.plain.PlainMachine.new.Goals as goal

@@ -6,7 +6,7 @@ use Rattle.rmodel.specs.Steps.{is_not_holding}
 use Rattle.rmodel.specs.WellFormed.{EachPair}
 use Rattle.rplain.specs.Machine.{Standing}
 use Rattle.rplain.specs.Plain.{state_of}
-use Rattle.rsettle.specs.Sweep.{is_of}
+use Rattle.rplain.specs.Sweep.{is_of}
 use Rattle.rmodel.proofs.reaching.OneOfSeat.{each_alone}
 use Rattle.rplain.proofs.stepping.Marked.{placed_where}
 use Rattle.rplain.proofs.plain.PlainMachine.pending.Goals as goal

@@ -1,9 +1,9 @@
 use Rattle.std.proofs.Common.{◌++◌, ◌∷◌, [], Some, sym, ap, ◌∙◌, true≢false}
 use Rattle.csv.specs.Records.{fields_of}
 use Rattle.rexpand.specs.Groups.{ReadGroups}
-use Rattle.rforms.specs.SetFields.{set_told}
-use Rattle.rscript_records.specs.Causes.{groups_in}
-use Rattle.rscript_records.proofs.Made.{no_members, has_members}
+use Rattle.rtrace_form.specs.SetFields.{set_told}
+use Rattle.rscript.specs.Causes.{groups_in}
+use Rattle.rscript.proofs.Made.{no_members, has_members}
 use Rattle.rscript.proofs.Takes.{takes_group, refuses_unknown, refuses_empty, some_below, same_bad}
 use Rattle.rscript.proofs.reading.Reading.take_group.Goals as goal
 

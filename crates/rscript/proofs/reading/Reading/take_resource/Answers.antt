@@ -1,8 +1,8 @@
 use Rattle.std.proofs.Common.{ℕ, List, [], ◌∷◌, ◌++◌, sym, ap, ◌∙◌}
 use Rattle.csv.specs.Records.{fields_of}
 use Rattle.rset.specs.declared.TheConstants.{RESOURCES}
-use Rattle.rforms.specs.Walks.{first_of}
-use Rattle.rscript_records.specs.Causes.{name_causes}
+use Rattle.rtrace_form.specs.Walks.{first_of}
+use Rattle.rscript.specs.Causes.{name_causes}
 use Rattle.rscript.proofs.Takes.{takes_resource}
 use Rattle.rscript.proofs.reading.Reading.take_resource.Goals as goal
 

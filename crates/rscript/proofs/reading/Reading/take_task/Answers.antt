@@ -2,8 +2,8 @@ use Rattle.std.proofs.Common.{ℕ, List, [], ◌∷◌, ◌++◌, ◌==◌, Some
 use Rattle.csv.specs.Records.{fields_of}
 use Rattle.rset.specs.declared.TheConstants.{RESOURCES}
 use Rattle.rexpand.specs.Groups.{ReadGroups}
-use Rattle.rforms.specs.Walks.{first_of}
-use Rattle.rscript_records.specs.Causes.{name_causes, groups_in}
+use Rattle.rtrace_form.specs.Walks.{first_of}
+use Rattle.rscript.specs.Causes.{name_causes, groups_in}
 use Rattle.rscript.proofs.Takes.{takes_task, not_zero}
 use Rattle.rscript.proofs.reading.Reading.take_task.Goals as goal
 

@@ -1,7 +1,7 @@
 use Rattle.std.proofs.Common.{sym, subst}
 use Rattle.std.specs.Prelude.{OnOk}
 use Rattle.csv.specs.Records.{fields_of}
-use Rattle.rscript_records.specs.declared.word.Word.{Word}
+use Rattle.rscript.specs.declared.word.Word.{Word}
 use Rattle.rscript.specs.Reading.{Takes, Refuses}
 use Rattle.rscript.proofs.reading.Reading.take_word.Goals as goal
 

@@ -1,6 +1,6 @@
 use Rattle.std.proofs.Common.{refl, []}
-use Rattle.rforms.specs.WrongBounds.{bounds_said}
-use Rattle.rforms.specs.Waits.{ended_from}
+use Rattle.rtrace_form.specs.WrongBounds.{bounds_said}
+use Rattle.rtrace_form.specs.Waits.{ended_from}
 use Rattle.rtrace.proofs.bounds.BoundsKept.new.Goals as goal
 
 pub returns : goal.returns

@@ -1,7 +1,7 @@
 use Rattle.std.proofs.Common.{◌+◌, true, refl, ap, ◌∙◌}
-use Rattle.rforms.specs.Faults.{read_all}
-use Rattle.rlines.specs.Knows.{past_in}
-use Rattle.rreading.specs.Takes.{bound_of}
+use Rattle.rtrace_form.specs.Faults.{read_all}
+use Rattle.rtrace_read.specs.Knows.{past_in}
+use Rattle.rtrace_read.specs.Takes.{bound_of}
 use Rattle.rtrace.proofs.Results.{on_ok}
 use Rattle.rtrace.proofs.ToldSteps.{bounds_same, event_accepted, event_tasks, bounds_event, wait_ended, wait_below, bounds_wait, tells_event, no_event}
 use Rattle.rtrace.proofs.bounds.BoundsKept.take.Goals as goal

@@ -1,7 +1,7 @@
 use Rattle.std.proofs.Common.{Some, refl, sym, ap, ◌∙◌}
 use Rattle.std.proofs.lemmas.Result.{on_err_weaker}
 use Rattle.std.specs.Prelude.{option_map}
-use Rattle.rforms.specs.SoFar.{with_act}
+use Rattle.rtrace_form.specs.SoFar.{with_act}
 use Rattle.rtrace.proofs.Results.{on_ok}
 use Rattle.rtrace.proofs.collect.Collecting.add.Goals as goal
 

@@ -1,9 +1,9 @@
 use Rattle.std.proofs.Common.{false, sym, subst, arith}
 use Rattle.csv.specs.Records.{fields_of}
-use Rattle.rforms.specs.Faults.{read_all}
-use Rattle.rforms.specs.SoFar.{SoFar}
-use Rattle.rforms.proofs.texts.Lists.{entries_few, read_more}
-use Rattle.rreading.proofs.Results.{same_err}
+use Rattle.rtrace_form.specs.Faults.{read_all}
+use Rattle.rtrace_form.specs.SoFar.{SoFar}
+use Rattle.rtrace_form.proofs.texts.Lists.{entries_few, read_more}
+use Rattle.rtrace_read.proofs.Results.{same_err}
 use Rattle.rtrace.specs.Collects.{KnowsList}
 use Rattle.rtrace.proofs.Keeping.{keeps_all}
 use Rattle.rtrace.proofs.collect.CollectingRecords.take.Goals as goal

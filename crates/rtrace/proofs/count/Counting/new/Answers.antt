@@ -1,5 +1,5 @@
 use Rattle.std.proofs.Common.{refl}
-use Rattle.rforms.specs.WrongBounds.{bounds_said}
+use Rattle.rtrace_form.specs.WrongBounds.{bounds_said}
 use Rattle.rtrace.proofs.count.Counting.new.Goals as goal
 
 pub returns-clause-knows : goal.returns-clause-knows

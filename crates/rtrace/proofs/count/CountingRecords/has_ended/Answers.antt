@@ -1,5 +1,5 @@
 use Rattle.std.proofs.Common.{true}
-use Rattle.rforms.specs.Faults.{read_all}
+use Rattle.rtrace_form.specs.Faults.{read_all}
 use Rattle.rtrace.proofs.count.CountingRecords.has_ended.Goals as goal
 
 pub returns : goal.returns

@@ -1,9 +1,9 @@
 use Rattle.std.proofs.Common.{◌+◌, true, refl, arith}
 use Rattle.csv.specs.Records.{fields_of}
-use Rattle.rforms.specs.Faults.{read_all}
-use Rattle.rforms.proofs.texts.Lists.{entries_few}
-use Rattle.rreading.proofs.Names.{one_more}
-use Rattle.rreading.proofs.Results.{same_err}
+use Rattle.rtrace_form.specs.Faults.{read_all}
+use Rattle.rtrace_form.proofs.texts.Lists.{entries_few}
+use Rattle.rtrace_read.proofs.Names.{one_more}
+use Rattle.rtrace_read.proofs.Results.{same_err}
 use Rattle.rtrace.proofs.BoundSteps.{count_on, waits_few}
 use Rattle.rtrace.proofs.count.CountingRecords.take.Goals as goal
 

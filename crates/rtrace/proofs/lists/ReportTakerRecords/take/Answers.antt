@@ -1,13 +1,13 @@
 use Rattle.std.proofs.Common.{true, arith}
 use Rattle.csv.specs.Records.{fields_of}
-use Rattle.rforms.specs.Faults.{read_all}
-use Rattle.rforms.proofs.texts.Lists.{entries_few}
+use Rattle.rtrace_form.specs.Faults.{read_all}
+use Rattle.rtrace_form.proofs.texts.Lists.{entries_few}
 use Rattle.rtrace.specs.declared.collect.Collecting.{Collecting}
 use Rattle.rtrace.specs.Collects.{KnowsAll}
-use Rattle.rforms.specs.SoFar.{SoFar}
+use Rattle.rtrace_form.specs.SoFar.{SoFar}
 use Rattle.rtrace.proofs.BoundSteps.{by_rows}
 use Rattle.rtrace.proofs.Keeping.{keeps_all}
-use Rattle.rreading.proofs.Results.{same_err}
+use Rattle.rtrace_read.proofs.Results.{same_err}
 use Rattle.rtrace.proofs.lists.ReportTakerRecords.take.Goals as goal
 
 pub take-requires : goal.take-requires

@@ -1,0 +1,13 @@
+pub mod Shapes
+pub mod ShapeNeeds
+pub mod TaskShapes
+pub mod Histories
+pub mod Promises
+pub mod ShapeKeys
+pub mod KeyFacts
+pub mod Kept
+pub mod Places
+pub mod Foreseen
+pub mod History
+pub mod Keys
+pub mod Knows

@@ -1,3 +1,0 @@
-pub mod KeyedBounds
-pub mod Knowing
-pub mod OverKeys

@@ -1,5 +1,0 @@
-use Rattle.rcover.proofs.told.EachWait.{each_wait_is_bounded}
-use Rattle.rcover.proofs.laws.each_wait_is_bounded.Goals as goal
-
-pub returns : goal.returns
-returns c = each_wait_is_bounded

@@ -1,5 +1,0 @@
-use Rattle.rcover.proofs.bounds.Within.{waits_are_within_bounds}
-use Rattle.rcover.proofs.laws.waits_are_within_bounds.Goals as goal
-
-pub returns : goal.returns
-returns c = waits_are_within_bounds

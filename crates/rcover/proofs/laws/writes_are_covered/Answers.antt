@@ -1,5 +1,0 @@
-use Rattle.rcover.proofs.covers.Theorems.{writes_are_covered}
-use Rattle.rcover.proofs.laws.writes_are_covered.Goals as goal
-
-pub returns : goal.returns
-returns c = writes_are_covered

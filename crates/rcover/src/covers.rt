@@ -1,0 +1,57 @@
+// The covers of the waits that events end, event by event, over a machine of their own.
+ghost use Rattle.std.specs.Prelude.{◌≡◌, ◌≤◌, ◌<◌, ◌^◌, [], IfOk, length};
+ghost use Rattle.rset.specs.declared.TheConstants.{SEATS};
+ghost use Rattle.rmodel.specs.Steps.{Comes};
+ghost use Rattle.rcover.specs.Past.{Past, begun, state_of, with_event, AreLastEnded};
+ghost use Rattle.rcover.specs.Knows.{Knows};
+
+use crate::following::Following;
+use rclaim::Event;
+use rcover_laws::WaitEnd;
+use rexpand::Groups;
+use rmodel::Machine;
+use rplain::Plain;
+use std::alloc::{AllocError, Global};
+
+/// The waits of a lock, followed event by event beside a machine of its own: of each it keeps what its cover needs, and no
+/// list of events. All room is made when it is made.
+#[derive(Drop)]
+pub struct Covers {
+    machine: Plain,
+    following: Following,
+}
+
+impl Covers {
+    /// Covers that were told no event, over the resources of `groups`, for `seats` seats and at most `cap` incomplete
+    /// requests.
+    ///
+    /// # Errors
+    ///
+    /// Want of memory.
+    pub fn new(alloc: Global, groups: Groups, seats: u8, cap: u8) -> Result<Covers, AllocError>
+        requires seats { (1 ≤ seats) × (seats ≤ SEATS) }
+        requires cap { (1 ≤ cap) × (cap ≤ SEATS) }
+        ensures { IfOk result (λ made. Knows made (begun groups seats cap)) }
+    {
+        Ok(Covers {
+            machine: Plain::new(alloc, groups, seats, cap)?,
+            following: Following::new(alloc)?,
+        })
+    }
+
+    /// Tells it an event, which comes behind those that it was told before. No memory is taken.
+    pub fn told(&mut self, event: &Event)
+        requires { (p : Past) × Knows self.old p × Comes (state_of p) event.now × (length p.events < 2 ^ 63) }
+        ensures { (p : Past) → Knows self.old p → Comes (state_of p) event.now → Knows self.new (with_event p event.now) }
+    {
+        let _accepted = self.following.step(&mut self.machine, event);
+    }
+
+    /// The waits with at least one moment that the last event ended, by rising stamp, with the numbers of their covers.
+    pub fn ended(&self) -> &[WaitEnd]
+        ensures none { (p : Past) → Knows self.now p → p.events ≡ [] → result.now ≡ [] }
+        ensures ended { (p : Past) → Knows self.now p → AreLastEnded p result.now }
+    {
+        self.following.ended()
+    }
+}

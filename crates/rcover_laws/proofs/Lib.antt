@@ -1,0 +1,7 @@
+pub mod lists
+pub mod states
+pub mod runs
+pub mod covers
+pub mod bounds
+pub mod told
+pub mod past

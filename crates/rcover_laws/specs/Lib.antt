@@ -1,0 +1,11 @@
+pub mod Covers
+pub mod Ended
+pub mod History
+pub mod Line
+pub mod Lists
+pub mod Moments
+pub mod Promises
+pub mod Sections
+pub mod Told
+pub mod Waits
+pub mod Within

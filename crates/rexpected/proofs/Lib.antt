@@ -1,3 +1,0 @@
-mod Dues
-pub mod DueTexts
-pub mod FirstDue

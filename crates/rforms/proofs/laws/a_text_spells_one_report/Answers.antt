@@ -1,5 +1,0 @@
-use Rattle.rforms.proofs.texts.OneReport.{one_told}
-use Rattle.rforms.proofs.laws.a_text_spells_one_report.Goals as goal
-
-pub returns : goal.returns
-returns c = one_told

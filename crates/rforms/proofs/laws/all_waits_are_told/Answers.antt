@@ -1,5 +1,0 @@
-use Rattle.rforms.proofs.lists.ToldWaits.{all_told}
-use Rattle.rforms.proofs.laws.all_waits_are_told.Goals as goal
-
-pub returns : goal.returns
-returns c = all_told

@@ -1,5 +1,0 @@
-use Rattle.rforms.proofs.written.WithinBounds.{lines_within}
-use Rattle.rforms.proofs.laws.each_told_wait_is_within_its_bound.Goals as goal
-
-pub returns : goal.returns
-returns c = lines_within

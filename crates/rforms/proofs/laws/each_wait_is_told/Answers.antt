@@ -1,5 +1,0 @@
-use Rattle.rforms.proofs.lists.ToldWaits.{each_told}
-use Rattle.rforms.proofs.laws.each_wait_is_told.Goals as goal
-
-pub returns : goal.returns
-returns c = each_told

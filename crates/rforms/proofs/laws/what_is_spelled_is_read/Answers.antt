@@ -1,5 +1,0 @@
-use Rattle.rforms.proofs.lines.LineBack.{meaning_back}
-use Rattle.rforms.proofs.laws.what_is_spelled_is_read.Goals as goal
-
-pub returns : goal.returns
-returns c = meaning_back

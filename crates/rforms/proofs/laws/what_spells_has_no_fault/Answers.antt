@@ -1,5 +1,0 @@
-use Rattle.rforms.proofs.back.Rows.{spelled_clean}
-use Rattle.rforms.proofs.laws.what_spells_has_no_fault.Goals as goal
-
-pub returns : goal.returns
-returns c = spelled_clean

@@ -1,0 +1,64 @@
+//! What is left of a gate that is closed.
+ghost use Rattle.std.specs.Prelude.{◌≡◌, ℕ, ◌<◌, All, Any, map};
+ghost use Rattle.std.specs.Arc.{arc_value};
+ghost use Rattle.rguard.specs.LentSeats.{IsOf, IsIdle};
+ghost use Rattle.rguard.specs.Closing.{IsClosedBy};
+
+use crate::counted::CountedGate;
+use crate::section::Seat;
+use rmodel::Machine;
+use rstate::State;
+use rvalue::{Editable, History};
+use std::alloc::Global;
+use std::marker::Model;
+use std::snapshot::Snapshot;
+use std::sync::Arc;
+
+/// That a gate over the locked state was closed which kept these entries. Only this closing makes one, and it cannot be copied.
+///
+/// Contracts see it as the list of the entries.
+#[derive(Drop)]
+pub struct Receipt<E> {
+    list: Snapshot<History<E>>,
+}
+
+impl<E> Model for Receipt<E> {
+    ghost use Rattle.std.specs.Prelude.{List};
+    ghost use Rattle.std.specs.Coded.{coded_list};
+    ghost use Rattle.rvalue.specs.Entries.{EntryFields, entry_code};
+
+    ghost Value = { List (EntryFields E) };
+
+    ghost coded = { coded_list (entry_code E.code) };
+
+    ghost view = { λ a. a.list.value.entries };
+}
+
+/// What a gate that is closed leaves: its history, a share of the value of each resource, and the receipt.
+pub type Closed<T> = (
+    History<<T as Editable>::Edit>,
+    Vec<Arc<T, Global>>,
+    Receipt<<T as Editable>::Edit>,
+);
+
+/// Closes the gate with all of its seats, each of which is idle. No memory is taken.
+///
+/// The history is lawful from the beginning, begins with what each seat has seen, and has just what each seat has made as its entries. The values
+/// are those that the history makes.
+pub fn close<T: Editable, M: Machine>(
+    gate: CountedGate<State<T, M>>,
+    seats: Vec<Seat<T, M>>,
+) -> Closed<T>
+    requires of { All (λ seat. IsOf gate seat) seats.items }
+    requires idle { All (λ seat. IsIdle seat) seats.items }
+    requires all { (n : ℕ) → n < gate.passes → Any (λ seat. seat.number ≡ n) seats.items }
+    ensures seats { All (λ seat. IsClosedBy T.after T.taken T.number result.0.entries (map arc_value result.1.items) seat) seats.items }
+    ensures receipt { result.2 ≡ result.0.entries }
+{
+    let gate = gate.into_gate();
+    let state = gate.close(seats);
+    let _ = state.history();
+    let (history, values) = state.into_parts();
+    let list = Snapshot::of(&history);
+    (history, values, Receipt { list })
+}

@@ -1,2 +1,0 @@
-pub use Rattle.rbound_text.specs.BoundText
-pub mod Headline

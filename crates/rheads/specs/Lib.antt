@@ -1,4 +1,0 @@
-pub mod Found
-pub mod Heads
-pub mod Lines
-pub mod Shares

@@ -1,9 +1,0 @@
-use Rattle.std.proofs.Common.{List, [], sym, subst}
-use Rattle.std.specs.List.{AllZip}
-use Rattle.rneeds.specs.declared.key.BoundKey.{BoundKey}
-use Rattle.rwaits.specs.Past.{begun}
-use Rattle.rhistory.specs.Gathered.{HadKeyIn}
-use Rattle.rhistory.proofs.gathered.Gathered.new.Goals as goal
-
-pub returns : goal.returns
-returns c = λ groups cap. record { accepted = tt; needs = c.in_ok-new.ensures; keys = subst (λ (keys : List BoundKey). AllZip (HadKeyIn (begun groups c.args.tasks cap)) [] keys) (sym c.new-2.ensures.items) tt }

@@ -1,7 +1,0 @@
-pub use Rattle.rwaits.specs.Follows
-pub use Rattle.rwaits.specs.Past
-pub use Rattle.rwaits.specs.declared.following.Following
-pub mod Gaps
-pub mod Open
-pub mod Gathered
-pub mod Behind

@@ -1,8 +1,0 @@
-use Rattle.rstretch.specs.Kept.{AreLong}
-use Rattle.rheads.proofs.Pairs.{all_set, all_get}
-use Rattle.rkept.proofs.follow.keep_wait.Goals as goal
-
-pub returns-clause-lengths : goal.returns-clause-lengths
-returns-clause-lengths c = λ len are own have.
-    all_set (AreLong len) c.args.runs.now c.args.x.now.claim.seat c.keep_by.new.run have
-    (c.keep_by.ensures.lengths len are own (all_get (AreLong len) c.args.runs.now c.args.x.now.claim.seat c.index-runs-x.result have c.requires.seat))

@@ -1,4 +1,0 @@
-pub mod Due
-pub mod Follow
-pub mod Quiet
-pub mod Waiting

@@ -1,9 +1,0 @@
-pub mod Codes
-pub mod Steps
-pub mod DueWaits
-pub mod LedgerSteps
-pub mod ActSteps
-pub mod EventSteps
-pub mod HeadSteps
-pub mod Results
-pub mod Still

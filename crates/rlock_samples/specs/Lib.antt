@@ -1,2 +1,0 @@
-pub mod Roll
-pub mod Shelf

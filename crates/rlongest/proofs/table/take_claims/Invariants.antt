@@ -1,9 +1,0 @@
-use Rattle.rlongest.specs.Tables.{key_of}
-use Rattle.rlongest.proofs.TableFacts.{HasTaken}
-use Rattle.rlongest.proofs.table.take_claims.Given as goal
-
-abbrev pub invariant-loop-at : goal.invariant-loop-at
-invariant-loop-at l = HasTaken (key_of l.key) l.needs l.fn.cells l.cells l.at
-
-abbrev pub decreases-loop-at : goal.decreases-loop-at
-decreases-loop-at l = l.at

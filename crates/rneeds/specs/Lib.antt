@@ -1,4 +1,0 @@
-pub mod Foreseen
-pub mod History
-pub mod Keys
-pub mod Knows

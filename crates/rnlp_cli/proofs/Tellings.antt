@@ -1,0 +1,104 @@
+-- What a person was told, from how a command and its parts ended.
+use Rattle.std.proofs.Common.{◌≡◌, ◌≢◌, ℕ, List, [], ◌∷◌, Option, Some, None, refl, sym, subst, inl, inr}
+use Rattle.std.specs.Prelude.{IfSome}
+use Rattle.rtrace_form.specs.Reports.{Entry}
+use Rattle.rscript.specs.Scripts.{ScriptFields}
+use Rattle.rwatch.specs.Seen.{Seen}
+use Rattle.rnlp_cli.specs.Outputs.{input_of}
+use Rattle.rnlp_cli.specs.Reading.{NotRead}
+use Rattle.rnlp_cli.specs.Running.{IsRun}
+use Rattle.rnlp_cli.specs.Told.{IsFaultTold, told_behind, TellsBehind}
+use Rattle.rnlp_cli.specs.Writing.{IsTold, IsWritten}
+use Rattle.rnlp_cli.specs.declared.command.Command.{Command}
+use Rattle.rnlp_cli.specs.declared.command.Command.TheVariants.{Run, Replay, Audit, Bound, Drill}
+use Rattle.rnlp_cli.specs.declared.status.ToolStatus.{ToolStatus}
+use Rattle.rnlp_cli.specs.declared.status.ToolStatus.TheVariants as status
+use Rattle.rnlp_cli.specs.declared.told.Told.{Told}
+use Rattle.rnlp_cli.specs.declared.told.Told.TheVariants as what
+
+-- an output was written, or memory ran out before
+pub written_tells : (text : List ℕ) (written written_after : Option (List ℕ)) (quiet failed same : Type 0) (behind : Option Told) (asked : Option Command) (left : Option (List ℕ)) (before after : Option Told) (s : ToolStatus)
+    → after ≡ behind → (same → after ≡ before) → IsWritten text written written_after quiet failed same s → TellsBehind behind asked left before after s
+written_tells text written written_after quiet failed same behind asked left before after status.Done is kept h = is
+written_tells text written written_after quiet failed same behind asked left before after status.WriteFault is kept h = is
+written_tells text written written_after quiet failed same behind asked left before after status.NoMemory is kept h = kept h
+written_tells text written written_after quiet failed same behind asked left before after status.Words is kept h = absurd h
+written_tells text written written_after quiet failed same behind asked left before after status.ReadFault is kept h = absurd h
+written_tells text written written_after quiet failed same behind asked left before after status.Script is kept h = absurd h
+written_tells text written written_after quiet failed same behind asked left before after status.TooLong is kept h = absurd h
+written_tells text written written_after quiet failed same behind asked left before after status.Trace is kept h = absurd h
+
+-- a script was run, or memory ran out
+pub run_tells : (script : ScriptFields) (written written_after : Option (List ℕ)) (quiet failed same : Type 0) (receipts later : List (List Entry)) (asked : Option Command) (left : Option (List ℕ)) (before : Option Told) (s : ToolStatus)
+    → IsRun script written written_after quiet failed same receipts later s → TellsBehind before asked left before before s
+run_tells script written written_after quiet failed same receipts later asked left before status.Done h = refl
+run_tells script written written_after quiet failed same receipts later asked left before status.WriteFault h = refl
+run_tells script written written_after quiet failed same receipts later asked left before status.NoMemory h = refl
+run_tells script written written_after quiet failed same receipts later asked left before status.Words h = absurd h
+run_tells script written written_after quiet failed same receipts later asked left before status.ReadFault h = absurd h
+run_tells script written written_after quiet failed same receipts later asked left before status.Script h = absurd h
+run_tells script written written_after quiet failed same receipts later asked left before status.TooLong h = absurd h
+run_tells script written written_after quiet failed same receipts later asked left before status.Trace h = absurd h
+
+no_script : (s : ToolStatus) → s ≡ status.NoMemory → s ≡ status.Script → ⊥
+no_script s memory script = cc
+
+no_trace : (s : ToolStatus) → s ≡ status.NoMemory → s ≡ status.Trace → ⊥
+no_trace s memory trace = cc
+
+-- the line of a fault was written, which was noted for what the input was, as far as that is known; or memory ran out before
+pub trace_told : (line : List ℕ) (written written_after : Option (List ℕ)) (quiet failed same : Type 0) (behind : Option Told) (asked : Option Command) (left : Option (List ℕ)) (before after : Option Told) (s : ToolStatus)
+    → IsTold line written written_after quiet failed same status.Trace s → (s ≡ status.Trace → IfSome left (λ bytes. IsFaultTold asked bytes after)) → (s ≢ status.Trace → after ≡ before) → TellsBehind behind asked left before after s
+trace_told line written written_after quiet failed same behind asked left before after s (inl h) noted kept = subst (λ (t : ToolStatus). TellsBehind behind asked left before after t) (sym h.0) (noted h.0)
+trace_told line written written_after quiet failed same behind asked left before after s (inr h) noted kept = subst (λ (t : ToolStatus). TellsBehind behind asked left before after t) (sym h.0) (kept (no_trace s h.0))
+
+-- the line of the first fault was written, which was noted, or memory ran out before
+module _ (line : List ℕ) (written written_after : Option (List ℕ)) (quiet failed same : Type 0) (behind : Option Told) (asked : Option Command) (bytes : List ℕ) (before after : Option Told) (s : ToolStatus) where
+  pub script_tells : IsTold line written written_after quiet failed same status.Script s → (s ≡ status.Script → IsFaultTold asked bytes after) → (s ≢ status.Script → after ≡ before) → TellsBehind behind asked (Some bytes) before after s
+  script_tells (inl h) noted kept = subst (λ (t : ToolStatus). TellsBehind behind asked (Some bytes) before after t) (sym h.0) (noted h.0)
+  script_tells (inr h) noted kept = subst (λ (t : ToolStatus). TellsBehind behind asked (Some bytes) before after t) (sym h.0) (kept (no_script s h.0))
+
+  pub trace_tells : IsTold line written written_after quiet failed same status.Trace s → (s ≡ status.Trace → IsFaultTold asked bytes after) → (s ≢ status.Trace → after ≡ before) → TellsBehind behind asked (Some bytes) before after s
+  trace_tells = trace_told line written written_after quiet failed same behind asked (Some bytes) before after s
+
+-- an input that was not read
+pub unread_tells : {S : Type 0} (lefts : S → Option (List ℕ)) (reads : S → ℕ) (command : Option Command) (source source' : S) (behind : Option Told) (asked : Option Command) (left : Option (List ℕ)) (before : Option Told) (s : ToolStatus)
+    → NotRead lefts reads command source source' s → TellsBehind behind asked left before before s
+unread_tells lefts reads command source source' behind asked left before status.ReadFault h = refl
+unread_tells lefts reads command source source' behind asked left before status.TooLong h = refl
+unread_tells lefts reads command source source' behind asked left before status.NoMemory h = refl
+unread_tells lefts reads command source source' behind asked left before status.Done h = absurd h
+unread_tells lefts reads command source source' behind asked left before status.Words h = absurd h
+unread_tells lefts reads command source source' behind asked left before status.WriteFault h = absurd h
+unread_tells lefts reads command source source' behind asked left before status.Script h = absurd h
+unread_tells lefts reads command source source' behind asked left before status.Trace h = absurd h
+
+-- what was read is what the source had left, where it tells that
+of_left : (left : Option (List ℕ)) (bytes : List ℕ) (P : List ℕ → Type 0) → IfSome left (λ all. bytes ≡ all) → P bytes → IfSome left P
+of_left None bytes P whole h = tt
+of_left (Some all) bytes P whole h = subst P whole h
+
+fault_left : (command : Command) (left : Option (List ℕ)) (bytes : List ℕ) (after : Option Told)
+    → IfSome (input_of (Some command) left) (λ all. bytes ≡ all) → IsFaultTold (Some command) bytes after → IfSome left (λ all. IsFaultTold (Some command) all after)
+fault_left Run left bytes after whole h = of_left left bytes (λ all. IsFaultTold (Some Run) all after) whole h
+fault_left Replay left bytes after whole h = of_left left bytes (λ all. IsFaultTold (Some Replay) all after) whole h
+fault_left Audit left bytes after whole h = of_left left bytes (λ all. IsFaultTold (Some Audit) all after) whole h
+fault_left (Bound cap) left bytes after whole h = of_left left bytes (λ all. IsFaultTold (Some (Bound cap)) all after) whole h
+fault_left (Drill count) left bytes after whole h = absurd h
+
+-- what is told of a command whose input was read
+pub tells_left : (command : Command) (left : Option (List ℕ)) (bytes : List ℕ) (behind before after : Option Told) (s : ToolStatus)
+    → IfSome (input_of (Some command) left) (λ all. bytes ≡ all) → TellsBehind behind (Some command) (Some bytes) before after s → TellsBehind behind (Some command) left before after s
+tells_left command left bytes behind before after status.Done whole h = h
+tells_left command left bytes behind before after status.WriteFault whole h = h
+tells_left command left bytes behind before after status.Script whole h = fault_left command left bytes after whole h
+tells_left command left bytes behind before after status.Trace whole h = fault_left command left bytes after whole h
+tells_left command left bytes behind before after status.Words whole h = h
+tells_left command left bytes behind before after status.ReadFault whole h = h
+tells_left command left bytes behind before after status.TooLong whole h = h
+tells_left command left bytes behind before after status.NoMemory whole h = h
+
+-- behind a replay that somebody watched
+pub steps_behind : (watchers : List Seen) (before : Option Told) → (watchers ≡ [] → ⊥) → told_behind (Some Replay) watchers before ≡ Some what.Steps
+steps_behind [] before some = absurd (some refl)
+steps_behind (w ∷ ws) before some = refl

@@ -1,0 +1,110 @@
+-- What watchers were told, from how a replay or a drill ended.
+use Rattle.std.proofs.Common.{◌≡◌, ℕ, Bool, true, false, List, [], ◌∷◌, codes, map, Option, Some, None, refl, sym, subst, inl, inr}
+use Rattle.std.specs.Prelude.{IfSome, if◌then◌else◌}
+use Rattle.std.specs.Str.{bytes_eq}
+use Rattle.io_ends.specs.Ends.{Appends, AppendsPrefix}
+use Rattle.rtrace_form.specs.Reports.{Report}
+use Rattle.rtrace_form.specs.Texts.{IsTextOf, report_text}
+use Rattle.rwatch.specs.Seen.{Seen, told_all}
+use Rattle.rnlp_cli.specs.Words.{run_in}
+use Rattle.rnlp_cli.specs.Outputs.{input_of}
+use Rattle.rnlp_cli.specs.Reading.{NotRead}
+use Rattle.rnlp_cli.specs.Watched.{list_steps, AreToldList, ReplayWatched, Watched}
+use Rattle.rnlp_cli.specs.Writing.{IsTold, IsWritten}
+use Rattle.rnlp_cli.specs.declared.command.Command.{Command}
+use Rattle.rnlp_cli.specs.declared.command.Command.TheVariants.{Run, Replay, Audit, Bound, Drill}
+use Rattle.rnlp_cli.specs.declared.status.ToolStatus.{ToolStatus}
+use Rattle.rnlp_cli.specs.declared.status.ToolStatus.TheVariants as status
+
+-- a report of a list that was written, and its steps that were told
+pub replay_watched : (bytes text : List ℕ) (report : Report) (before after : Option (List ℕ)) (quiet failed : Type 0) (ws later : List Seen) (s : ToolStatus)
+    → IsTextOf false bytes report → text ≡ report_text report → IsWritten text before after quiet failed ⊥ s → later ≡ map (told_all (list_steps report)) ws → ReplayWatched (Some bytes) before after ws later s
+replay_watched bytes text report before after quiet failed ws later status.Done spelled is h told = record { report = report; spelled = spelled; written = subst (Appends before after) is h.1; told = told }
+replay_watched bytes text report before after quiet failed ws later status.WriteFault spelled is h told = record { report = report; spelled = spelled; written = subst (AppendsPrefix before after) is h.1; told = told }
+replay_watched bytes text report before after quiet failed ws later status.NoMemory spelled is h told = absurd h
+replay_watched bytes text report before after quiet failed ws later status.Words spelled is h told = absurd h
+replay_watched bytes text report before after quiet failed ws later status.ReadFault spelled is h told = absurd h
+replay_watched bytes text report before after quiet failed ws later status.Script spelled is h told = absurd h
+replay_watched bytes text report before after quiet failed ws later status.TooLong spelled is h told = absurd h
+replay_watched bytes text report before after quiet failed ws later status.Trace spelled is h told = absurd h
+
+-- the line of a fault was told, or memory ran out: the watchers are as they were
+pub told_watched : (left before after : Option (List ℕ)) (line : List ℕ) (quiet failed same : Type 0) (ws : List Seen) (s : ToolStatus) → IsTold line before after quiet failed same status.Trace s → ReplayWatched left before after ws ws s
+told_watched left before after line quiet failed same ws s (inl h) = subst (λ (t : ToolStatus). ReplayWatched left before after ws ws t) (sym h.0) refl
+told_watched left before after line quiet failed same ws s (inr h) = subst (λ (t : ToolStatus). ReplayWatched left before after ws ws t) (sym h.0) refl
+
+-- where neither an output nor a front part of one was written, they are as they were
+pub untold : (asked : Option Command) (left before after : Option (List ℕ)) (ws : List Seen) (s : ToolStatus) → (s ≡ status.Done → ⊥) → (s ≡ status.WriteFault → ⊥) → Watched asked left before after ws ws s
+untold None left before after ws s done broken = refl
+untold (Some Run) left before after ws s done broken = refl
+untold (Some Audit) left before after ws s done broken = refl
+untold (Some (Bound cap)) left before after ws s done broken = refl
+untold (Some Replay) left before after ws status.Done done broken = absurd (done refl)
+untold (Some Replay) left before after ws status.WriteFault done broken = absurd (broken refl)
+untold (Some Replay) left before after ws status.NoMemory done broken = refl
+untold (Some Replay) left before after ws status.Words done broken = refl
+untold (Some Replay) left before after ws status.ReadFault done broken = refl
+untold (Some Replay) left before after ws status.Script done broken = refl
+untold (Some Replay) left before after ws status.TooLong done broken = refl
+untold (Some Replay) left before after ws status.Trace done broken = refl
+untold (Some (Drill count)) left before after ws status.Done done broken = absurd (done refl)
+untold (Some (Drill count)) left before after ws status.WriteFault done broken = absurd (broken refl)
+untold (Some (Drill count)) left before after ws status.NoMemory done broken = refl
+untold (Some (Drill count)) left before after ws status.Words done broken = refl
+untold (Some (Drill count)) left before after ws status.ReadFault done broken = refl
+untold (Some (Drill count)) left before after ws status.Script done broken = refl
+untold (Some (Drill count)) left before after ws status.TooLong done broken = refl
+untold (Some (Drill count)) left before after ws status.Trace done broken = refl
+
+-- an input that was not read
+unread_so : {S : Type 0} (lefts : S → Option (List ℕ)) (reads : S → ℕ) (asked : Option Command) (source source' : S) (s : ToolStatus) → NotRead lefts reads asked source source' s → (s ≡ status.Done → ⊥) × (s ≡ status.WriteFault → ⊥)
+unread_so lefts reads asked source source' status.ReadFault h = (λ e. cc, λ e. cc)
+unread_so lefts reads asked source source' status.TooLong h = (λ e. cc, λ e. cc)
+unread_so lefts reads asked source source' status.NoMemory h = (λ e. cc, λ e. cc)
+unread_so lefts reads asked source source' status.Done h = absurd h
+unread_so lefts reads asked source source' status.Words h = absurd h
+unread_so lefts reads asked source source' status.WriteFault h = absurd h
+unread_so lefts reads asked source source' status.Script h = absurd h
+unread_so lefts reads asked source source' status.Trace h = absurd h
+
+pub unread_watched : {S : Type 0} (lefts : S → Option (List ℕ)) (reads : S → ℕ) (command other : Option Command) (source source' : S) (left before after : Option (List ℕ)) (ws : List Seen) (s : ToolStatus)
+    → NotRead lefts reads command source source' s → Watched other left before after ws ws s
+unread_watched lefts reads command other source source' left before after ws s h = let so = unread_so lefts reads command source source' s h in untold other left before after ws s so.0 so.1
+
+-- what was read is what the source had left, where it tells that
+of_left : (left : Option (List ℕ)) (bytes : List ℕ) (P : List ℕ → Type 0) → IfSome left (λ all. bytes ≡ all) → P bytes → IfSome left P
+of_left None bytes P whole h = tt
+of_left (Some all) bytes P whole h = subst P whole h
+
+list_left : (left : Option (List ℕ)) (bytes : List ℕ) (Writes : List ℕ → Type 0) (before after : List Seen) → IfSome left (λ all. bytes ≡ all) → AreToldList (Some bytes) Writes before after → AreToldList left Writes before after
+list_left left bytes Writes before after whole h = record { report = h.report; spelled = of_left left bytes (λ all. IsTextOf false all h.report) whole h.spelled; written = h.written; told = h.told }
+
+replay_left : (left : Option (List ℕ)) (bytes : List ℕ) (written written_after : Option (List ℕ)) (before after : List Seen) (s : ToolStatus)
+    → IfSome left (λ all. bytes ≡ all) → ReplayWatched (Some bytes) written written_after before after s → ReplayWatched left written written_after before after s
+replay_left left bytes written written_after before after status.Done whole h = list_left left bytes _ before after whole h
+replay_left left bytes written written_after before after status.WriteFault whole h = list_left left bytes _ before after whole h
+replay_left left bytes written written_after before after status.NoMemory whole h = h
+replay_left left bytes written written_after before after status.Words whole h = h
+replay_left left bytes written written_after before after status.ReadFault whole h = h
+replay_left left bytes written written_after before after status.Script whole h = h
+replay_left left bytes written written_after before after status.TooLong whole h = h
+replay_left left bytes written written_after before after status.Trace whole h = h
+
+-- the watchers after a command whose input was read
+pub watched_left : (command : Command) (left : Option (List ℕ)) (bytes : List ℕ) (written written_after : Option (List ℕ)) (before after : List Seen) (s : ToolStatus)
+    → IfSome (input_of (Some command) left) (λ all. bytes ≡ all) → Watched (Some command) (Some bytes) written written_after before after s → Watched (Some command) left written written_after before after s
+watched_left Run left bytes written written_after before after s whole h = h
+watched_left Audit left bytes written written_after before after s whole h = h
+watched_left (Bound cap) left bytes written written_after before after s whole h = h
+watched_left (Drill count) left bytes written written_after before after s whole h = h
+watched_left Replay left bytes written written_after before after s whole h = replay_left left bytes written written_after before after s whole h
+
+-- a run tells nobody
+run_or_nothing : (b : Bool) (left before after : Option (List ℕ)) (ws : List Seen) (s : ToolStatus) → Watched (if b then Some Run else None) left before after ws ws s
+run_or_nothing true left before after ws s = refl
+run_or_nothing false left before after ws s = refl
+
+pub run_watched : (words : List (List ℕ)) (left before after : Option (List ℕ)) (ws : List Seen) (s : ToolStatus) → Watched (run_in words) left before after ws ws s
+run_watched [] left before after ws s = refl
+run_watched (word ∷ []) left before after ws s = run_or_nothing (bytes_eq word (codes "run")) left before after ws s
+run_watched (word ∷ next ∷ words) left before after ws s = refl

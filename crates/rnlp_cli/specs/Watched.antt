@@ -1,0 +1,57 @@
+-- What the watchers that are handed in are told.
+use Rattle.std.specs.Prelude.{◌≡◌, ℕ, false, List, map, Option, Some, None, IfSome}
+use Rattle.io_ends.specs.Ends.{Appends, AppendsPrefix}
+use Rattle.rclaim.specs.Changes.{ChangeLists}
+use Rattle.rclaim.specs.declared.event.Event.{Event}
+use Rattle.rtrace_form.specs.Heads.{opening_of}
+use Rattle.rtrace_form.specs.Reports.{Entry, Report}
+use Rattle.rtrace_form.specs.Texts.{IsTextOf, report_text}
+use Rattle.rwatch.specs.Seen.{Seen, told_all}
+use Rattle.rdrill.specs.Drill.{steps_of}
+use Rattle.rnlp_cli.specs.Outputs.{told_drill}
+use Rattle.rnlp_cli.specs.declared.command.Command.{Command}
+use Rattle.rnlp_cli.specs.declared.command.Command.TheVariants.{Run, Replay, Audit, Bound, Drill}
+use Rattle.rnlp_cli.specs.declared.status.ToolStatus.{ToolStatus}
+use Rattle.rnlp_cli.specs.declared.status.ToolStatus.TheVariants as status
+
+-- the steps of a list: each event, and what it changes behind those before it
+abbrev pub list_steps : Report → List (Event × ChangeLists)
+list_steps report = steps_of (opening_of report.head) (map (λ (entry : Entry). entry.event) report.entries)
+
+-- they were told just the steps of the list whose report was written (`Writes`); it is the list that the bytes spell, where they are told
+pub record AreToldList (left : Option (List ℕ)) (Writes : List ℕ → Type 0) (before after : List Seen) : Type 0 where
+  pub report : Report
+  pub spelled : IfSome left (λ bytes. IsTextOf false bytes report)
+  pub written : Writes (report_text report)
+  pub told : after ≡ map (told_all (list_steps report)) before
+
+-- the watchers after a replay that ended so, of the input that was left and by what was written
+abbrev pub ReplayWatched : Option (List ℕ) → Option (List ℕ) → Option (List ℕ) → List Seen → List Seen → ToolStatus → Type 0
+ReplayWatched left written written_after before after status.Done = AreToldList left (Appends written written_after) before after
+ReplayWatched left written written_after before after status.WriteFault = AreToldList left (AppendsPrefix written written_after) before after
+ReplayWatched left written written_after before after status.Words = after ≡ before
+ReplayWatched left written written_after before after status.ReadFault = after ≡ before
+ReplayWatched left written written_after before after status.Script = after ≡ before
+ReplayWatched left written written_after before after status.TooLong = after ≡ before
+ReplayWatched left written written_after before after status.NoMemory = after ≡ before
+ReplayWatched left written written_after before after status.Trace = after ≡ before
+
+-- and after a drill: they were told its steps where its summary was written, whole or a front part
+abbrev pub DrillWatched : ℕ → List Seen → List Seen → ToolStatus → Type 0
+DrillWatched count before after status.Done = after ≡ told_drill count before
+DrillWatched count before after status.WriteFault = after ≡ told_drill count before
+DrillWatched count before after status.Words = after ≡ before
+DrillWatched count before after status.ReadFault = after ≡ before
+DrillWatched count before after status.Script = after ≡ before
+DrillWatched count before after status.TooLong = after ≡ before
+DrillWatched count before after status.NoMemory = after ≡ before
+DrillWatched count before after status.Trace = after ≡ before
+
+-- the watchers after any command
+abbrev pub Watched : Option Command → Option (List ℕ) → Option (List ℕ) → Option (List ℕ) → List Seen → List Seen → ToolStatus → Type 0
+Watched (Some Replay) left written written_after before after answer = ReplayWatched left written written_after before after answer
+Watched (Some (Drill count)) left written written_after before after answer = DrillWatched count before after answer
+Watched None left written written_after before after answer = after ≡ before
+Watched (Some Run) left written written_after before after answer = after ≡ before
+Watched (Some Audit) left written written_after before after answer = after ≡ before
+Watched (Some (Bound cap)) left written written_after before after answer = after ≡ before

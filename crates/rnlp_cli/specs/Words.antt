@@ -1,0 +1,64 @@
+-- The forms of the words behind the program's name, and what they ask for.
+use Rattle.std.specs.Prelude.{ℕ, ◌≤◌, ⊤, Bool, false, ◌&&◌, nat_le, List, [], ◌∷◌, length, Option, Some, None, IfSome, option_map, option_and_then, codes, if◌then◌else◌}
+use Rattle.std.specs.Str.{bytes_eq}
+use Rattle.rtrace_form.specs.Numbers.{cap_told, number_told}
+use Rattle.rnlp_cli.specs.declared.command.Command.{Command}
+use Rattle.rnlp_cli.specs.declared.command.Command.TheVariants.{Run, Replay, Audit, Bound, Drill}
+
+-- what these words ask of the tool that waits for its workers
+abbrev pub run_in : List (List ℕ) → Option Command
+run_in [] = None
+run_in (word ∷ []) = if bytes_eq word (codes "run") then Some Run else None
+run_in (word ∷ next ∷ words) = None
+
+-- the most events of a drill
+abbrev pub most_events : ℕ
+most_events = 1000000
+
+-- the number of a drill's events is from 1 to the most that there may be
+abbrev pub events_within : ℕ → Option ℕ
+events_within n = if nat_le 1 n && nat_le n most_events then Some n else None
+
+-- the number of a drill's events that a word of 1 to 7 digits tells, if it tells one
+unfoldable pub events_told : List ℕ → Option ℕ
+events_told word = if nat_le (length word) 7 then option_and_then events_within (number_told word) else None
+
+-- the cap that a word of 1 to 7 digits tells, if it tells one
+unfoldable pub cap_in : List ℕ → Option ℕ
+cap_in word = if nat_le (length word) 7 then cap_told word else None
+
+-- the bounds of a script under a cap
+abbrev pub bounds_under : ℕ → Command
+bounds_under cap = Bound (Some cap)
+
+-- what they ask of the tools that wait for nobody
+abbrev pub plain_in : List (List ℕ) → Option Command
+plain_in [] = None
+plain_in (word ∷ []) =
+    if bytes_eq word (codes "replay") then Some Replay
+    else if bytes_eq word (codes "audit") then Some Audit
+    else if bytes_eq word (codes "bound") then Some (Bound None)
+    else None
+plain_in (word ∷ number ∷ []) =
+    if bytes_eq word (codes "drill") then option_map Drill (events_told number)
+    else if bytes_eq word (codes "bound") then option_map bounds_under (cap_in number)
+    else None
+plain_in (word ∷ number ∷ next ∷ words) = None
+
+-- a command of the tools that wait for nobody; bounds are those under a cap of at least 1, and a drill has no more events than there may be
+abbrev pub IsPlain : Command → Type 0
+IsPlain Run = ⊥
+IsPlain Replay = ⊤
+IsPlain Audit = ⊤
+IsPlain (Bound cap) = IfSome cap (λ m. 1 ≤ m)
+IsPlain (Drill count) = count ≤ most_events
+
+-- the first of them is `run`
+abbrev pub begins_with_run : List (List ℕ) → Bool
+begins_with_run [] = false
+begins_with_run (word ∷ words) = bytes_eq word (codes "run")
+
+-- what they ask of the program: the first word says of which tool
+abbrev pub command_in : List (List ℕ) → Option Command
+command_in [] = None
+command_in (word ∷ words) = if bytes_eq word (codes "run") then run_in (word ∷ words) else plain_in (word ∷ words)

@@ -1,0 +1,84 @@
+// Audits, and what is told of a report that was audited.
+ghost use Rattle.std.specs.Prelude.{◌≡◌, Some, List, [], IfOk};
+ghost use Rattle.io_ends.specs.Faults.{Rose};
+ghost use Rattle.rwatch.specs.Seen.{Seen};
+ghost use Rattle.rnlp_cli.specs.Outputs.{audit_text};
+ghost use Rattle.rnlp_cli.specs.Answer.{ToolAnswer};
+ghost use Rattle.rnlp_cli.specs.Told.{Tells};
+ghost use Rattle.rnlp_cli.specs.Writing.{IsWritten};
+ghost use Rattle.rnlp_cli.specs.declared.command.Command.TheVariants.{Audit};
+ghost use Rattle.rtrace.specs.Collects.{KnowsCount};
+
+use crate::command::REPORT_LIMIT;
+use crate::due::expected;
+use crate::refusing_lists::refuse;
+use crate::status::ToolStatus;
+use crate::told::Told;
+use crate::writing::write_output;
+use io_ends::{Sink, Source};
+use itoa::Buffer;
+use rtrace::{AuditCounts, AuditErr, Counting, count_stream};
+use std::alloc::{AllocError, Global};
+
+/// Checks the report that a source has left, as it is read, and writes how many events and how many waits it tells. The first
+/// fault of an input that is no right report is put into `told` too, for a person, with the line that is due in its place,
+/// where one is.
+pub fn audit<S: Source, K: Sink>(
+    alloc: Global,
+    source: &mut S,
+    sink: &mut K,
+    told: &mut Option<Told>,
+) -> ToolStatus
+    ensures answer { (watchers : List Seen) → ToolAnswer S.left S.faults K.written K.faults watchers (Some Audit) source.old source.new sink.old sink.new result }
+    ensures told { (watchers : List Seen) → Tells watchers (Some Audit) (S.left source.old) told.old told.new result }
+{
+    audit_by(alloc, source, sink, &mut Counting::new(alloc), told)
+}
+
+// The same, by a reader that has read nothing.
+fn audit_by<S: Source, K: Sink>(
+    alloc: Global,
+    source: &mut S,
+    sink: &mut K,
+    counting: &mut Counting,
+    told: &mut Option<Told>,
+) -> ToolStatus
+    requires { KnowsCount counting.old [] }
+    ensures answer { (watchers : List Seen) → ToolAnswer S.left S.faults K.written K.faults watchers (Some Audit) source.old source.new sink.old sink.new result }
+    ensures told { (watchers : List Seen) → Tells watchers (Some Audit) (S.left source.old) told.old told.new result }
+{
+    match count_stream(alloc, source, REPORT_LIMIT, counting) {
+        Ok(counts) => tell(alloc, counts, sink),
+        Err(AuditErr::Bad(fault)) => match expected(alloc, &counting.reading, fault.code) {
+            Ok(due) => refuse(alloc, fault, due, sink, told),
+            Err(_) => ToolStatus::NoMemory,
+        },
+        Err(AuditErr::ReadFault) => ToolStatus::ReadFault,
+        Err(AuditErr::TooLong) => ToolStatus::TooLong,
+        Err(AuditErr::Memory) => ToolStatus::NoMemory,
+    }
+}
+
+// Writes what is told of a report that tells so much.
+fn tell<K: Sink>(alloc: Global, counts: AuditCounts, sink: &mut K) -> ToolStatus
+    ensures { IsWritten (audit_text counts.events counts.waits) (K.written sink.old) (K.written sink.new) (K.faults sink.new ≡ K.faults sink.old) (Rose (K.faults sink.old) (K.faults sink.new)) (sink.new ≡ sink.old) result }
+{
+    let Ok(text) = audit_text(alloc, counts) else {
+        return ToolStatus::NoMemory;
+    };
+    write_output(sink, &text)
+}
+
+// What is told of a report that tells so much.
+fn audit_text(alloc: Global, counts: AuditCounts) -> Result<Vec<u8>, AllocError>
+    ensures { IfOk result (λ text. text.items ≡ audit_text counts.events counts.waits) }
+{
+    let mut text = Vec::from_slice(alloc, b"audit,")?;
+    let mut digits = Buffer::new();
+    text.extend_from_slice(digits.format(counts.events).as_bytes())?;
+    text.push(b',')?;
+    let mut digits = Buffer::new();
+    text.extend_from_slice(digits.format(counts.waits).as_bytes())?;
+    text.extend_from_slice(b"\nend\n")?;
+    Ok(text)
+}

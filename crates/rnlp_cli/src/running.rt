@@ -1,0 +1,162 @@
+// The tool that runs scripts, and waits for its workers.
+ghost use Rattle.std.specs.Prelude.{◌≡◌, ◌<◌, Some, List, [], map, length, string_bytes, vec_capacity};
+ghost use Rattle.io_ends.specs.Faults.{Rose};
+ghost use Rattle.rtrace_form.specs.Texts.{report_text};
+ghost use Rattle.rtrace_form.specs.Written.{MayBeWritten};
+ghost use Rattle.rrun.specs.Report.{told_by, IsOverResources, HasItsLedgers};
+ghost use Rattle.rscript.specs.Scripts.{ScriptFields};
+ghost use Rattle.rrun.specs.Reporting.{IsReportOf};
+ghost use Rattle.rwatch.specs.Seen.{Seen};
+ghost use Rattle.rnlp_cli.specs.Words.{run_in};
+ghost use Rattle.rnlp_cli.specs.Answer.{ToolAnswer};
+ghost use Rattle.rnlp_cli.specs.Promise.{KeepsItsPromise};
+ghost use Rattle.rnlp_cli.specs.Receipts.{RunReceipts, Receipts};
+ghost use Rattle.rnlp_cli.specs.Running.{IsRun};
+ghost use Rattle.rnlp_cli.specs.Told.{Tells};
+ghost use Rattle.rnlp_cli.specs.Writing.{IsAnswer, IsWritten};
+
+use crate::command::{Command, ask_for_run};
+use crate::reading::read_input;
+use crate::refusing_scripts::refuse_script;
+use crate::status::ToolStatus;
+use crate::told::Told;
+use io_ends::{Sink, Source};
+use rguard::Receipt;
+use rrun::{Pace, Report, WriteErr, run_script, write_report};
+use rscript::{Script, ScriptErr, read_script};
+use rvalue::Edit;
+use std::alloc::Global;
+use std::sync::Wait;
+use std::thread::Threads;
+
+/// Runs the script that the source holds, where the words ask for a run, and writes the report of what happened.
+///
+/// The words are those after the program's name. Each task is a worker of its own, for which this waits. Where the report
+/// was written, whole or a front part of it, `receipts` has one more: the receipt of just the history that it tells. With
+/// any other status `receipts` is as it was. Memory may run out at any place that takes it, and all of it is taken before
+/// the first byte is written.
+///
+/// *The headline*: whatever script comes, a run that ends Done has written the text of the one history kept under the protocol
+/// lock: each task's requests in script order, each once; after every event just what the rules grant is held, without
+/// conflict, and something while any request is incomplete; every wait covered within its printed bound; each ledger what its
+/// write sections made of it (`promise`).
+pub fn run_tool<R: Threads + Wait + Sync, S: Source, K: Sink, G: Pace>(
+    rt: &R,
+    alloc: Global,
+    words: &[String],
+    source: &mut S,
+    sink: &mut K,
+    pace: &G,
+    receipts: &mut Vec<Receipt<Edit>>,
+) -> ToolStatus
+    ensures answer { ToolAnswer S.left S.faults K.written K.faults [] (run_in (map string_bytes words.now)) source.old source.new sink.old sink.new result }
+    ensures receipts { Receipts (run_in (map string_bytes words.now)) (S.left source.old) (K.written sink.old) (K.written sink.new) receipts.old.items receipts.new.items result }
+    ensures promise { result ≡ ToolStatus.Done → KeepsItsPromise (S.left source.old) (K.written sink.old) (K.written sink.new) receipts.old.items receipts.new.items }
+{
+    told_run(rt, alloc, words, source, sink, pace, receipts, &mut None)
+}
+
+/// The same; and the first fault of an input that is no script is put into `told` too, for a person.
+pub fn told_run<R: Threads + Wait + Sync, S: Source, K: Sink, G: Pace>(
+    rt: &R,
+    alloc: Global,
+    words: &[String],
+    source: &mut S,
+    sink: &mut K,
+    pace: &G,
+    receipts: &mut Vec<Receipt<Edit>>,
+    told: &mut Option<Told>,
+) -> ToolStatus
+    ensures answer { (watchers : List Seen) → ToolAnswer S.left S.faults K.written K.faults watchers (run_in (map string_bytes words.now)) source.old source.new sink.old sink.new result }
+    ensures receipts { Receipts (run_in (map string_bytes words.now)) (S.left source.old) (K.written sink.old) (K.written sink.new) receipts.old.items receipts.new.items result }
+    ensures promise { result ≡ ToolStatus.Done → KeepsItsPromise (S.left source.old) (K.written sink.old) (K.written sink.new) receipts.old.items receipts.new.items }
+    ensures told { (watchers : List Seen) → Tells watchers (run_in (map string_bytes words.now)) (S.left source.old) told.old told.new result }
+{
+    if !ask_for_run(words) {
+        return ToolStatus::Words;
+    }
+    match read_input(alloc, Command::Run, source) {
+        Ok(bytes) => run_text(rt, alloc, &bytes, sink, pace, receipts, told),
+        Err(status) => status,
+    }
+}
+
+// Runs the script that an input spells.
+fn run_text<R: Threads + Wait + Sync, K: Sink, G: Pace>(
+    rt: &R,
+    alloc: Global,
+    bytes: &[u8],
+    sink: &mut K,
+    pace: &G,
+    receipts: &mut Vec<Receipt<Edit>>,
+    told: &mut Option<Told>,
+) -> ToolStatus
+    ensures answer { (watchers : List Seen) → IsAnswer watchers (Some Command.Run) bytes.now (K.written sink.old) (K.written sink.new) (K.faults sink.new ≡ K.faults sink.old) (Rose (K.faults sink.old) (K.faults sink.new)) (sink.new ≡ sink.old) result }
+    ensures receipts { RunReceipts (Some bytes.now) (K.written sink.old) (K.written sink.new) receipts.old.items receipts.new.items result }
+    ensures told { (watchers : List Seen) → Tells watchers (Some Command.Run) (Some bytes.now) told.old told.new result }
+{
+    match read_script(alloc, bytes) {
+        Ok(script) => run_read(rt, alloc, &script, sink, pace, receipts),
+        Err(ScriptErr::Bad { line, code }) => refuse_script(alloc, line, code, sink, told),
+        Err(ScriptErr::Memory) => ToolStatus::NoMemory,
+    }
+}
+
+// Runs a script, writes the report, and hands out its receipt. The receipt's place is made before the run.
+fn run_read<R: Threads + Wait + Sync, K: Sink, G: Pace>(
+    rt: &R,
+    alloc: Global,
+    script: &Script,
+    sink: &mut K,
+    pace: &G,
+    receipts: &mut Vec<Receipt<Edit>>,
+) -> ToolStatus
+    ensures { IsRun script.now (K.written sink.old) (K.written sink.new) (K.faults sink.new ≡ K.faults sink.old) (Rose (K.faults sink.old) (K.faults sink.new)) (sink.new ≡ sink.old) receipts.old.items receipts.new.items result }
+{
+    let Ok(()) = receipts.reserve(1) else {
+        return ToolStatus::NoMemory;
+    };
+    match run_script(rt, alloc, script, pace) {
+        Ok((report, receipt)) => hand_out(alloc, &report, receipt, sink, receipts),
+        Err(_) => ToolStatus::NoMemory,
+    }
+}
+
+// Writes the report of a run, and hands out its receipt, in a place that was made.
+fn hand_out<K: Sink>(
+    alloc: Global,
+    report: &Report,
+    receipt: Receipt<Edit>,
+    sink: &mut K,
+    receipts: &mut Vec<Receipt<Edit>>,
+) -> ToolStatus
+    requires may { MayBeWritten (told_by report.now) }
+    requires over { IsOverResources report.now }
+    requires ledgers { HasItsLedgers report.now }
+    requires its { receipt ≡ report.now.entries }
+    requires room { length receipts.old.items < vec_capacity receipts.old }
+    ensures { (script : ScriptFields) → IsReportOf script report.now
+        → IsRun script (K.written sink.old) (K.written sink.new) (K.faults sink.new ≡ K.faults sink.old) (Rose (K.faults sink.old) (K.faults sink.new)) (sink.new ≡ sink.old) receipts.old.items receipts.new.items result }
+{
+    match report_run(alloc, report, sink) {
+        ToolStatus::NoMemory => ToolStatus::NoMemory,
+        status => {
+            receipts.push_reserved(receipt);
+            status
+        }
+    }
+}
+
+// Writes the report of a run.
+fn report_run<K: Sink>(alloc: Global, report: &Report, sink: &mut K) -> ToolStatus
+    requires may { MayBeWritten (told_by report.now) }
+    requires over { IsOverResources report.now }
+    requires ledgers { HasItsLedgers report.now }
+    ensures { IsWritten (report_text (told_by report.now)) (K.written sink.old) (K.written sink.new) (K.faults sink.new ≡ K.faults sink.old) (Rose (K.faults sink.old) (K.faults sink.new)) (sink.new ≡ sink.old) result }
+{
+    match write_report(alloc, report, sink) {
+        Ok(()) => ToolStatus::Done,
+        Err(WriteErr::WriteFault) => ToolStatus::WriteFault,
+        Err(WriteErr::Memory) => ToolStatus::NoMemory,
+    }
+}

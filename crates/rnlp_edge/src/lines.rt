@@ -1,0 +1,232 @@
+// The lines that a person is told.
+ghost use Rattle.std.specs.Prelude.{◌≡◌, ◌++◌, ◌∷◌, [], IfOk, OnOk, codes, decimal, flat_map, option_map, string_bytes};
+ghost use Rattle.rnlp_edge.specs.Lines.{told_lines, record_line, meaning_line, watcher_line, counts_shown, cause_text, fault_text, expected_line, script_text};
+ghost use Rattle.rnlp_edge.specs.Meanings.{status_meaning, kind_word, refusal_meaning};
+
+use crate::meanings::{
+    meaning_in_script, meaning_of, meaning_of_refusal, meaning_of_status, word_of,
+};
+use rnlp_cli::{Told, ToolStatus};
+use rscript::Code as ScriptCode;
+use rtrace_form::{Code, Fault, Refusal};
+use rwatch::{Audience, WatchKind};
+use std::alloc::{AllocError, Global};
+
+/// The lines of what is told, one behind another: what a status means, and on a terminal what was counted of the steps that
+/// were told; or of a refused input what is wrong with which record, and which line is due there.
+///
+/// # Errors
+///
+/// Want of memory.
+pub fn lines_of<A: Audience>(
+    alloc: Global,
+    status: ToolStatus,
+    told: &Option<Told>,
+    audience: &A,
+    on_terminal: bool,
+) -> Result<String, AllocError>
+    ensures { IfOk result (λ lines. string_bytes lines ≡ told_lines (A.all audience.now) on_terminal status told.now) }
+{
+    let mut lines = String::new(alloc);
+    push_told(&mut lines, alloc, status, told, audience, on_terminal)?;
+    Ok(lines)
+}
+
+fn push_told<A: Audience>(
+    lines: &mut String,
+    alloc: Global,
+    status: ToolStatus,
+    told: &Option<Told>,
+    audience: &A,
+    on_terminal: bool,
+) -> Result<(), AllocError>
+    ensures { OnOk result (string_bytes lines.new ≡ string_bytes lines.old ++ told_lines (A.all audience.now) on_terminal status told.now) }
+{
+    match told {
+        None => push_status(lines, status),
+        Some(Told::Steps) => push_steps(lines, alloc, status, audience, on_terminal),
+        Some(Told::List { fault, expected }) => push_refused(lines, alloc, *fault, expected),
+        Some(Told::Script { line, code }) => push_script(lines, alloc, *line, *code),
+    }
+}
+
+// Appends the line of what a status means, if it means anything.
+fn push_status(lines: &mut String, status: ToolStatus) -> Result<(), AllocError>
+    ensures { OnOk result (string_bytes lines.new ≡ string_bytes lines.old ++ meaning_line (status_meaning status)) }
+{
+    match meaning_of_status(status) {
+        Some(meaning) => {
+            lines.push_str("rnlp: ")?;
+            lines.push_str(meaning)?;
+            lines.push_str("\n")
+        }
+        None => Ok(()),
+    }
+}
+
+// Appends what a status means, and what was counted, where a terminal shows it.
+fn push_steps<A: Audience>(
+    lines: &mut String,
+    alloc: Global,
+    status: ToolStatus,
+    audience: &A,
+    on_terminal: bool,
+) -> Result<(), AllocError>
+    ensures { OnOk result (string_bytes lines.new ≡ string_bytes lines.old ++ (meaning_line (status_meaning status) ++ counts_shown on_terminal (A.all audience.now))) }
+{
+    push_status(lines, status)?;
+    push_shown(lines, alloc, audience, on_terminal)?;
+    Ok(())
+}
+
+// Appends what was counted, where a terminal shows it.
+fn push_shown<A: Audience>(
+    lines: &mut String,
+    alloc: Global,
+    audience: &A,
+    on_terminal: bool,
+) -> Result<(), AllocError>
+    ensures { OnOk result (string_bytes lines.new ≡ string_bytes lines.old ++ counts_shown on_terminal (A.all audience.now)) }
+{
+    if on_terminal {
+        push_counts(lines, alloc, audience)
+    } else {
+        Ok(())
+    }
+}
+
+// Appends the line of each watcher.
+fn push_counts<A: Audience>(
+    lines: &mut String,
+    alloc: Global,
+    audience: &A,
+) -> Result<(), AllocError>
+    ensures { OnOk result (string_bytes lines.new ≡ string_bytes lines.old ++ flat_map watcher_line (A.all audience.now)) }
+{
+    for i in 0..audience.count() {
+        push_count(lines, alloc, audience.kind_of(i), audience.count_of(i))?;
+    }
+    Ok(())
+}
+
+// Appends the line of a watcher.
+fn push_count(
+    lines: &mut String,
+    alloc: Global,
+    kind: WatchKind,
+    count: u64,
+) -> Result<(), AllocError>
+    ensures { OnOk result (string_bytes lines.new ≡ string_bytes lines.old ++ (codes "rnlp: " ++ (kind_word kind ++ (codes " " ++ (decimal count ++ 10 ∷ []))))) }
+{
+    let digits = count.to_string(alloc)?;
+    lines.push_str("rnlp: ")?;
+    lines.push_str(word_of(kind))?;
+    lines.push_str(" ")?;
+    lines.push_str(digits.as_str())?;
+    lines.push_str("\n")?;
+    Ok(())
+}
+
+// Appends what is wrong with a list or a report, and the line that is due there.
+fn push_refused(
+    lines: &mut String,
+    alloc: Global,
+    fault: Fault,
+    expected: &Option<String>,
+) -> Result<(), AllocError>
+    ensures { OnOk result (string_bytes lines.new ≡ string_bytes lines.old ++ (record_line fault.line (fault_text fault.code) ++ expected_line (option_map string_bytes expected.now))) }
+{
+    push_fault(lines, alloc, fault)?;
+    push_expected(lines, expected)?;
+    Ok(())
+}
+
+// Appends the line of what is wrong with a record of a list or a report.
+fn push_fault(lines: &mut String, alloc: Global, fault: Fault) -> Result<(), AllocError>
+    ensures { OnOk result (string_bytes lines.new ≡ string_bytes lines.old ++ record_line fault.line (fault_text fault.code)) }
+{
+    push_record(lines, alloc, fault.line)?;
+    lines.push_str(meaning_of(fault.code))?;
+    push_cause(lines, fault.code)?;
+    lines.push_str("\n")?;
+    Ok(())
+}
+
+// Appends why an event is refused; of all other faults nothing.
+fn push_cause(lines: &mut String, code: Code) -> Result<(), AllocError>
+    ensures { OnOk result (string_bytes lines.new ≡ string_bytes lines.old ++ cause_text code) }
+{
+    match code {
+        Code::Refused(refusal) => push_refusal(lines, refusal),
+        Code::BadField => Ok(()),
+        Code::UnknownName => Ok(()),
+        Code::BadOrder => Ok(()),
+        Code::WrongChange => Ok(()),
+        Code::WrongShow => Ok(()),
+        Code::WrongLedger => Ok(()),
+        Code::NoEnd => Ok(()),
+        Code::WrongBound => Ok(()),
+    }
+}
+
+fn push_refusal(lines: &mut String, refusal: Refusal) -> Result<(), AllocError>
+    ensures { OnOk result (string_bytes lines.new ≡ string_bytes lines.old ++ (codes ": " ++ refusal_meaning refusal)) }
+{
+    lines.push_str(": ")?;
+    lines.push_str(meaning_of_refusal(refusal))?;
+    Ok(())
+}
+
+// Appends the line that is due, if it is known.
+fn push_expected(lines: &mut String, expected: &Option<String>) -> Result<(), AllocError>
+    ensures { OnOk result (string_bytes lines.new ≡ string_bytes lines.old ++ expected_line (option_map string_bytes expected.now)) }
+{
+    match expected {
+        Some(line) => push_due(lines, line.as_str()),
+        None => Ok(()),
+    }
+}
+
+fn push_due(lines: &mut String, line: &str) -> Result<(), AllocError>
+    ensures { OnOk result (string_bytes lines.new ≡ string_bytes lines.old ++ (codes "rnlp: expected: " ++ (line.now ++ 10 ∷ []))) }
+{
+    lines.push_str("rnlp: expected: ")?;
+    lines.push_str(line)?;
+    lines.push_str("\n")?;
+    Ok(())
+}
+
+// Appends the line of what is wrong with a record of a script.
+fn push_script(
+    lines: &mut String,
+    alloc: Global,
+    line: u64,
+    code: ScriptCode,
+) -> Result<(), AllocError>
+    ensures { OnOk result (string_bytes lines.new ≡ string_bytes lines.old ++ record_line line (script_text code)) }
+{
+    push_record(lines, alloc, line)?;
+    push_script_text(lines, alloc, code)?;
+    lines.push_str("\n")?;
+    Ok(())
+}
+
+fn push_script_text(lines: &mut String, alloc: Global, code: ScriptCode) -> Result<(), AllocError>
+    ensures { OnOk result (string_bytes lines.new ≡ string_bytes lines.old ++ script_text code) }
+{
+    let number = code.number().to_string(alloc)?;
+    lines.push_str(meaning_in_script(code))?;
+    lines.push_str(" (code ")?;
+    lines.push_str(number.as_str())?;
+    lines.push_str(")")?;
+    Ok(())
+}
+
+// Begins the line of a record, which is named by its number.
+fn push_record(lines: &mut String, alloc: Global, number: u64) -> Result<(), AllocError>
+    ensures { OnOk result (string_bytes lines.new ≡ string_bytes lines.old ++ (codes "rnlp: record " ++ (decimal number ++ codes ": "))) }
+{
+    lines.push_str("rnlp: record ")?;
+    lines.push_str(number.to_string(alloc)?.as_str())?;
+    lines.push_str(": ")
+}

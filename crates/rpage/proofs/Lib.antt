@@ -1,5 +1,0 @@
-pub mod Puts
-pub mod Rows
-pub mod Sets
-pub mod Tables
-pub mod Growing

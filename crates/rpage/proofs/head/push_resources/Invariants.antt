@@ -1,8 +1,0 @@
-use Rattle.std.proofs.Common.{◌≡◌, ◌++◌, map, take}
-use Rattle.rforms.specs.Lines.{HasResource}
-use Rattle.rpage.specs.Told.{told}
-use Rattle.rpage.proofs.head.push_resources.Given as goal
-
--- the lines of the resources so far were appended
-abbrev pub invariant-loop-place : goal.invariant-loop-place
-invariant-loop-place l = l.page ≡ l.fn.page ++ told l.names (map HasResource (take l.place l.names.resources))

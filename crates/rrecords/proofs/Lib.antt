@@ -1,8 +1,0 @@
-pub mod Digits
-pub mod SetNames
-pub mod Places
-pub mod Said
-pub mod Lengths
-pub mod Issues
-pub mod Made
-pub mod Waits

@@ -1,6 +1,0 @@
-use Rattle.rrecords.proofs.Digits.{IsToldBefore}
-use Rattle.rrecords.proofs.numbers.number_of.Given as goal
-
--- the digits so far have told the number
-abbrev pub invariant-loop-digit : goal.invariant-loop-digit
-invariant-loop-digit l = IsToldBefore l.field l.digit-index l.number

@@ -1,8 +1,0 @@
-use Rattle.std.proofs.Common.{length, ◌==◌}
-use Rattle.std.specs.List.{slice_split}
-use Rattle.rrecords.proofs.SetNames.{IsGathered}
-use Rattle.rrecords.proofs.sets.joined_of.Given as goal
-
--- the pieces so far have named the members of the set
-abbrev pub invariant-loop-name : goal.invariant-loop-name
-invariant-loop-name l = IsGathered l.names (slice_split (λ b. b == 43) l.fn.field) (length l.yielded) l.set

@@ -1,6 +1,0 @@
-use Rattle.std.proofs.Common.{false}
-use Rattle.rforms.specs.Faults.{read_all}
-use Rattle.rreplay.proofs.replaying.ReplayingRecords.has_ended.Goals as goal
-
-pub returns : goal.returns
-returns c = λ rows k. c.has_ended.ensures false (read_all false rows) k.reading

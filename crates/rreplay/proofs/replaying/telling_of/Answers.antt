@@ -1,7 +1,0 @@
-use Rattle.std.proofs.Common.{ℕ, [], subst}
-use Rattle.rreading.specs.Past.{begun}
-use Rattle.rhistory.specs.Gathered.{KnowsGathered}
-use Rattle.rreplay.proofs.replaying.telling_of.Goals as goal
-
-pub returns-clause-gathered : goal.returns-clause-gathered
-returns-clause-gathered c = λ groups cap. subst (λ (seats : ℕ). KnowsGathered c.in_ok-new-2.field-0 (begun groups seats cap) []) c.len.ensures.value (c.in_ok-new-2.ensures groups cap)

@@ -1,3 +1,0 @@
-pub mod Writing
-pub mod Stepping
-pub mod Counts

@@ -1,0 +1,91 @@
+//! The statements of a task, one after another.
+ghost use Rattle.std.specs.Prelude.{IfOk, IfErr};
+ghost use Rattle.rguard.specs.Seats.{IsOf, IsIdle};
+ghost use Rattle.rrun.specs.Working.{FitsAt, AreWholeAt};
+ghost use Rattle.rrun.specs.Desks.{IsAt, seat_in, section_in, HasStepped, HasLeft};
+ghost use Rattle.rrun.specs.Runs.{HasRun, HasBrokenOff};
+
+use crate::acts::{ask, begin, edit, finish, rise, show};
+use crate::desk::{At, Desk};
+use crate::pace::Pace;
+use rguard::{Rnlp, Seat};
+use rmodel::Machine;
+use rscript::Statement;
+use rvalue::Ledger;
+use std::alloc::{AllocError, Global};
+use std::sync::Wait;
+
+/// Carries out whole sections with an idle seat.
+///
+/// # Errors
+///
+/// Want of memory. The section in which it came is broken off, and the seat is idle.
+pub(crate) fn run_steps<R: Wait, M: Machine, G: Pace>(
+    rt: &R,
+    alloc: Global,
+    rnlp: &Rnlp<Ledger, M>,
+    seat: Seat<Ledger, M>,
+    steps: &[Statement],
+    first: At,
+    pace: &G,
+) -> Result<Seat<Ledger, M>, (Seat<Ledger, M>, AllocError)>
+    requires of { IsOf rnlp.now seat }
+    requires idle { IsIdle seat }
+    requires whole { AreWholeAt seat steps.now }
+    ensures ran { IfOk result (HasRun steps.entry.now seat) }
+    ensures idle { IfOk result IsIdle }
+    ensures broken { IfErr result (λ e. HasBrokenOff steps.entry.now seat e.0) }
+    ensures left { IfErr result (λ e. IsIdle e.0) }
+{
+    let mut desk = Desk::Idle(seat);
+    let mut at = first;
+    for statement in steps {
+        desk = step(rt, alloc, rnlp, desk, statement, at, pace)?;
+        if let Statement::Finish = statement {
+            at.section = at.section.wrapping_add(1);
+        }
+    }
+    match desk {
+        Desk::Idle(seat) => Ok(seat),
+        Desk::Busy(_guard) => unreachable!(),
+    }
+}
+
+/// Carries out a statement.
+///
+/// # Errors
+///
+/// Want of memory. The section is broken off.
+fn step<'a, R: Wait, M: Machine, G: Pace>(
+    rt: &R,
+    alloc: Global,
+    rnlp: &'a Rnlp<Ledger, M>,
+    desk: Desk<'a, M>,
+    statement: &Statement,
+    at: At,
+    pace: &G,
+) -> Result<Desk<'a, M>, (Seat<Ledger, M>, AllocError)>
+    requires of { IsOf rnlp.now (seat_in desk) }
+    requires at { IsAt desk }
+    requires fits { FitsAt (seat_in desk) (section_in desk) statement.now }
+    ensures ok { IfOk result (HasStepped desk.entry statement.entry.now) }
+    ensures err { IfErr result (λ e. HasLeft (seat_in desk.entry) e.0) }
+{
+    match desk {
+        Desk::Idle(seat) => match statement {
+            Statement::Begin(request) => begin(rt, alloc, rnlp, seat, *request, at, pace),
+            _ => unreachable!(),
+        },
+        Desk::Busy(guard) => match statement {
+            Statement::Begin(_) => unreachable!(),
+            Statement::Edit {
+                place,
+                edit: change,
+            } => edit(rt, alloc, guard, *place, *change),
+            Statement::Show { place } => show(rt, alloc, guard, *place),
+            Statement::Ask { set } => ask(rt, alloc, guard, *set, pace),
+            Statement::Rise => Ok(rise(rt, guard, pace)),
+            Statement::Finish => finish(rt, alloc, guard),
+        },
+    }
+}

@@ -1,0 +1,95 @@
+// Where records may stand.
+ghost use Rattle.std.specs.Prelude.{◌≡◌};
+ghost use Rattle.rscript.specs.Statements.{is_there};
+ghost use Rattle.rscript.specs.Places.{stands};
+
+use crate::section::Section;
+use crate::word::Word;
+use rclaim::Kind;
+
+/// Where in a task a record may stand.
+#[derive(Clone, Copy)]
+pub enum Where {
+    /// Outside a section.
+    Outside,
+    /// In a section.
+    Inside,
+    /// In a nested section.
+    InNested,
+    /// In an upgrade section that has not risen.
+    BeforeRise,
+}
+
+/// Where a record may stand: the places behind which it may come, the least and the last, and where in a task.
+#[derive(Clone, Copy)]
+pub struct Stand {
+    /// The least place behind which it may come.
+    pub least: u8,
+    /// The last such place.
+    pub most: u8,
+    /// Where in a task.
+    pub inside: Where,
+}
+
+// The places of records: where the last one stands, in the order in which they may stand.
+
+/// Nothing was read.
+pub const AT_START: u8 = 0;
+
+/// The version was read.
+pub const AT_VERSION: u8 = 1;
+
+/// The last record declares a resource.
+pub const AT_RESOURCES: u8 = 2;
+
+/// The last record declares a group.
+pub const AT_GROUPS: u8 = 3;
+
+/// The last record declares a task, or is a statement of one.
+pub const AT_TASKS: u8 = 4;
+
+/// The end was read.
+pub const AT_END: u8 = 5;
+
+/// Where a record of a word may stand.
+pub fn stand_of(word: Word) -> Stand
+    ensures { result ≡ stands word }
+{
+    let (least, most, inside) = match word {
+        Word::Version => (AT_START, AT_START, Where::Outside),
+        Word::Resource => (AT_VERSION, AT_RESOURCES, Where::Outside),
+        Word::Group => (AT_RESOURCES, AT_GROUPS, Where::Outside),
+        Word::Task | Word::End => (AT_VERSION, AT_TASKS, Where::Outside),
+        Word::Begin(_) => (AT_TASKS, AT_TASKS, Where::Outside),
+        Word::Show | Word::Add | Word::Take | Word::Put | Word::Finish => {
+            (AT_TASKS, AT_TASKS, Where::Inside)
+        }
+        Word::Ask => (AT_TASKS, AT_TASKS, Where::InNested),
+        Word::Rise => (AT_TASKS, AT_TASKS, Where::BeforeRise),
+    };
+    Stand {
+        least,
+        most,
+        inside,
+    }
+}
+
+/// Whether it is so where this section is open, if one is.
+pub fn is_there(inside: Where, section: &Option<Section>) -> bool
+    ensures { result ≡ is_there inside section.now }
+{
+    match section {
+        None => match inside {
+            Where::Outside => true,
+            Where::Inside | Where::InNested | Where::BeforeRise => false,
+        },
+        Some(section) => match inside {
+            Where::Outside => false,
+            Where::Inside => true,
+            Where::InNested => matches!(section.request.kind(), Kind::Nested),
+            Where::BeforeRise => {
+                matches!(section.request.kind(), Kind::Upgrade) && !section.risen
+            }
+        },
+    }
+}

@@ -1,0 +1,99 @@
+// What records declare: names in their tables, and read groups.
+ghost use Rattle.std.specs.Prelude.{◌≡◌, ◌≢◌, ◌≤◌, ◌++◌, ◌∷◌, [], ◌==◌, length, None, Some, IsTrue, OnOk, OnErr, IfErr, IfSome};
+ghost use Rattle.std.specs.FinSet.{empty};
+ghost use Rattle.rset.specs.Sets.{all_below};
+ghost use Rattle.rset.specs.declared.TheConstants.{RESOURCES};
+ghost use Rattle.rexpand.specs.declared.TheConstants.{GROUPS};
+ghost use Rattle.rtrace_form.specs.Walks.{first_of};
+ghost use Rattle.rscript.specs.Causes.{groups_in, name_causes};
+
+use crate::code::Code;
+use rexpand::{GROUPS, GroupErr, Groups};
+use rset::{NameErr, NameTable, ResourceSet};
+use rtrace_form::RowErr;
+use std::alloc::Global;
+
+// A table of names holds as many as there are resources, which must be the limit of tasks too: one function declares both.
+const _: () = prove!(rset::SEATS as u16 == rset::RESOURCES);
+
+/// Adds a name that a record declares, of a resource or of a task, to its table, behind the others.
+///
+/// # Errors
+///
+/// The first that is wrong with it (`BadName`, `Repeated`, or `TooMany` where the table has `RESOURCES` names already, which
+/// are as many as there may be tasks), or want of memory. The table is then as it was.
+pub fn declare(table: &mut NameTable, name: &[u8]) -> Result<(), RowErr<Code>>
+    ensures ok { OnOk result ((first_of (name_causes RESOURCES table.old name.now) ≡ None) × (table.new ≡ table.old ++ name.now ∷ [])) }
+    ensures bad { (cause : Code) → result ≡ Err (RowErr.Bad cause) → first_of (name_causes RESOURCES table.old name.now) ≡ Some cause }
+    ensures still { OnErr result (table.new ≡ table.old) }
+{
+    match table.add(name) {
+        Ok(_) => Ok(()),
+        Err(NameErr::BadName) => Err(RowErr::Bad(Code::BadName)),
+        Err(NameErr::Repeated) => Err(RowErr::Bad(Code::Repeated)),
+        Err(NameErr::TooMany) => Err(RowErr::Bad(Code::TooMany)),
+        Err(NameErr::Memory) => Err(RowErr::Memory),
+    }
+}
+
+/// Whether there are as many read groups as there may be. Before they are made there are none.
+pub fn has_all_groups(groups: &Option<Groups>) -> bool
+    ensures { result ≡ (length (groups_in groups.now) == GROUPS) }
+{
+    match groups {
+        Some(groups) => groups.len() == GROUPS,
+        None => false,
+    }
+}
+
+/// Makes the read groups over `q` resources, with no group yet, if they are not there: all resources are declared by now.
+///
+/// # Errors
+///
+/// Want of memory.
+pub fn make_groups(alloc: Global, groups: &mut Option<Groups>, q: u8) -> Result<(), RowErr<Code>>
+    requires some { 1 ≤ q }
+    requires few { q ≤ RESOURCES }
+    requires over { IfSome groups.old (λ g. g.q ≡ q) }
+    ensures made { OnOk result (groups.new ≡ Some (record { q = q; groups = groups_in groups.old })) }
+    ensures memory { IfErr result (λ e. e ≡ RowErr.Memory) }
+{
+    if groups.is_none() {
+        let Ok(made) = Groups::new(alloc, q) else {
+            return Err(RowErr::Memory);
+        };
+        *groups = Some(made);
+    }
+    Ok(())
+}
+
+/// Adds a read group behind the others, which are made over `q` resources if they are not there.
+///
+/// # Errors
+///
+/// Want of memory.
+pub fn add_group(
+    alloc: Global,
+    groups: &mut Option<Groups>,
+    q: u8,
+    set: ResourceSet,
+) -> Result<(), RowErr<Code>>
+    requires some { 1 ≤ q }
+    requires few { q ≤ RESOURCES }
+    requires over { IfSome groups.old (λ g. g.q ≡ q) }
+    requires below { IsTrue (all_below q set) }
+    requires member { set ≢ empty }
+    requires room { length (groups_in groups.old) ≢ GROUPS }
+    ensures added { OnOk result (groups.new ≡ Some (record { q = q; groups = groups_in groups.old ++ set ∷ [] })) }
+    ensures memory { IfErr result (λ e. e ≡ RowErr.Memory) }
+{
+    make_groups(alloc, groups, q)?;
+    let Some(groups) = groups else {
+        return Err(RowErr::Memory);
+    };
+    match groups.declare(set) {
+        Ok(()) => Ok(()),
+        // The set has a member, and there is room.
+        Err(GroupErr::Memory | GroupErr::EmptyGroup | GroupErr::TooMany) => Err(RowErr::Memory),
+    }
+}

@@ -1,0 +1,140 @@
+// The statement that a record tells.
+ghost use Rattle.std.specs.Prelude.{◌≡◌, IfOk, IfErr, Some, true};
+ghost use Rattle.csv.specs.Records.{fields_of};
+ghost use Rattle.rset.specs.declared.TheConstants.{RESOURCES};
+ghost use Rattle.rscript.specs.Causes.{request_code};
+ghost use Rattle.rscript.specs.Words.{word_in};
+ghost use Rattle.rscript.specs.Told.{is_edit, is_statement, edit_by, HasPlace, Tells, IsWrong, is_of_fields};
+
+use crate::code::Code;
+use crate::statement::Statement;
+use crate::word::Word;
+use csv::ByteRecord;
+use rclaim::{Kind, RequestErr};
+use rset::NameTable;
+use rtrace_form::{field_of, lengths_of, number_of, request_of, set_of, sets_of};
+use rvalue::Edit;
+
+// The place of the first set in the record of a section's beginning: behind its kind.
+const FIRST_SET: u8 = 1;
+
+/// The statement that a record tells, by the resources that are declared. No memory is taken.
+///
+/// # Errors
+///
+/// In this order: `UnknownName` where it names a resource that is not declared, `BadNumber` where a number is none or
+/// above its limit, and what refuses its request whatever read groups there are.
+pub fn statement_of(
+    resources: &NameTable,
+    word: Word,
+    fields: &ByteRecord,
+) -> Result<Statement, Code>
+    requires form { word_in (fields_of fields.now) ≡ Some word }
+    requires kind { is_statement word ≡ true }
+    ensures told { IfOk result (λ statement. Tells resources.now word (fields_of fields.now) statement) }
+    ensures place { IfOk result (HasPlace RESOURCES) }
+    ensures wrong { IfErr result (IsWrong resources.now word (fields_of fields.now)) }
+    ensures fields { IfErr result (λ code. is_of_fields code ≡ true) }
+{
+    match word {
+        Word::Begin(kind) => begin_of(resources, kind, fields),
+        Word::Show => show_of(resources, fields),
+        Word::Add => edit_of(resources, word, fields),
+        Word::Take => edit_of(resources, word, fields),
+        Word::Put => edit_of(resources, word, fields),
+        Word::Ask => ask_of(resources, fields),
+        Word::Rise => Ok(Statement::Rise),
+        _ => Ok(Statement::Finish),
+    }
+}
+
+// The beginning of a section of this kind that a record tells.
+fn begin_of(resources: &NameTable, kind: Kind, fields: &ByteRecord) -> Result<Statement, Code>
+    requires { word_in (fields_of fields.now) ≡ Some (Word.Begin kind) }
+    ensures told { IfOk result (λ statement. Tells resources.now (Word.Begin kind) (fields_of fields.now) statement) }
+    ensures place { IfOk result (HasPlace RESOURCES) }
+    ensures wrong { IfErr result (IsWrong resources.now (Word.Begin kind) (fields_of fields.now)) }
+    ensures fields { IfErr result (λ code. is_of_fields code ≡ true) }
+{
+    let Some(sets) = sets_of(resources, kind, fields, FIRST_SET) else {
+        return Err(Code::UnknownName);
+    };
+    let Some(lengths) = lengths_of(kind, fields, FIRST_SET) else {
+        return Err(Code::BadNumber);
+    };
+    match request_of(kind, &sets, &lengths) {
+        Ok(request) => Ok(Statement::Begin(request)),
+        Err(cause) => Err(request_code(cause)),
+    }
+}
+
+/// The code of a request that is refused.
+pub fn request_code(cause: RequestErr) -> Code
+    ensures { result ≡ request_code cause }
+{
+    match cause {
+        RequestErr::EmptyRequest => Code::EmptyRequest,
+        RequestErr::Undeclared => Code::Undeclared,
+        RequestErr::FirstOutside => Code::FirstOutside,
+    }
+}
+
+// The show that a record tells.
+fn show_of(resources: &NameTable, fields: &ByteRecord) -> Result<Statement, Code>
+    requires { word_in (fields_of fields.now) ≡ Some Word.Show }
+    ensures told { IfOk result (λ statement. Tells resources.now Word.Show (fields_of fields.now) statement) }
+    ensures place { IfOk result (HasPlace RESOURCES) }
+    ensures wrong { IfErr result (IsWrong resources.now Word.Show (fields_of fields.now)) }
+    ensures fields { IfErr result (λ code. is_of_fields code ≡ true) }
+{
+    match resources.number_of(field_of(fields, 1)) {
+        Some(place) => Ok(Statement::Show { place }),
+        None => Err(Code::UnknownName),
+    }
+}
+
+// The edit that a record tells.
+fn edit_of(resources: &NameTable, word: Word, fields: &ByteRecord) -> Result<Statement, Code>
+    requires form { word_in (fields_of fields.now) ≡ Some word }
+    requires edit { is_edit word ≡ true }
+    ensures told { IfOk result (λ statement. Tells resources.now word (fields_of fields.now) statement) }
+    ensures place { IfOk result (HasPlace RESOURCES) }
+    ensures wrong { IfErr result (IsWrong resources.now word (fields_of fields.now)) }
+    ensures fields { IfErr result (λ code. is_of_fields code ≡ true) }
+{
+    let Some(place) = resources.number_of(field_of(fields, 1)) else {
+        return Err(Code::UnknownName);
+    };
+    let Some(number) = number_of(field_of(fields, 2)) else {
+        return Err(Code::BadNumber);
+    };
+    Ok(Statement::Edit {
+        place,
+        edit: edit_by(word, number),
+    })
+}
+
+// The edit of this word with this number.
+fn edit_by(word: Word, number: u64) -> Edit
+    ensures { result ≡ edit_by word number }
+{
+    match word {
+        Word::Add => Edit::Add(number),
+        Word::Take => Edit::Take(number),
+        _ => Edit::Set(number),
+    }
+}
+
+// The ask that a record tells.
+fn ask_of(resources: &NameTable, fields: &ByteRecord) -> Result<Statement, Code>
+    requires { word_in (fields_of fields.now) ≡ Some Word.Ask }
+    ensures told { IfOk result (λ statement. Tells resources.now Word.Ask (fields_of fields.now) statement) }
+    ensures place { IfOk result (HasPlace RESOURCES) }
+    ensures wrong { IfErr result (IsWrong resources.now Word.Ask (fields_of fields.now)) }
+    ensures fields { IfErr result (λ code. is_of_fields code ≡ true) }
+{
+    match set_of(resources, field_of(fields, 1)) {
+        Some(set) => Ok(Statement::Ask { set }),
+        None => Err(Code::UnknownName),
+    }
+}

@@ -1,3 +1,0 @@
-pub use Rattle.rrecords.proofs.Made
-pub mod facts
-pub mod lines

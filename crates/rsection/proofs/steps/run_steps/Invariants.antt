@@ -1,6 +1,0 @@
-use Rattle.std.proofs.Common.{take, drop}
-use Rattle.rsection.specs.Desks.{IsBehind}
-use Rattle.rsection.proofs.steps.run_steps.Given as goal
-
-abbrev pub invariant-loop-statement : goal.invariant-loop-statement
-invariant-loop-statement g l = IsBehind {M = g.row.M.Denot} l.fn.seat (take l.statement-index l.steps) (drop l.statement-index l.steps) l.desk

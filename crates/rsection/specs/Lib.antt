@@ -1,9 +1,0 @@
-pub use Rattle.rscript.specs.Needs
-pub use Rattle.rscript.specs.Scripts
-pub use Rattle.rscript_records.specs.Statements
-pub use Rattle.rscript_records.specs.declared.statement.Statement
-pub mod Runs
-pub mod Working
-pub mod Desks
-pub mod Seats
-pub mod Sections

@@ -1,5 +1,0 @@
-use Rattle.std.proofs.Common.{rules}
-use Rattle.rsettle.proofs.tell.status_change.Goals as goal
-
-pub returns-then-was-now : goal.returns-then-was-now
-returns-then-was-now c = search rules

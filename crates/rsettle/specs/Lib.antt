@@ -1,2 +1,0 @@
-pub mod NewClaim
-pub mod Sweep

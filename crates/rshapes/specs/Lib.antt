@@ -1,9 +1,0 @@
-pub mod Shapes
-pub mod ShapeNeeds
-pub mod TaskShapes
-pub mod Histories
-pub mod Promises
-pub mod Keys
-pub mod KeyFacts
-pub mod Kept
-pub mod Places

@@ -1,5 +1,0 @@
-pub mod Splits
-pub mod Windows
-pub mod Gaining
-pub mod Feeding
-pub mod Errors

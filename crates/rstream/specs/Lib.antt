@@ -1,4 +1,0 @@
-pub mod Coming
-pub mod Windows
-pub mod Feeding
-pub mod Errors

@@ -1,5 +1,0 @@
-pub mod Begun
-pub mod Kept
-pub mod Last
-pub mod Shown
-pub mod Tracked

@@ -1,2 +1,0 @@
-pub use Rattle.rsection.proofs.Tasks
-pub mod Ending

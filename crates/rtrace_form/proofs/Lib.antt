@@ -1,0 +1,17 @@
+pub mod back
+pub mod facts
+pub mod forth
+pub mod lists
+pub mod texts
+pub mod written
+pub mod fields
+pub mod lines
+pub mod waits
+pub mod Digits
+pub mod SetNames
+pub mod Places
+pub mod Said
+pub mod Lengths
+pub mod Issues
+pub mod Made
+pub mod WaitRecords

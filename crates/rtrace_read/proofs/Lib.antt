@@ -1,0 +1,15 @@
+pub mod DueLines
+pub mod Codes
+pub mod Steps
+pub mod DueWaits
+pub mod LedgerSteps
+pub mod ActSteps
+pub mod EventSteps
+pub mod HeadSteps
+pub mod LineResults
+pub mod Still
+pub mod Results
+pub mod OtherWords
+pub mod RowSteps
+pub mod Names
+pub mod Counting

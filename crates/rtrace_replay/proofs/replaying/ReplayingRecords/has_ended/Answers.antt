@@ -1,0 +1,6 @@
+use Rattle.std.proofs.Common.{false}
+use Rattle.rtrace_form.specs.Faults.{read_all}
+use Rattle.rtrace_replay.proofs.replaying.ReplayingRecords.has_ended.Goals as goal
+
+pub returns : goal.returns
+returns c = λ rows k. c.has_ended.ensures false (read_all false rows) k.reading

@@ -1,0 +1,12 @@
+pub use Rattle.rtrace_read.specs.Knows
+pub use Rattle.rtrace_read.specs.LineTakes
+pub use Rattle.rtrace_read.specs.declared.reading.Reading
+pub use Rattle.rtrace_read.specs.Follows
+pub use Rattle.rtrace_read.specs.Past
+pub use Rattle.rtrace_read.specs.Following
+pub mod Names
+pub mod Followed
+pub mod Replaying
+pub mod Parts
+pub mod Recording
+pub mod Stepping

@@ -1,0 +1,15 @@
+pub mod Puts
+pub mod Rows
+pub mod Sets
+pub mod Tables
+pub mod Growing
+pub mod Results
+pub mod Gaps
+pub mod Filling
+pub mod Opening
+pub mod Gathering
+pub mod Closing
+pub mod Parts
+pub mod Writing
+pub mod Stepping
+pub mod Counts

@@ -1,0 +1,13 @@
+use Rattle.std.proofs.Common.{take}
+use Rattle.rtrace_form.specs.Lines.{HasResource}
+use Rattle.rtrace_form.specs.SetFields.{name_at}
+use Rattle.rtrace_write.specs.Told.{told_line}
+use Rattle.rtrace_write.proofs.Puts.{three, same}
+use Rattle.rtrace_write.proofs.Rows.{resource_is}
+use Rattle.rtrace_write.proofs.frame.put_resource_line.Goals as goal
+
+pub returns-clause-text : goal.returns-clause-text
+returns-clause-text c =
+    same (take c.args.at c.args.page.now) _ _ (told_line c.args.names.now (HasResource (name_at c.args.names.now.resources c.args.place)))
+    (three (take c.args.at c.args.page.now) _ _ _ _ _ _ c.put-at.ensures.text c.put_resource-at.ensures.text c.put.ensures.text)
+    (resource_is c.args.names.now (name_at c.args.names.now.resources c.args.place))

@@ -1,0 +1,13 @@
+pub use Rattle.rcover.specs.Follows
+pub use Rattle.rcover.specs.Past
+pub use Rattle.rcover.specs.declared.following.Following
+pub mod Told
+pub mod Waits
+pub mod Gaps
+pub mod Open
+pub mod Gathered
+pub mod Behind
+pub mod Report
+pub mod Codes
+pub mod Stepped
+pub mod ErrorLine

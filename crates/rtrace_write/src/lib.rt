@@ -1,0 +1,38 @@
+//! How a report is written, and the line of a fault.
+#![tactic(auto)]
+
+mod act;
+mod change;
+mod close;
+mod ending;
+mod event;
+mod frame;
+mod gathered;
+mod head;
+mod history;
+mod line;
+mod names;
+mod open;
+mod page;
+mod pieces;
+mod report;
+mod step;
+mod wait;
+mod write;
+
+pub use close::close_history;
+pub use ending::ending_of;
+pub use gathered::Gathered;
+pub use head::head_of;
+pub use line::error_line;
+pub use names::NameRows;
+pub use open::OpenText;
+pub use page::Page;
+pub use report::Report;
+pub use step::push_step;
+pub use write::{WriteErr, write_parts, write_report};
+
+/// The room that is made ahead of a line: no line is longer.
+pub const LINE_ROOM: usize = 4096;
+
+const _: () = prove!(LINE_ROOM == 4096);

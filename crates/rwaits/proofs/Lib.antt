@@ -1,2 +1,0 @@
-pub mod ending
-pub mod told

@@ -1,3 +1,0 @@
-pub use Rattle.rreplay.proofs.Still
-pub mod Kept
-pub mod Telling

@@ -1,6 +1,0 @@
-use Rattle.std.proofs.Common.{drop}
-use Rattle.rwatched.proofs.Telling.{IsToldSo}
-use Rattle.rwatched.proofs.steps.tell_each.Given as goal
-
-abbrev pub invariant-loop-event : goal.invariant-loop-event
-invariant-loop-event g l = IsToldSo l.fn.machine.state l.events (g.A.Audience.all l.fn.audience) l.machine.state (drop l.event-index l.events) (g.A.Audience.all l.audience)
