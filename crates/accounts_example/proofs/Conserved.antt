@@ -90,7 +90,7 @@ module _ (group : Set) (site : Site) (seats : List (SeatOf Account Transfer)) (r
   all_move = all_from MovesAtMost entries (λ entry there.
       let n = seat_of entry.event in
       let less : n < began.seats = all_at (λ (e : EntryFields Transfer). seat_of e.event < began.seats) entries entry (seats_there account_after is_taken (λ (account : Account). account.put_in) began [] entries left.lawful) there in
-      all_at MovesAtMost (entries_by (λ (e : EntryFields Transfer). seat_of e.event) n entries) entry (by_seat n (subst (λ m. n < m) first.moving.rests.at.of.all less))
+      all_at MovesAtMost (entries_by (λ (e : EntryFields Transfer). seat_of e.event) n entries) entry (by_seat n (omega (arith, less, first.moving.rests.at.of.all, first.moving.rests.at.of.within)))
       (in_filter (λ (e : EntryFields Transfer). seat_of e.event == n) entries entry there (eq-eqb n n refl)))
 
   whole : AreWhole (accounts_after entries)

@@ -127,7 +127,9 @@ module _ (asked : Asked) (site : Site) (seats : List (SeatOf Ledger Edit)) (made
   left = first.closes.left began opening
 
   there : AllByRecursion (λ (entry : EntryFields Edit). seat_of entry.event < asked.threads) end.entries
-  there = subst (λ n. AllByRecursion (λ (entry : EntryFields Edit). seat_of entry.event < n) end.entries) (first.all.sections.rests.at.of.all ∙ passes) (seats_there value_after is_taken balance began [] end.entries left.lawful)
+  there = all_from (λ (entry : EntryFields Edit). seat_of entry.event < asked.threads) end.entries (λ entry here.
+      let less = all_at (λ (e : EntryFields Edit). seat_of e.event < began.seats) end.entries entry (seats_there value_after is_taken balance began [] end.entries left.lawful) here in
+      omega (arith, less, first.all.sections.rests.at.of.all, first.all.sections.rests.at.of.within, passes))
 
   all_add : AllByRecursion AddsOnes end.entries
   all_add = all_from AddsOnes end.entries (λ entry here.

@@ -1,5 +1,5 @@
 -- A nested request asks for a further part: why it may, and what stays.
-use Rattle.std.proofs.Common.{◌≡◌, ℕ, ◌==◌, nat_lt, ◌&&◌, Bool, true, false, cond, not, IsTrue, List, [], ◌∷◌, ◌++◌, map, Some, None, refl, sym, ap, subst, ◌∙◌}
+use Rattle.std.proofs.Common.{◌≡◌, ℕ, ◌==◌, nat_lt, ◌&&◌, Bool, true, false, cond, not, IsTrue, List, [], ◌∷◌, ◌++◌, map, Some, None, refl, sym, ap, subst, ◌∙◌, inl}
 use Rattle.std.specs.Prelude.{slice_get}
 use Rattle.std.specs.FinSet.{contains, union, is_subset, len}
 use Rattle.std.specs.List.{AllByRecursion}
@@ -64,7 +64,7 @@ waits_of after taken number kind b s h room = record {
   within = within_itself (held_at b s.seat);
   has_lent = h.has_lent;
   as_kind = h.as_kind;
-  room = room;
+  room = inl room;
 }
 
 -- a guard keeps what it keeps with more room
@@ -193,7 +193,7 @@ module _ {V E : Type 0} (after : V → E → V) (taken : V → E → Bool) (numb
         };
       };
       as_kind = (λ i. may_ask (lock_next i).claims (same_seat i)) ∙ claim_asked n (may_ask_by n) (of_seat_and n (λ c. is_nested c.kind)) (lock_after b found.entries) part (reached_now after taken number b s.seat found f) comes ∙ nested;
-      room = room;
+      room = inl room;
     }
 
 -- what the guard holds has the value that it had, after a turn without an entry

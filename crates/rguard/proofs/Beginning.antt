@@ -1,9 +1,8 @@
 -- A seat issues a request: why it may, and what its wait keeps.
-use Rattle.std.proofs.Common.{◌≡◌, ℕ, ◌<◌, ◌≤◌, ◌==◌, Bool, true, false, cond, List, [], ◌∷◌, ◌++◌, length, Some, refl, sym, ap, subst, ◌∙◌, arith, append-nil}
+use Rattle.std.proofs.Common.{◌≡◌, ℕ, ◌<◌, ◌≤◌, ◌==◌, Bool, true, false, cond, List, [], ◌∷◌, ◌++◌, length, Some, refl, sym, ap, subst, ◌∙◌, inr, arith, append-nil}
 use Rattle.std.specs.Prelude.{slice_get, IsTrue}
 use Rattle.std.proofs.lemmas.Bool.{eqb-true, eq-eqb, true≢false}
-use Rattle.rset.specs.Sets.{all_below}
-use Rattle.rset.specs.declared.TheConstants.{RESOURCES}
+use Rattle.rset.specs.Sets.{all_below, rising}
 use Rattle.rclaim.specs.Events.{seat_of}
 use Rattle.rclaim.specs.Requests.{RequestFields}
 use Rattle.rclaim.specs.declared.event.Event.TheVariants.{Issue}
@@ -29,7 +28,8 @@ use Rattle.rstate.proofs.histories.Following.{lock_push, reached_lawful}
 use Rattle.rstate.proofs.homes.Lists.{same_item, get_there}
 use Rattle.rguard.specs.LentGuards.{kind_for}
 use Rattle.rguard.specs.LentSeats.{SeatOf, IsOf, SuitsSeat, Goes, IsOneTurn, bare, is_busy}
-use Rattle.rguard.specs.LentSections.{IsAs, Knows, WaitsFrom}
+use Rattle.rguard.specs.LentSections.{IsAs, Knows, WaitsFrom, HasRoomWithin, room_for, writes_at_most}
+use Rattle.rguard.proofs.Rooms.{room_issued}
 use Rattle.rguard.proofs.seats.Claims.{issued_next, may_rise_next, may_ask_next}
 use Rattle.rguard.proofs.Ending.{sizes}
 use Rattle.rguard.proofs.seats.Finding.{Finds}
@@ -159,7 +159,7 @@ module _ {V E : Type 0} (after : V → E → V) (taken : V → E → Bool) (numb
     as_new kinds.Nested lent is = (λ i. may_ask (lock_next i).claims (same i)) ∙ may_ask_next (lock_after of.began found.entries) k.number r reached comes is
 
     -- what its wait keeps
-    pub waits_first : (lent : LentFields V) → lent ≡ record { reads = []; writes = []; reads_room = RESOURCES; writes_room = RESOURCES }
+    pub waits_first : (lent : LentFields V) → lent ≡ room_for r
         → WaitsFrom after taken number (kind_for r.kind) of.began (record { site = site; seat = later; lent = lent; own = []; acts = [] })
     waits_first lent empty =
         subst (λ (l : LentFields V). WaitsFrom after taken number (kind_for r.kind) of.began (record { site = site; seat = later; lent = l; own = []; acts = [] })) (sym empty) (record {
@@ -171,9 +171,11 @@ module _ {V E : Type 0} (after : V → E → V) (taken : V → E → Bool) (numb
           within = nothing_within (holds_of (lock_after of.began later.seen).claims later.number);
           has_lent = record {
             taken = has_now after taken number of.began seeing found now pass later (bare (Issue k.number r) ∷ []) finds_itself longer pass_is left_is nothing (ap (λ ts. slice_get ts k.number) now_taken ∙ has_taken_none idle are);
-            lent = lent_nothing of.began.seats of.began.values _ _ RESOURCES RESOURCES;
+            lent = lent_nothing of.began.seats of.began.values _ _ (length (rising r.reads)) (length (rising (writes_at_most r)));
             copies = record { once = tt; written = λ l there. absurd (true≢false (sym there)); are = tt; unedited = λ l none. refl };
           };
-          as_kind = as_new r.kind (record { reads = []; writes = []; reads_room = RESOURCES; writes_room = RESOURCES }) refl;
-          room = record { reads = omega arith; writes = omega arith };
+          as_kind = as_new r.kind (room_for r) refl;
+          room = inr (subst (λ (t : LockState). HasRoomWithin t.claims later.number (room_for {V = V} r)) (sym lock_next)
+              (subst (λ m. HasRoomWithin (next (lock_after of.began found.entries) (Issue k.number r)).claims m (room_for {V = V} r)) (sym same)
+              (room_issued (lock_after of.began found.entries) k.number r reached comes (no_request idle) (room_for {V = V} r) (omega arith) (omega arith))));
         })

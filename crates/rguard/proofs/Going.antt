@@ -26,5 +26,6 @@ module _ {V E : Type 0} where
     opening = goes.same.2 ∙ of.opening;
     there = subst (λ n. n < of.began.seats) (sym goes.same.1) of.there;
     all = of.all;
+    within = of.within;
     enough = of.enough;
   }

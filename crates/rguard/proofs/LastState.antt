@@ -1,5 +1,5 @@
 -- The last state of a lock: all seats are idle, so no request is incomplete, and what a seat tells of it.
-use Rattle.std.proofs.Common.{◌≡◌, ℕ, ◌<◌, ◌≤◌, ◌==◌, Bool, false, List, length, Some, sym, ap, subst, ◌∙◌, inl, inr, ◌⊎◌, arith}
+use Rattle.std.proofs.Common.{◌≡◌, ℕ, ◌<◌, ◌≤◌, ◌==◌, Bool, false, List, length, Option, Some, sym, ap, subst, ◌∙◌, inl, inr, ◌⊎◌, arith}
 use Rattle.std.specs.Prelude.{slice_get, slice_index_or, All, Any}
 use Rattle.std.proofs.lemmas.Bool.{eqb-true, cases_lt}
 use Rattle.rclaim.specs.Events.{seat_of}
@@ -8,11 +8,12 @@ use Rattle.rmodel.specs.declared.claimed.Claimed.{Claimed}
 use Rattle.rmodel.specs.Holds.{has_request}
 use Rattle.rmodel.proofs.ListFacts.{all_at, none_from, false_from}
 use Rattle.rvalue.specs.Entries.{EntryFields}
+use Rattle.rwatch.specs.Seen.{Seen}
 use Rattle.rstate.specs.Contents.{Contents, lock_of, value_now}
-use Rattle.rstate.specs.Histories.{Beginning, IsLawfulFrom}
+use Rattle.rstate.specs.Histories.{Beginning, HaveBeenTold, IsLawfulFrom}
 use Rattle.rstate.proofs.histories.Following.{reached_lawful}
 use Rattle.rstate.proofs.homes.Lists.{same_item}
-use Rattle.rguard.specs.Closing.{IsLeft, IsClosedBy}
+use Rattle.rguard.specs.Closing.{IsLeft, IsClosedBy, IsToldTo}
 use Rattle.rguard.specs.LentSeats.{SeatOf, IsOf, IsIdle, is_busy}
 use Rattle.rguard.proofs.Ending.{sizes}
 use Rattle.rguard.proofs.seats.Idle.{idle_has_none}
@@ -22,10 +23,10 @@ abbrev pub Tells : {V E : Type 0} → SeatOf V E → Contents V E → Type 0
 Tells {V} {E} k c = IsTrueOf (λ (entry : EntryFields E). seat_of entry.event) (λ n (before later : Contents V E). slice_get later.taken n ≡ slice_get before.taken n) k c.beginning c.entries c
 
 module _ {V E : Type 0} (after : V → E → V) (taken : V → E → Bool) (number : V → ℕ) (site : Site) (seats : List (SeatOf V E)) (last : Contents V E)
-    (of : All (λ k. IsOf site k) seats) (idle : All (λ k. IsIdle k) seats) (all : (n : ℕ) → n < site.passes → Any (λ k. k.number ≡ n) seats)
-    (tells : All (λ k. Tells k last) seats) (lawful : IsLawfulFrom after taken number last.beginning last.entries) (some : 0 < site.passes) where
+    (of : All (λ k. IsOf site k) seats) (idle : All (λ k. IsIdle k) seats) (all : (n : ℕ) → n < site.seats → Any (λ k. k.number ≡ n) seats)
+    (tells : All (λ k. Tells k last) seats) (lawful : IsLawfulFrom after taken number last.beginning last.entries) (some : 0 < site.seats) where
   -- a seat tells how many there are
-  seats_are : last.beginning.seats ≡ site.passes
+  seats_are : last.beginning.seats ≡ site.seats
   seats_are =
       let any = all 0 some in
       let its = of any.0 any.1 any.2 in
@@ -33,12 +34,12 @@ module _ {V E : Type 0} (after : V → E → V) (taken : V → E → Bool) (numb
 
   -- no request is incomplete
   pub no_request : (n : ℕ) → has_request (lock_of last).claims n ≡ false
-  no_request n = by_size (cases_lt n site.passes)
+  no_request n = by_size (cases_lt n site.seats)
     where
       beyond : (m n s p : ℕ) → m < s → s ≡ p → p ≤ n → m ≡ n → ⊥
       beyond m n s p less is above same = omega arith
 
-      by_size : (n < site.passes) ⊎ (site.passes ≤ n) → has_request (lock_of last).claims n ≡ false
+      by_size : (n < site.seats) ⊎ (site.seats ≤ n) → has_request (lock_of last).claims n ≡ false
       by_size (inl less) =
           let any = all n less in
           let k : SeatOf V E = slice_index_or seats any.0 any.1 in
@@ -47,7 +48,7 @@ module _ {V E : Type 0} (after : V → E → V) (taken : V → E → Bool) (numb
           (idle_has_none after taken number last.beginning k.number last.entries lawful (ap is_busy (tells any.0 any.1 any.2).own ∙ idle any.0 any.1 any.2))
       by_size (inr above) =
           none_from (λ (x : Claimed). x.claim.seat == n) (lock_of last).claims (λ x there. false_from (x.claim.seat == n) (λ h.
-          beyond x.claim.seat n (lock_of last).seats site.passes (all_at (λ x. x.claim.seat < (lock_of last).seats) (lock_of last).claims x (reached_lawful after taken number last.beginning last.entries lawful).sound.seated there)
+          beyond x.claim.seat n (lock_of last).seats site.seats (all_at (λ x. x.claim.seat < (lock_of last).seats) (lock_of last).claims x (reached_lawful after taken number last.beginning last.entries lawful).sound.seated there)
           ((sizes last.beginning last.entries).seats ∙ seats_are) above (eqb-true x.claim.seat n h)))
 
 -- what is left, as a seat tells it
@@ -60,3 +61,9 @@ closed_by {V} {E} after taken number k last entries values tells same lawful cou
       begins = tells.begins;
       own = tells.own;
     })
+
+-- and those who watch were told its steps
+pub told_to : {V E : Type 0} (k : SeatOf V E) (last : Contents V E) (entries : List (EntryFields E)) (watched : Option (List Seen)) → Tells k last → entries ≡ last.entries → HaveBeenTold last.beginning last.entries watched → IsToldTo watched entries k
+told_to {V} {E} k last entries watched tells same told =
+    λ b opens. subst (λ (es : List (EntryFields E)). HaveBeenTold b es watched) (sym same)
+    (subst (λ (d : Beginning V). HaveBeenTold d last.entries watched) (same_item last.beginning b (sym tells.its_opening ∙ opens)) told)

@@ -1,5 +1,5 @@
 -- A rise: its entry may follow, what is lent comes home, and the seat waits to write.
-use Rattle.std.proofs.Common.{◌≡◌, ℕ, Bool, true, cond, not, IsTrue, List, [], ◌∷◌, ◌++◌, Some, None, refl, sym, ap, subst, ◌∙◌, arith}
+use Rattle.std.proofs.Common.{◌≡◌, ℕ, Bool, true, cond, not, IsTrue, List, [], ◌∷◌, ◌++◌, Some, None, refl, sym, ap, subst, ◌∙◌, inl, arith}
 use Rattle.std.specs.Prelude.{slice_get, slice_set}
 use Rattle.std.specs.List.{AllByRecursion}
 use Rattle.std.proofs.lemmas.Bool.{true≢false, eq-eqb}
@@ -96,5 +96,5 @@ module _ {V E : Type 0} (after : V → E → V) (taken : V → E → Bool) (numb
             copies = record { once = tt; written = λ l there. absurd (true≢false (sym there)); are = tt; unedited = λ l none. refl };
           };
           as_kind = tt;
-          room = record { reads = omega arith; writes = omega arith };
+          room = inl (record { reads = omega arith; writes = omega arith });
         })

@@ -1,4 +1,5 @@
 pub mod Going
+pub mod AtOnce
 pub mod Seeing
 pub mod Having
 pub mod Raising
@@ -11,12 +12,16 @@ pub mod Taking
 pub mod Copying
 pub mod seats
 pub mod Lending
+pub mod Rooms
 pub mod Looking
 pub mod Ending
 pub mod Beginning
+pub mod FirstLook
 pub mod LentReading
 pub mod LentEditing
 pub mod Sharing
 pub mod LentRising
 pub mod Asking
+pub mod Scribes
 pub mod LastState
+pub mod Passes

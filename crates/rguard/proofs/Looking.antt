@@ -1,5 +1,5 @@
 -- A look: what a wait keeps is kept, and makes what a guard keeps.
-use Rattle.std.proofs.Common.{◌≡◌, ℕ, ◌+◌, ◌≤◌, Bool, true, false, not, ◌&&◌, List, [], length, Some, refl, sym, ap, subst, ◌∙◌, arith}
+use Rattle.std.proofs.Common.{◌≡◌, ℕ, ◌+◌, ◌≤◌, ◌⊎◌, inl, inr, Bool, true, false, not, ◌&&◌, List, [], length, Some, refl, sym, ap, subst, ◌∙◌, arith}
 use Rattle.std.specs.Prelude.{slice_get}
 use Rattle.std.specs.FinSet.{contains, difference}
 use Rattle.std.proofs.lemmas.Bool.{or_left, or_right, true≢false}
@@ -29,10 +29,11 @@ use Rattle.rguard.specs.declared.kind.GuardKind.{GuardKind}
 use Rattle.rguard.specs.declared.kind.GuardKind.TheVariants.{Read, Write, Rise, Nest}
 use Rattle.rguard.specs.LentGuards.{IsReady}
 use Rattle.rguard.specs.LentSeats.{SeatOf}
-use Rattle.rguard.specs.LentSections.{held_at, HasTaken, IsAs, value_seen, AreCopies, HasLent, Knows, ActsAreRight, HoldsFrom, WaitsFrom}
+use Rattle.rguard.specs.LentSections.{held_at, HasTaken, IsAs, value_seen, AreCopies, HasLent, Knows, ActsAreRight, HoldsFrom, WaitsFrom, HasRoom, HasRoomWithin, claim_reads, claim_writes}
+use Rattle.rguard.proofs.Rooms.{room_within}
 use Rattle.rguard.proofs.seats.Acting.{held_more, places_held, answers_same}
 use Rattle.rguard.proofs.seats.Claims.{is_of, of_seat, may_rise_by, may_ask_by, of_seat_and}
-use Rattle.rguard.proofs.seats.Finding.{Finds, lock_is, within_later, value_later, claim_later}
+use Rattle.rguard.proofs.seats.Finding.{Finds, lock_is, reached_now, within_later, value_later, claim_later}
 use Rattle.rguard.proofs.Lending.{lent_same, within_reads, within_writes}
 
 module _ {V E : Type 0} (after : V → E → V) (taken : V → E → Bool) (number : V → ℕ) (b : Beginning V) (k : SeatOf V E) (found : Contents V E) (f : Finds after taken number b k found) where
@@ -111,14 +112,37 @@ module _ {V E : Type 0} (after : V → E → V) (taken : V → E → Bool) (numb
       subst (λ (h : Granted). IsLentNow after found h lent) (has_had g (ap (slice_get found.taken) (sym same) ∙ there))
       (lent_later after taken number b k found f w.had w.within lent w.has_lent.lent)
 
-  pub may_take_room : (n : ℕ) → n ≡ k.number → (g : Granted) → slice_get found.taken n ≡ Some g → HasRoomFor g (holds_of (lock_of found).claims n) lent
-  may_take_room n same g there = record {
-    reads = fits (length lent.reads) (length (rising (difference (holds_of (lock_of found).claims n).reads g.reads))) lent.reads_room (rising_few (difference (holds_of (lock_of found).claims n).reads g.reads)) w.room.reads;
-    writes = fits (length lent.writes) (length (rising (difference (holds_of (lock_of found).claims n).writes g.writes))) lent.writes_room (rising_few (difference (holds_of (lock_of found).claims n).writes g.writes)) w.room.writes;
+  -- the claims of the seat are the same still
+  room_later : HasRoomWithin (lock_after b k.seen).claims k.number lent → HasRoomWithin (lock_after b found.entries).claims k.number lent
+  room_later room = record {
+    most = room.most;
+    reads_in = λ l h. room.reads_in l (sym (claim_later after taken number b k found f (claim_reads k.number l) (of_seat_and k.number (λ c. contains c.reads l))) ∙ h);
+    writes_in = λ l h. room.writes_in l (sym (claim_later after taken number b k found f (claim_writes k.number l) (of_seat_and k.number (λ c. contains c.writes l))) ∙ h);
+    reads = room.reads;
+    writes = room.writes;
   }
+
+  pub may_take_room : (n : ℕ) → n ≡ k.number → (g : Granted) → slice_get found.taken n ≡ Some g → HasRoomFor g (holds_of (lock_of found).claims n) lent
+  may_take_room n same g there = in_room w.room
     where
       fits : (a n c : ℕ) → n ≤ RESOURCES → a + RESOURCES ≤ c → a + n ≤ c
       fits a n c few room = omega arith
+
+      in_room : HasRoom lent ⊎ HasRoomWithin (lock_after b k.seen).claims k.number lent → HasRoomFor g (holds_of (lock_of found).claims n) lent
+      in_room (inl room) = record {
+        reads = fits (length lent.reads) (length (rising (difference (holds_of (lock_of found).claims n).reads g.reads))) lent.reads_room (rising_few (difference (holds_of (lock_of found).claims n).reads g.reads)) room.reads;
+        writes = fits (length lent.writes) (length (rising (difference (holds_of (lock_of found).claims n).writes g.writes))) lent.writes_room (rising_few (difference (holds_of (lock_of found).claims n).writes g.writes)) room.writes;
+      }
+      in_room (inr room) =
+          subst (λ m. HasRoomFor g (holds_of (lock_of found).claims m) lent) (sym same)
+          (subst (λ (s : LockState). HasRoomFor g (holds_of s.claims k.number) lent) (sym (lock_is after taken number b k found f))
+          (room_within (lock_after b found.entries) k.number lent g (reached_now after taken number b k found f) (room_later room)))
+
+  still_room : (later : SeatOf V E) → later.seen ≡ found.entries → later.number ≡ k.number → HasRoom lent ⊎ HasRoomWithin (lock_after b k.seen).claims k.number lent
+      → HasRoom lent ⊎ HasRoomWithin (lock_after b later.seen).claims later.number lent
+  still_room later seen same (inl room) = inl room
+  still_room later seen same (inr room) =
+      inr (subst (λ es. HasRoomWithin (lock_after b es).claims later.number lent) (sym seen) (subst (λ n. HasRoomWithin (lock_after b found.entries).claims n lent) (sym same) (room_later room)))
 
   requested : has_request (lock_after b found.entries).claims k.number ≡ true
   requested = claim_later after taken number b k found f (is_of k.number) (of_seat k.number) ∙ w.issued
@@ -140,7 +164,7 @@ module _ {V E : Type 0} (after : V → E → V) (taken : V → E → Bool) (numb
       copies = copies_later after taken number b k found f w.had w.had site later lent lent own acts w.within (within_itself w.had) seen w.has_lent.copies;
     };
     as_kind = as_later after taken number b k found f kind site later lent lent own acts seen same w.as_kind;
-    room = w.room;
+    room = still_room later seen same w.room;
   }
 
   -- it is over where nothing of the seat is pending, and all that the seat holds was lent to it

@@ -1,11 +1,12 @@
 -- What is left of a lock that was closed.
-use Rattle.std.specs.Prelude.{◌≡◌, ℕ, Bool, Some, List, length, slice_get}
+use Rattle.std.specs.Prelude.{◌≡◌, ℕ, Bool, Option, Some, List, length, slice_get}
 use mathlib.Core.List.{IsPrefix}
 use Rattle.rclaim.specs.Events.{seat_of}
 use Rattle.rlock.specs.Known.{entries_by}
 use Rattle.rvalue.specs.Entries.{EntryFields}
 use Rattle.rvalue.specs.Histories.{value_of}
-use Rattle.rstate.specs.Histories.{Beginning, IsLawfulFrom}
+use Rattle.rwatch.specs.Seen.{Seen}
+use Rattle.rstate.specs.Histories.{Beginning, HaveBeenTold, IsLawfulFrom}
 use Rattle.rguard.specs.LentSeats.{SeatOf}
 
 -- From how the lock began the entries are lawful, and each resource has the value that they make of its opening value
@@ -19,3 +20,7 @@ pub record IsClosedBy {V E : Type 0} (after : V → E → V) (taken : V → E �
   pub left : (b : Beginning V) → seat.opening ≡ Some b → IsLeft after taken number b entries values
   pub begins : IsPrefix seat.seen entries
   pub own : entries_by (λ (entry : EntryFields E). seat_of entry.event) seat.number entries ≡ seat.mine
+
+-- those who watch have been told just the steps of these entries, from how the lock of the seat began
+abbrev pub IsToldTo : {V E : Type 0} → Option (List Seen) → List (EntryFields E) → SeatOf V E → Type 0
+IsToldTo {V} watched entries seat = (b : Beginning V) → seat.opening ≡ Some b → HaveBeenTold b entries watched

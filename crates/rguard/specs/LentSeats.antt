@@ -43,7 +43,8 @@ module _ {V E : Type 0} where
     pub began : Beginning V
     pub opening : seat.opening ≡ Some began
     pub there : seat.number < began.seats
-    pub all : began.seats ≡ site.passes
+    pub all : began.seats ≡ site.seats
+    pub within : site.seats ≤ site.passes
     pub enough : began.seats ≤ began.cap
 
   -- each request that the seat has issued, it has finished

@@ -1,12 +1,17 @@
 -- What sections keep that guards and waits have. All but what a seat has taken speaks of the history as the seat has seen it.
-use Rattle.std.specs.Prelude.{◌≡◌, ℕ, ◌+◌, ◌<◌, ◌≤◌, Bool, true, false, IsTrue, Some, List, [], length, slice_get}
+use Rattle.std.specs.Prelude.{◌≡◌, ℕ, ◌+◌, ◌<◌, ◌≤◌, ◌==◌, ◌&&◌, ◌⊎◌, Bool, true, false, IsTrue, Some, List, [], ◌∷◌, length, slice_get, if◌then◌else◌}
 use Rattle.std.specs.FinSet.{contains}
-use Rattle.std.specs.List.{AllByRecursion}
+use Rattle.std.specs.List.{list_any, AllByRecursion}
+use Rattle.rset.specs.Sets.{Set, rising}
 use Rattle.rset.specs.declared.TheConstants.{RESOURCES}
 use Rattle.rclaim.specs.Events.{seat_of}
+use Rattle.rclaim.specs.Requests.{RequestFields}
+use Rattle.rclaim.specs.declared.claim.Claim.{Claim}
 use Rattle.rclaim.specs.declared.event.Event.TheVariants as events
 use Rattle.rlock.specs.Known.{Site, entries_by}
+use Rattle.rmodel.specs.declared.claimed.Claimed.{Claimed}
 use Rattle.rmodel.specs.declared.granted.Granted.{Granted}
+use Rattle.rmodel.specs.Claims.{is_upgrade}
 use Rattle.rmodel.specs.Holds.{holds_of, has_request, may_rise, may_ask, is_within}
 use Rattle.rmodel.specs.State.{LockState}
 use Rattle.rmodel.specs.Steps.{is_not_holding}
@@ -20,7 +25,7 @@ use Rattle.rstate.specs.Histories.{Beginning, lock_after, reads_of, writes_of, I
 use Rattle.rstate.specs.Lent.{LentFields, IsLent, Once, has, places}
 use Rattle.rguard.specs.declared.kind.GuardKind.{GuardKind}
 use Rattle.rguard.specs.declared.kind.GuardKind.TheVariants.{Read, Write, Rise, Nest}
-use Rattle.rguard.specs.LentSeats.{SeatOf, Goes, IsOneTurn}
+use Rattle.rguard.specs.LentSeats.{SeatOf, Goes, IsOneTurn, bare}
 use Rattle.rguard.specs.LentGuards.{GuardFields, IsReady}
 
 -- a section: the lock, the seat, what is lent to it, its own copies of what it has edited, and its acts
@@ -35,6 +40,14 @@ pub record SectionFields (V E : Type 0) : Type 0 where
 abbrev pub no_loans : {V : Type 0} → LentFields V
 no_loans = record { reads = []; writes = []; reads_room = RESOURCES; writes_room = RESOURCES }
 
+-- what a request may write: an upgrade writes what it reads, once it has risen
+abbrev pub writes_at_most : RequestFields → Set
+writes_at_most r = if is_upgrade r.kind then r.reads else r.writes
+
+-- nothing is lent, and there is room for what the request is about
+abbrev pub room_for : {V : Type 0} → RequestFields → LentFields V
+room_for r = record { reads = []; writes = []; reads_room = length (rising r.reads); writes_room = length (rising (writes_at_most r)) }
+
 -- the acts are shows
 abbrev pub AreShows : {E : Type 0} → List (Act E) → Type 0
 AreShows acts = AllByRecursion (λ act. IsTrue (stands_with (events.Rise 0) act)) acts
@@ -43,6 +56,21 @@ AreShows acts = AllByRecursion (λ act. IsTrue (stands_with (events.Rise 0) act)
 pub record HasRoom {V : Type 0} (lent : LentFields V) : Type 0 where
   pub reads : length lent.reads + RESOURCES ≤ lent.reads_room
   pub writes : length lent.writes + RESOURCES ≤ lent.writes_room
+
+-- a claim is of the seat, and reads the resource, or writes it
+abbrev pub claim_reads : ℕ → ℕ → Claim → Bool
+claim_reads n l c = (c.seat == n) && contains c.reads l
+
+abbrev pub claim_writes : ℕ → ℕ → Claim → Bool
+claim_writes n l c = (c.seat == n) && contains c.writes l
+
+-- there is room for all that the claims of the seat read and write, which is no more than this
+pub record HasRoomWithin {V : Type 0} (claims : List Claimed) (n : ℕ) (lent : LentFields V) : Type 0 where
+  pub most : Granted
+  pub reads_in : (l : ℕ) → list_any (λ x. claim_reads n l x.claim) claims ≡ true → contains most.reads l ≡ true
+  pub writes_in : (l : ℕ) → list_any (λ x. claim_writes n l x.claim) claims ≡ true → contains most.writes l ≡ true
+  pub reads : length lent.reads + length (rising most.reads) ≤ lent.reads_room
+  pub writes : length lent.writes + length (rising most.writes) ≤ lent.writes_room
 
 -- whether a guard of this kind may edit
 abbrev pub may_edit : GuardKind → Bool
@@ -99,7 +127,7 @@ module _ {V E : Type 0} (after : V → E → V) (taken : V → E → Bool) (numb
     pub gate : seat.gate ≡ site.gate
     pub opening : seat.opening ≡ Some b
     pub there : seat.number < b.seats
-    pub all : b.seats ≡ site.passes
+    pub all : b.seats ≡ site.seats
     pub enough : b.seats ≤ b.cap
     pub lawful : IsLawfulFrom after taken number b seat.seen
     pub own : entries_by (λ (entry : EntryFields E). seat_of entry.event) seat.number seat.seen ≡ seat.mine
@@ -132,7 +160,7 @@ module _ {V E : Type 0} (after : V → E → V) (taken : V → E → Bool) (numb
     pub within : is_within had (held_at b s.seat) ≡ true
     pub has_lent : HasLent after b had s
     pub as_kind : IsAs kind b s
-    pub room : HasRoom s.lent
+    pub room : HasRoom s.lent ⊎ HasRoomWithin (lock_seen b s.seat).claims s.seat.number s.lent
 
   -- what a wait keeps
   pub record Waits (kind : GuardKind) (s : SectionFields V E) : Type 0 where
@@ -157,6 +185,14 @@ pub record HasLooked {V E : Type 0} (before : SectionFields V E) (answer : Bool)
   pub acts : later.acts ≡ before.acts
   pub goes : Goes before.seat [] later.seat
   pub turn : IsOneTurn before.seat [] later.seat
+  pub ready : IsReady later.seat answer
+
+-- the section is that of a request which the seat has issued in one turn, and this is whether nothing of it was pending then
+pub record HasIssued {V E : Type 0} (site : Site) (seat : SeatOf V E) (request : RequestFields) (answer : Bool) (later : SectionFields V E) : Type 0 where
+  pub site_is : later.site ≡ site
+  pub no_acts : later.acts ≡ []
+  pub goes : Goes seat (bare (events.Issue seat.number request) ∷ []) later.seat
+  pub turn : IsOneTurn seat (bare (events.Issue seat.number request) ∷ []) later.seat
   pub ready : IsReady later.seat answer
 
 -- what contracts see of the guard of a section

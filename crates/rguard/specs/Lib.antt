@@ -1,4 +1,5 @@
 pub mod Seats
+pub mod Scribes
 pub mod Guards
 pub mod Awaiting
 pub mod Looks
@@ -6,6 +7,7 @@ pub mod Resting
 pub mod Sections
 pub mod Copies
 pub mod LentGuards
+pub mod LentScribes
 pub mod LentSeats
 pub mod LentSections
 pub mod Closing

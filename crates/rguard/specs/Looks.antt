@@ -4,7 +4,7 @@ use Rattle.rclaim.specs.Requests.{RequestFields}
 use Rattle.rclaim.specs.declared.event.Event.TheVariants.{Issue}
 use Rattle.rlock.specs.Known.{Site}
 use Rattle.rguard.specs.Seats.{SeatOf, Goes, IsOneTurn, bare}
-use Rattle.rguard.specs.Guards.{GuardFields, WaitFields, IsReady, kind_for}
+use Rattle.rguard.specs.Guards.{GuardFields, WaitFields, HasBegun, IsReady, kind_for}
 use Rattle.rguard.specs.declared.kind.GuardKind.{GuardKind}
 use Rattle.rguard.specs.declared.kind.GuardKind.TheVariants as kinds
 use Rattle.rguard.specs.declared.guard.Guard.{Guard}
@@ -53,3 +53,9 @@ module _ {T M E : Type 0} where
     pub no_acts : (fields_of guard).acts ≡ []
     pub goes : Goes seat (bare (Issue seat.number request) ∷ []) (fields_of guard).seat
     pub ready : IsReady (fields_of guard).seat true
+
+-- The request was issued and looked at in one turn: its guard is there exactly where nothing of the seat was pending then
+abbrev pub BeginsWithLook : {T M E : Type 0} → Site → SeatOf T E → RequestFields → Looked T M E → Type 0
+BeginsWithLook site seat request (Ready guard) =
+    HasAcquired site seat request guard × IsOneTurn seat (bare (Issue seat.number request) ∷ []) (fields_of guard).seat
+BeginsWithLook site seat request (NotYet wait) = HasBegun site seat request wait × IsReady wait.seat false

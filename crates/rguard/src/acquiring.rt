@@ -5,7 +5,7 @@ ghost use Rattle.rguard.specs.Looks.{HasAwaited, HasAcquired};
 
 use crate::guard::{Guard, guard_of};
 use crate::lock::Lock;
-use crate::pending::Pending;
+use crate::pending::{Looked, Pending};
 use crate::section::Seat;
 use rclaim::Request;
 use rmodel::Machine;
@@ -35,8 +35,9 @@ impl<T: Editable, M: Machine> Lock<State<T, M>> {
         ensures turn_err { IfErr result (λ e. ComesBack seat e.0) }
         ensures idle { IfErr result (λ e. IsIdle e.0) }
     {
-        match self.begin(rt, alloc, seat, request) {
-            Ok(pending) => Ok(wait_for(rt, pending)),
+        match self.begin_and_look(rt, alloc, seat, request) {
+            Ok(Looked::Ready(guard)) => Ok(guard),
+            Ok(Looked::NotYet(pending)) => Ok(wait_for(rt, pending.rest(rt))),
             Err(e) => Err(e),
         }
     }

@@ -1,10 +1,12 @@
 //! What is left of a gate that is closed.
 ghost use Rattle.std.specs.Prelude.{◌≡◌, ℕ, ◌<◌, All, Any, map};
 ghost use Rattle.std.specs.Arc.{arc_value};
+ghost use Rattle.rguard.specs.LentScribes.{IsScribeOf};
 ghost use Rattle.rguard.specs.LentSeats.{IsOf, IsIdle};
-ghost use Rattle.rguard.specs.Closing.{IsClosedBy};
+ghost use Rattle.rguard.specs.Closing.{IsClosedBy, IsToldTo};
 
 use crate::counted::CountedGate;
+use crate::scribe::Scribe;
 use crate::section::Seat;
 use rmodel::Machine;
 use rstate::State;
@@ -41,6 +43,29 @@ pub type Closed<T> = (
     Receipt<<T as Editable>::Edit>,
 );
 
+/// Closes the gate with all of its seats, each of which is idle, and gives its machine too. No memory is taken.
+///
+/// The history is lawful from the beginning, begins with what each seat has seen, and has just what each seat has made as its entries. The values
+/// are those that the history makes. Those who watch the machine have been told just the steps of the history.
+pub fn close_whole<T: Editable, M: Machine>(
+    gate: CountedGate<State<T, M>>,
+    seats: Vec<Seat<T, M>>,
+) -> (Closed<T>, M)
+    requires of { All (λ seat. IsOf gate seat) seats.items }
+    requires idle { All (λ seat. IsIdle seat) seats.items }
+    requires all { (n : ℕ) → n < gate.passes → Any (λ seat. seat.number ≡ n) seats.items }
+    ensures seats { All (λ seat. IsClosedBy T.after T.taken T.number result.0.0.entries (map arc_value result.0.1.items) seat) seats.items }
+    ensures receipt { result.0.2 ≡ result.0.0.entries }
+    ensures told { All (λ seat. IsToldTo (M.watched result.1) result.0.0.entries seat) seats.items }
+{
+    let gate = gate.into_gate();
+    let state = gate.close(seats);
+    let _ = state.history();
+    let (history, values, machine) = state.into_whole();
+    let list = Snapshot::of(&history);
+    ((history, values, Receipt { list }), machine)
+}
+
 /// Closes the gate with all of its seats, each of which is idle. No memory is taken.
 ///
 /// The history is lawful from the beginning, begins with what each seat has seen, and has just what each seat has made as its entries. The values
@@ -55,10 +80,30 @@ pub fn close<T: Editable, M: Machine>(
     ensures seats { All (λ seat. IsClosedBy T.after T.taken T.number result.0.entries (map arc_value result.1.items) seat) seats.items }
     ensures receipt { result.2 ≡ result.0.entries }
 {
+    let (closed, _) = close_whole(gate, seats);
+    closed
+}
+
+/// Closes the gate with all of its seats, each of which is idle, and its scribe. No memory is taken.
+///
+/// The same holds, and the history begins with what the scribe has seen.
+pub fn close_fed<T: Editable, M: Machine>(
+    gate: CountedGate<State<T, M>>,
+    seats: Vec<Seat<T, M>>,
+    scribe: Scribe<T, M>,
+) -> Closed<T>
+    requires of { All (λ seat. IsOf gate seat) seats.items }
+    requires idle { All (λ seat. IsIdle seat) seats.items }
+    requires all { (n : ℕ) → n < gate.seats → Any (λ seat. seat.number ≡ n) seats.items }
+    requires scribe { IsScribeOf gate scribe }
+    ensures seats { All (λ seat. IsClosedBy T.after T.taken T.number result.0.entries (map arc_value result.1.items) seat) seats.items }
+    ensures scribe { IsClosedBy T.after T.taken T.number result.0.entries (map arc_value result.1.items) scribe }
+    ensures receipt { result.2 ≡ result.0.entries }
+{
     let gate = gate.into_gate();
-    let state = gate.close(seats);
+    let state = gate.close_and(seats, scribe);
     let _ = state.history();
     let (history, values) = state.into_parts();
-    let list = Snapshot::of(&history);
-    (history, values, Receipt { list })
+    let kept = Snapshot::of(&history);
+    (history, values, Receipt { list: kept })
 }

@@ -1,43 +1,73 @@
-//! A gate with the number of its passes.
-ghost use Rattle.std.specs.Prelude.{◌≡◌, ◌<◌};
+//! A gate with the number of its seats, and a post for each of them.
+ghost use Rattle.std.specs.Prelude.{◌≡◌, ◌<◌, ◌≤◌, Some};
+ghost use Rattle.rlock.specs.Known.{Appends, KeepsOthers, left};
 
-use rlock::{Gate, Kept};
+use rlock::{Gate, Kept, Pass, Turn};
+use rpost::Posts;
+use rset::ResourceSet;
 use std::marker::Model;
+use std::sync::Wait;
 
-/// A gate, and the number of its passes. Contracts see it as the gate.
+/// A gate, how many of its passes are seats, and a post for each seat. Contracts see which gate it is, and the two numbers.
 #[derive(Drop)]
 pub struct CountedGate<S: Kept> {
     pub(crate) gate: Gate<S>,
-    pub(crate) passes: u8,
+    pub(crate) seats: u8,
+    posts: Posts,
 }
 
 impl<S: Kept> Model for CountedGate<S> {
-    ghost use Rattle.std.specs.Prelude.{◌≡◌, ◌<◌};
+    ghost use Rattle.std.specs.Prelude.{◌≡◌, ◌<◌, ◌≤◌};
     ghost use Rattle.rlock.specs.Known.{Site};
 
     ghost Value = { Site };
 
-    ghost view = { λ a. a.gate };
+    ghost view = { λ a. record { gate = a.gate.gate; seats = a.seats; passes = a.gate.passes } };
 
-    ghost invariant = { λ a. (a.passes ≡ a.gate.passes) × (0 < a.passes) };
+    ghost invariant = { λ a. (0 < a.seats) × (a.seats ≤ a.gate.passes) × (a.posts ≡ a.seats) };
 }
 
 impl<S: Kept> CountedGate<S> {
-    /// This gate, which has so many passes.
-    pub fn new(gate: Gate<S>, passes: u8) -> CountedGate<S>
-        requires count { passes ≡ gate.passes }
-        requires some { 0 < passes }
-        ensures { result ≡ gate }
+    /// This gate, of whose passes so many are seats, and the posts of these.
+    pub fn new(gate: Gate<S>, seats: u8, posts: Posts) -> CountedGate<S>
+        requires count { seats ≤ gate.passes }
+        requires some { 0 < seats }
+        requires posts { posts ≡ seats }
+        ensures { result ≡ record { gate = gate.gate; seats = seats; passes = gate.passes } }
     {
-        CountedGate { gate, passes }
+        CountedGate { gate, seats, posts }
     }
 
-    /// The gate alone. It has a pass.
+    /// The gate alone. It has a seat, and a pass for each.
     pub fn into_gate(self) -> Gate<S>
-        ensures gate { result ≡ self }
-        ensures some { 0 < self.passes }
+        ensures gate { (result.gate ≡ self.gate) × (result.passes ≡ self.passes) }
+        ensures some { (0 < self.seats) × (self.seats ≤ self.passes) }
     {
-        let CountedGate { gate, passes: _ } = self;
+        let CountedGate {
+            gate,
+            seats: _,
+            posts: _,
+        } = self;
         gate
+    }
+
+    /// Gives the state back, and ends the turn, as [`Gate::leave`] does. Then a token is left for each of these seats but that of the turn.
+    pub(crate) fn leave<R: Wait>(&self, rt: &R, turn: Turn<S>, told: ResourceSet) -> Pass<S>
+        requires gate { turn.pass.gate ≡ self.now.gate }
+        requires opening { turn.pass.opening ≡ Some (S.opening turn.state) }
+        requires entries { Appends S.number turn.pass.number turn.pass.seen (S.entries turn.state) }
+        requires others { (found : S) → turn.found ≡ Some found → KeepsOthers S.stays turn.pass.number found turn.state }
+        ensures { result ≡ left turn.pass (S.entries turn.state) turn.state }
+    {
+        let pass = self.gate.leave(turn);
+        self.posts.put(rt, told, pass.number());
+        pass
+    }
+
+    /// Takes a token of the seat with this number, and waits for one where there is none.
+    pub(crate) fn rest<R: Wait>(&self, rt: &R, number: u8)
+        requires { number < self.now.seats }
+    {
+        self.posts.rest(rt, number);
     }
 }

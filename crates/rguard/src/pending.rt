@@ -1,23 +1,23 @@
 //! Waits for a guard.
 ghost use Rattle.std.specs.Prelude.{◌≡◌, [], IfOk, IfErr};
-ghost use Rattle.rguard.specs.LentSections.{no_loans};
+ghost use Rattle.rguard.specs.LentSections.{room_for, writes_at_most};
 ghost use Rattle.rguard.specs.Seats.{IsOf, IsIdle, SuitsSeat, Goes, ComesBack};
 ghost use Rattle.rguard.specs.Awaiting.{awaited_kind};
 ghost use Rattle.rguard.specs.Guards.{HasSeenLawful, HasSeenOwn, HasBegun, kind_for};
-ghost use Rattle.rguard.specs.Looks.{LooksAt};
+ghost use Rattle.rguard.specs.Looks.{BeginsWithLook, LooksAt};
 
-use crate::awaited::{Awaited, room_for_all};
+use crate::awaited::Awaited;
 use crate::guard::{Guard, guard_of};
 use crate::lock::Lock;
 use crate::section::{Seat, Section};
 use rclaim::{Kind, Request};
 use rmodel::Machine;
+use rset::ResourceSet;
 use rstate::{Lent, State};
 use rvalue::Editable;
 use std::alloc::{AllocError, Global};
 use std::marker::Model;
 use std::sync::Wait;
-use std::thread;
 
 /// A request that was issued, has risen, or asks for more, and for which its seat waits. It must be spent.
 pub struct Pending<'a, T: Editable, M: Machine> {
@@ -70,10 +70,44 @@ impl<T: Editable, M: Machine> Lock<State<T, M>> {
         ensures turn_err { IfErr result (λ e. ComesBack seat e.0) }
         ensures idle { IfErr result (λ e. IsIdle e.0) }
     {
-        match rooms(alloc, request.kind()) {
+        match rooms(alloc, &request) {
             Ok((lent, awaited)) => {
                 match Section::issue(&self.gate, rt, alloc, seat, request, lent) {
                     Ok(section) => Ok(Pending { section, awaited }),
+                    Err(e) => Err(e),
+                }
+            }
+            Err(e) => Err((seat, e)),
+        }
+    }
+}
+
+impl<T: Editable, M: Machine> Lock<State<T, M>> {
+    /// A seat issues a request and looks, in one turn. All room is made before: a look takes no memory.
+    ///
+    /// # Errors
+    ///
+    /// Want of memory. Nothing was issued then, and the seat comes back.
+    pub fn begin_and_look<'a, R: Wait>(
+        &'a self,
+        rt: &R,
+        alloc: Global,
+        seat: Seat<T, M>,
+        request: Request,
+    ) -> Result<Looked<'a, T, M>, (Seat<T, M>, AllocError)>
+        requires of { IsOf self.now seat }
+        requires idle { IsIdle seat }
+        requires suits { SuitsSeat seat request }
+        ensures ok { IfOk result (BeginsWithLook self.entry.now seat request) }
+        ensures err { IfErr result (λ e. Goes seat [] e.0) }
+        ensures turn_err { IfErr result (λ e. ComesBack seat e.0) }
+        ensures idle { IfErr result (λ e. IsIdle e.0) }
+    {
+        match rooms(alloc, &request) {
+            Ok((lent, awaited)) => {
+                match Section::issue_and_look(&self.gate, rt, alloc, seat, request, lent) {
+                    Ok(Ok(section)) => Ok(Looked::Ready(guard_of(awaited, section))),
+                    Ok(Err(section)) => Ok(Looked::NotYet(Pending { section, awaited })),
                     Err(e) => Err(e),
                 }
             }
@@ -104,22 +138,36 @@ impl<'a, T: Editable, M: Machine> Pending<'a, T, M> {
         }
     }
 
-    /// Rests between two looks: lets another thread have this processor, if one waits for it, and returns.
-    pub fn rest(self) -> Pending<'a, T, M>
+    /// Rests between two looks, until the seat is told of an event that gave it something, as far as it was not told already.
+    pub fn rest<R: Wait>(self, rt: &R) -> Pending<'a, T, M>
         ensures { result ≡ self.entry }
     {
-        // Whoever holds what is waited for may need this processor.
-        thread::yield_now();
-        self
+        let Pending { section, awaited } = self;
+        Pending {
+            section: section.rest(rt),
+            awaited,
+        }
     }
 }
 
-// All room for a request of this kind.
-fn rooms<T: Drop>(alloc: Global, kind: Kind) -> Result<(Lent<T>, Awaited<T>), AllocError>
-    ensures lent { IfOk result (λ r. r.0 ≡ no_loans) }
-    ensures kind { IfOk result (λ r. awaited_kind r.1 ≡ kind_for kind) }
+// All room for this request.
+fn rooms<T: Drop>(alloc: Global, request: &Request) -> Result<(Lent<T>, Awaited<T>), AllocError>
+    ensures lent { IfOk result (λ r. r.0 ≡ room_for request.now) }
+    ensures kind { IfOk result (λ r. awaited_kind r.1 ≡ kind_for request.now.kind) }
 {
-    let lent = room_for_all(alloc)?;
-    let awaited = Awaited::by(alloc, kind)?;
+    let reads = usize::from(request.reads().len());
+    let writes = usize::from(writes_at_most(request).len());
+    let lent = Lent::with_room(alloc, reads, writes)?;
+    let awaited = Awaited::by(alloc, request.kind())?;
     Ok((lent, awaited))
+}
+
+// What a request may write: an upgrade writes what it reads, once it has risen.
+fn writes_at_most(request: &Request) -> ResourceSet
+    ensures { result ≡ writes_at_most request.now }
+{
+    match request.kind() {
+        Kind::Upgrade => request.reads(),
+        Kind::Read | Kind::Write | Kind::Mixed | Kind::Nested => request.writes(),
+    }
 }

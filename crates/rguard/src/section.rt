@@ -1,5 +1,5 @@
 //! A section: a seat, what is lent to it, and what it does between two turns.
-ghost use Rattle.std.specs.Prelude.{◌≡◌, true, ◌++◌, ◌∷◌, [], IfOk, OnOk, OnErr};
+ghost use Rattle.std.specs.Prelude.{◌≡◌, ◌<◌, true, ◌++◌, ◌∷◌, [], length, vec_capacity, IfOk, OnOk, OnErr};
 ghost use Rattle.rclaim.specs.declared.event.Event.TheVariants.{Finish};
 ghost use Rattle.rvalue.specs.declared.act.Act.TheVariants.{Edited, Shown};
 ghost use Rattle.rguard.specs.LentSeats.{Goes, IsOneTurn, IsIdle, bare};
@@ -9,6 +9,7 @@ ghost use Rattle.rguard.specs.declared.kind.GuardKind.{GuardKind};
 
 use crate::copies::{Own, edit_own, replace_all, shares_of, value_of, with_copy};
 use crate::counted::CountedGate;
+use crate::told::told;
 use rlock::Pass;
 use rmodel::Machine;
 use rstate::{Lent, State};
@@ -88,7 +89,7 @@ impl<'a, T: Editable, M: Machine> Section<'a, T, M> {
         ensures done { IfOk result (λ done. (value : T) × HasValue T.after (guarded self.old) place value × (done ≡ T.taken value edit)) }
         ensures err { OnErr result (self.new ≡ self.old) }
     {
-        self.acts.reserve(1)?;
+        reserve(&mut self.acts, self.lent.written())?;
         with_copy(alloc, &mut self.own, &self.lent, place)?;
         let done = edit_own(&mut self.own, place, &edit);
         self.acts.push_reserved(Act::Edited { place, edit, done });
@@ -107,7 +108,7 @@ impl<'a, T: Editable, M: Machine> Section<'a, T, M> {
         ensures err { OnErr result (self.new ≡ self.old) }
     {
         let lock: &CountedGate<State<T, M>> = self.lock;
-        let made = shares_of(alloc, &self.own, u16::from(lock.passes) + 1)?;
+        let made = shares_of(alloc, &self.own, u16::from(lock.seats) + 1)?;
         replace_all(&mut self.lent, made);
         Ok(())
     }
@@ -143,6 +144,18 @@ impl<'a, T: Editable, M: Machine> Section<'a, T, M> {
         let state = turn.state();
         let _ = state.history();
         state.finish(number, lent, acts);
-        lock.gate.leave(turn)
+        let told = told(state);
+        lock.leave(rt, turn, told)
     }
+}
+
+// Makes room for one act more: for this many where there is none yet.
+fn reserve<E>(acts: &mut Vec<Act<E>>, first: usize) -> Result<(), AllocError>
+    ensures items { acts.new.items ≡ acts.old.items }
+    ensures ok { OnOk result (length acts.new.items < vec_capacity acts.new) }
+{
+    if acts.capacity() == 0 {
+        acts.reserve_exact(first)?;
+    }
+    acts.reserve(1)
 }

@@ -3,12 +3,13 @@ ghost use Rattle.std.specs.Prelude.{◌≡◌, true, false, ◌∷◌, [], IfOk,
 ghost use Rattle.rclaim.specs.declared.event.Event.TheVariants.{Issue, Rise, Ask};
 ghost use Rattle.rguard.specs.LentSeats.{IsOf, IsIdle, SuitsSeat, Goes, IsOneTurn, ComesBack, bare};
 ghost use Rattle.rguard.specs.LentGuards.{IsPartOf, IsReady, KeepsValues, KeepsHolding, kind_for};
-ghost use Rattle.rguard.specs.LentSections.{HasRoom, Holds, Waits, HasLooked, guarded, no_loans};
+ghost use Rattle.rguard.specs.LentSections.{HasRoom, Holds, Waits, HasLooked, guarded, no_loans, room_for};
 ghost use Rattle.rguard.specs.declared.kind.GuardKind.{GuardKind};
 
 use crate::counted::CountedGate;
 use crate::kind::GuardKind;
 use crate::section::{Seat, Section};
+use crate::told::told;
 use rclaim::Request;
 use rmodel::Machine;
 use rset::{RESOURCES, ResourceSet};
@@ -16,7 +17,6 @@ use rstate::{Lent, State};
 use rvalue::Editable;
 use std::alloc::{AllocError, Global};
 use std::sync::Wait;
-use std::thread;
 
 impl<'a, T: Editable, M: Machine> Section<'a, T, M> {
     /// A seat issues a request, in one turn, and waits for it, with this room for what it is going to be lent.
@@ -35,7 +35,7 @@ impl<'a, T: Editable, M: Machine> Section<'a, T, M> {
         requires of { IsOf lock.now seat }
         requires idle { IsIdle seat }
         requires suits { SuitsSeat seat request }
-        requires room { lent ≡ no_loans }
+        requires room { lent ≡ room_for request }
         ensures waits { IfOk result (Waits T.after T.taken T.number (kind_for request.kind)) }
         ensures begins { IfOk result (λ s. (s.site ≡ lock.now) × (s.acts ≡ [])) }
         ensures goes { IfOk result (λ s. Goes seat (bare (Issue seat.number request) ∷ []) s.seat) }
@@ -52,9 +52,10 @@ impl<'a, T: Editable, M: Machine> Section<'a, T, M> {
         match state.issue(number, request) {
             Ok(()) => {
                 let _ = state.history();
+                let told = told(state);
                 Ok(Section {
                     lock,
-                    seat: lock.gate.leave(turn),
+                    seat: lock.leave(rt, turn, told),
                     lent,
                     own: Vec::new(alloc),
                     acts: Vec::new(alloc),
@@ -104,7 +105,7 @@ impl<'a, T: Editable, M: Machine> Section<'a, T, M> {
         }
     }
 
-    /// Looks, and lets another thread have this processor, in turn, until nothing of the seat is pending. The section is that of a guard
+    /// Looks and rests, in turn, until nothing of the seat is pending. The section is that of a guard
     /// then, to which all is lent that its seat holds. No memory is taken.
     pub fn wait<R: Wait>(self, rt: &R) -> Section<'a, T, M>
         requires { (kind : GuardKind) × Waits T.after T.taken T.number kind self }
@@ -117,12 +118,21 @@ impl<'a, T: Editable, M: Machine> Section<'a, T, M> {
         for _ in rt.forever() {
             match waiting.look(rt) {
                 Ok(section) => return section,
-                Err(section) => waiting = section,
+                Err(section) => waiting = section.rest(rt),
             }
-            // Whoever holds what is waited for may need this processor.
-            thread::yield_now();
         }
         unreachable!()
+    }
+
+    /// Rests until the seat is told of an event that gave it something, as far as it was not told already. It changes nothing that a
+    /// contract sees.
+    pub fn rest<R: Wait>(self, rt: &R) -> Section<'a, T, M>
+        requires { (kind : GuardKind) × Waits T.after T.taken T.number kind self }
+        ensures { result ≡ self.entry }
+    {
+        let lock: &CountedGate<State<T, M>> = self.lock;
+        lock.rest(rt, self.seat.number());
+        self
     }
 
     /// Rises: the acts, which are shows, are told, and what is lent to the section comes home. It waits to write then, with this room for
@@ -149,9 +159,10 @@ impl<'a, T: Editable, M: Machine> Section<'a, T, M> {
         let _ = state.history();
         state.rise(number, lent, acts);
         let _ = state.history();
+        let told = told(state);
         Section {
             lock,
-            seat: lock.gate.leave(turn),
+            seat: lock.leave(rt, turn, told),
             lent: next,
             own: Vec::new(alloc),
             acts: Vec::new(alloc),
@@ -231,7 +242,8 @@ impl<'a, T: Editable, M: Machine> Section<'a, T, M> {
         match state.ask(number, set) {
             Ok(()) => {
                 let _ = state.history();
-                let seat = lock.gate.leave(turn);
+                let told = told(state);
+                let seat = lock.leave(rt, turn, told);
                 Ok(Section {
                     lock,
                     seat,

@@ -9,8 +9,14 @@ abbrev pub GateId : Type 0
 GateId = TableId
 
 -- which gate it is, and how many passes it has
+pub record GateSite : Type 0 where
+  pub gate : GateId
+  pub passes : ℕ
+
+-- the same of a gate with seats: those of its passes that may make entries
 pub record Site : Type 0 where
   pub gate : GateId
+  pub seats : ℕ
   pub passes : ℕ
 
 -- A pass: its gate, its number, the opening of the state behind the gate, the history as it was seen last, the entries of it that the pass made, the state as the pass left it last, and how many turns it has had.

@@ -27,8 +27,8 @@ impl<S: Kept> Gate<S> {
         self.close_and(passes, last)
     }
 
-    // The same for these passes and the last one together.
-    fn close_and(self, passes: Vec<Pass<S>>, last: Pass<S>) -> S
+    /// The same for these passes and the last one together.
+    pub fn close_and(self, passes: Vec<Pass<S>>, last: Pass<S>) -> S
         requires gate { All (λ p. p.gate ≡ self.gate) passes.items × (last.gate ≡ self.gate) }
         requires all { (n : ℕ) → n < self.passes → Any (λ p. p.number ≡ n) passes.items ⊎ (last.number ≡ n) }
         ensures passes { All (λ p. IsTrueOf S.number S.stays p (S.opening result) (S.entries result) result) passes.items }

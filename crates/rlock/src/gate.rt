@@ -11,7 +11,19 @@ use crate::plays::{Draw, Look, Note, Return, Telling};
 use crate::turn::{Holder, Turn};
 use std::marker::{Brand, Model};
 use std::sync::Wait;
-use std::thread;
+use std::{hint, thread};
+
+// How often a pass looks for its ticket before it lets another thread have its processor.
+const LOOKS: u32 = 100;
+
+// How often it looks for room before it draws one.
+const GLANCES: u32 = 10;
+
+// How many tickets may be ahead of a pass that looks on.
+const NEAR: u64 = 3;
+
+// How many tickets may be out when another one is drawn.
+const OUT: u64 = 1;
 
 /// One state, at which its passes take turns.
 ///
@@ -23,10 +35,10 @@ pub struct Gate<S: Kept> {
 
 impl<S: Kept> Model for Gate<S> {
     ghost use Rattle.std.specs.Prelude.{◌≡◌, ◌<◌};
-    ghost use Rattle.rlock.specs.Known.{Site};
+    ghost use Rattle.rlock.specs.Known.{GateSite};
     ghost use Rattle.rlock.specs.Steps.{IsSized};
 
-    ghost Value = { Site };
+    ghost Value = { GateSite };
 
     ghost view = { λ g. record { gate = g.board.shared.table_id; passes = g.board.shared.key.passes } };
 
@@ -45,10 +57,30 @@ impl<S: Kept> Gate<S> {
         ensures state { IsTrueOf S.number S.stays pass (S.opening result.state) (S.entries result.state) result.state }
     {
         let Pass { mut place, number } = pass;
+        self.await_room(rt);
         let ticket = self.board.shared.fetch_add::<Draw>(&mut place, 0, 1);
         let state = self.await_ticket(rt, &mut place, ticket);
         let holder = Holder { place, number };
         Turn { holder, state }
+    }
+
+    // Waits until few tickets are out, so that whoever draws one is not far from being served. What it sees may be past when it returns.
+    fn await_room<R: Wait>(&self, rt: &R) {
+        let mut glances = 0;
+        for _ in rt.forever() {
+            let served = self.board.shared.peek(1);
+            if self.board.shared.peek(0).wrapping_sub(served) <= OUT {
+                return;
+            }
+            if glances < GLANCES {
+                glances += 1;
+                hint::spin_loop();
+            } else {
+                glances = 0;
+                thread::yield_now();
+            }
+        }
+        unreachable!()
     }
 
     // Looks which ticket is served until it is this one, and takes the state.
@@ -58,12 +90,20 @@ impl<S: Kept> Gate<S> {
         ensures same { (place.new.table_id ≡ place.old.table_id) × (place.new.id ≡ place.old.id) }
         ensures served { (k : Known S S.Opening S.Entry) (t : ℕ) → Waits place.old k t → Serves place.new (record k { seen = S.entries result }) t result × IsTrueOf S.number S.stays k (S.opening result) (S.entries result) result }
     {
+        let mut looks = 0;
         for _ in rt.forever() {
-            if self.board.shared.load::<Look>(place, 1) == ticket {
+            let served = self.board.shared.load::<Look>(place, 1);
+            if served == ticket {
                 return self.board.shared.exchange(place, 0, None).unwrap();
             }
-            // The pass whose ticket is served may need this processor.
-            thread::yield_now();
+            if looks < LOOKS && ticket.wrapping_sub(served) <= NEAR {
+                looks += 1;
+                hint::spin_loop();
+            } else {
+                looks = 0;
+                // The pass whose ticket is served may need this processor.
+                thread::yield_now();
+            }
         }
         unreachable!()
     }

@@ -1,5 +1,5 @@
 //! How a gate is made.
-ghost use Rattle.std.specs.Prelude.{◌≡◌, ℕ, ◌<◌, ◌≤◌, [], Some, length, slice_get, All, IfOk};
+ghost use Rattle.std.specs.Prelude.{◌≡◌, ℕ, ◌+◌, ◌<◌, ◌≤◌, [], Some, length, slice_get, All, IfOk};
 ghost use Rattle.rlock.specs.Known.{newcomer, newcomers};
 ghost use Rattle.rlock.specs.Views.{first_view};
 
@@ -17,7 +17,7 @@ impl<S: Kept + Drop> Gate<S> {
     ///
     /// At `Err` there was no memory, and the state is dropped.
     pub fn new(alloc: Global, state: S, passes: u8) -> Result<(Gate<S>, Vec<Pass<S>>), AllocError>
-        requires count { (1 ≤ passes) × (passes ≤ SEATS) }
+        requires count { (1 ≤ passes) × (passes ≤ SEATS + 1) }
         requires no_entries { S.entries state ≡ [] }
         ensures count { IfOk result (λ r. (r.0.passes ≡ passes) × (length r.1.items ≡ passes)) }
         ensures gate { IfOk result (λ r. All (λ p. p.gate ≡ r.0.gate) r.1.items) }

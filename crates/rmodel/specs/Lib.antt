@@ -14,3 +14,4 @@ pub mod Codes
 pub mod Laws
 pub mod Telling
 pub mod StateLaws
+pub mod Watching

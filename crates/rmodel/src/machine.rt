@@ -1,5 +1,5 @@
 // What every machine of the protocol does.
-ghost use Rattle.std.specs.Prelude.{◌≡◌, ◌≤◌, ◌↔◌, IfOk, OnOk, OnErr, IfErr, IsOk, Some, not, ◌&&◌};
+ghost use Rattle.std.specs.Prelude.{◌≡◌, ◌≤◌, ◌↔◌, List, Option, None, IfOk, OnOk, OnErr, IfErr, IsOk, Some, not, ◌&&◌};
 ghost use Rattle.rset.specs.declared.TheConstants.{SEATS};
 ghost use Rattle.rclaim.specs.Changes.{ChangeLists, no_changes};
 ghost use Rattle.rclaim.specs.Events.{IsNormalEvent};
@@ -7,6 +7,7 @@ ghost use Rattle.rmodel.specs.Changes.{changes_between, status_in, AreActive};
 ghost use Rattle.rmodel.specs.Holds.{holds_of, has_request};
 ghost use Rattle.rmodel.specs.State.{LockState, opening};
 ghost use Rattle.rmodel.specs.Steps.{Fits, Accepts, Steps, refusal, next, incomplete_of, is_not_holding};
+ghost use Rattle.rwatch.specs.Seen.{Seen, watched_next};
 
 use crate::{Granted, Refused};
 use rclaim::{Changes, Event, Status};
@@ -22,6 +23,9 @@ pub trait Machine: Drop + Send {
     /// The changes of the last accepted step.
     ghost last: { Self → ChangeLists };
 
+    /// What those who watch its steps have been told, in order; None where nobody may watch.
+    ghost watched: { Self → Option (List Seen) };
+
     /// A machine with no claims, over the resources of `groups`, for `seats` seats and at most `cap` incomplete requests.
     ///
     /// # Errors
@@ -31,9 +35,11 @@ pub trait Machine: Drop + Send {
         requires seats { (1 ≤ seats) × (seats ≤ SEATS) }
         requires cap { (1 ≤ cap) × (cap ≤ SEATS) }
         ensures opening { IfOk result (λ m. state m ≡ opening groups seats cap) }
-        ensures untold { IfOk result (λ m. last m ≡ no_changes) };
+        ensures untold { IfOk result (λ m. last m ≡ no_changes) }
+        ensures unwatched { IfOk result (λ m. watched m ≡ None) };
 
-    /// One event: it changes the claims, and then they are settled once. Each status that is told is entitled or satisfied.
+    /// One event: it changes the claims, and then they are settled once. Each status that is told is entitled or satisfied. Those who
+    /// watch are told the step.
     ///
     /// # Errors
     ///
@@ -48,7 +54,9 @@ pub trait Machine: Drop + Send {
         ensures after { OnOk result (state self.new ≡ next (state self.old) event) }
         ensures changes { OnOk result (last self.new ≡ changes_between (state self.old) (state self.new)) }
         ensures active { OnOk result (AreActive (last self.new).statuses) }
-        ensures normal { OnOk result (IsNormalEvent event) };
+        ensures normal { OnOk result (IsNormalEvent event) }
+        ensures told { OnOk result (watched self.new ≡ watched_next event (last self.new) (watched self.old)) }
+        ensures silent { OnErr result (watched self.new ≡ watched self.old) };
 
     /// The changes of the last accepted step.
     fn changes(&self) -> &Changes

@@ -1,5 +1,5 @@
 // The machine over a plain list of claims.
-ghost use Rattle.std.specs.Prelude.{◌≡◌, ◌<◌, position};
+ghost use Rattle.std.specs.Prelude.{◌≡◌, ◌<◌, None, position};
 ghost use Rattle.rclaim.specs.Events.{IsNormalEvent, seat_of};
 ghost use Rattle.rclaim.specs.declared.event.Event.TheVariants.{Issue, Finish, Rise, Ask};
 ghost use Rattle.rplain.specs.Plain.{IsTaken};
@@ -65,6 +65,8 @@ impl Machine for Plain {
     ghost state = { λ m. m.state };
 
     ghost last = { λ m. m.last };
+
+    ghost watched = { λ m. None };
 
     fn new(alloc: Global, groups: Groups, seats: u8, cap: u8) -> Result<Plain, AllocError> {
         Ok(Plain {

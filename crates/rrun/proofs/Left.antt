@@ -11,12 +11,11 @@ use Rattle.rvalue.specs.declared.ledger.Ledger.{Ledger}
 use Rattle.rstate.proofs.homes.Lists.{same_item, get_map, get_there, any_here}
 use Rattle.rrun.specs.Scripts.{ScriptFields}
 use Rattle.rrun.specs.GuardSeats.{SeatOf}
-use Rattle.rrun.specs.Runs.{HasRun}
 use Rattle.rrun.specs.Seats.{IsSeatFor}
 use Rattle.rrun.specs.declared.tasks.Ended.{Ended}
 use Rattle.rrun.specs.Endings.{AreEnded}
 use Rattle.rrun.specs.Tasks.{AreSeatsFor, HasEnded}
-use Rattle.rrun.specs.Reporting.{HaveRun}
+use Rattle.rrun.specs.Reporting.{HaveEnded}
 use Rattle.rrun.proofs.Ending.{less_from_slice_get}
 
 -- what is so of an answer by two facts
@@ -40,9 +39,12 @@ module _ {M : Type 0} (site : Site) (p : ScriptFields) (seats : List (SeatOf Led
     each = λ k last there. let e = task_of k last there in subst (IsSeatFor site p k) e.2 (are.seats_are k e.0 e.1);
   }
 
-  pub have_run : list_any (λ (e : Ended M). e.stopped) ended ≡ false → HaveRun p seats later
-  have_run whole k statements seat last steps_is seat_is there =
+  pub have_ended : (stopped : List Bool) → stopped ≡ map (λ (e : Ended M). e.stopped) ended → HaveEnded p stopped seats later
+  have_ended stopped flags k statements b seat last steps_is stopped_is seat_is there =
       let e = task_of k last there in
-      let ran : HasRun statements seat e.0.seat = subst (λ (b : Bool). HasEnded statements seat b e.0.seat)
-      (false_from e.0.stopped (λ h. true≢false (sym (any_here (λ (e : Ended M). e.stopped) ended k e.0 e.1 h) ∙ whole))) (are.each k statements seat e.0 steps_is seat_is e.1) in
-      subst (λ (s : SeatOf Ledger Edit). HasRun statements seat s) e.2 ran
+      let same : e.0.stopped ≡ b = same_item e.0.stopped b (sym (ap (λ (bs : List Bool). slice_get bs k) flags ∙ get_map (λ (e : Ended M). e.stopped) ended k e.0 e.1) ∙ stopped_is) in
+      subst (λ (b : Bool). HasEnded statements seat b last) same (subst (HasEnded statements seat e.0.stopped) e.2 (are.each k statements seat e.0 steps_is seat_is e.1))
+
+-- where no task was stopped
+pub not_stopped : (stopped : List Bool) (k : ℕ) (b : Bool) → list_any (λ (b : Bool). b) stopped ≡ false → slice_get stopped k ≡ Some b → b ≡ false
+not_stopped stopped k b none there = false_from b (λ h. true≢false (sym (any_here (λ (b : Bool). b) stopped k b there h) ∙ none))

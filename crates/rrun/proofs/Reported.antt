@@ -1,10 +1,10 @@
 -- The run of a script, from its seats to its report.
-use Rattle.std.proofs.Common.{◌≡◌, ◌<◌, ℕ, false, List, [], ◌∷◌, ◌++◌, map, length, replicate, Some, sym, ap, subst, ◌∙◌, arith}
+use Rattle.std.proofs.Common.{◌≡◌, ◌<◌, ℕ, Bool, true, false, List, [], ◌∷◌, ◌++◌, map, length, replicate, None, Some, sym, ap, subst, ◌∙◌, arith}
 use Rattle.std.proofs.lemmas.Bool.{true≢false}
 use Rattle.std.proofs.lemmas.List.{length-replicate}
 use Rattle.std.proofs.lemmas.List.FromFn.{fill_by_all}
 use Rattle.std.proofs.lemmas.Option.{get_or_from_slice_get}
-use Rattle.std.specs.List.{range_with_len}
+use Rattle.std.specs.List.{range_with_len, list_any}
 use Rattle.std.specs.Prelude.{slice_get, All, Any}
 use Rattle.rclaim.specs.Events.{seat_of}
 use Rattle.rlock.specs.Known.{Site, newcomer, entries_by}
@@ -24,18 +24,18 @@ use Rattle.rtrace_write.specs.Report.{ReportFields, told_by}
 use Rattle.rrun.specs.Statement.{Statement}
 use Rattle.rrun.specs.Scripts.{ScriptFields, IsScript}
 use Rattle.rguard.specs.Closing.{IsClosedBy, IsLeft}
-use Rattle.rrun.specs.GuardSeats.{SeatOf, IsOf, IsIdle}
-use Rattle.rrun.specs.Runs.{IsRunOf}
+use Rattle.rrun.specs.GuardSeats.{SeatOf, IsOf, IsIdle, Goes}
 use Rattle.rrun.specs.Seats.{IsSeatFor}
-use Rattle.rrun.specs.Reporting.{beginning_of, HasOpened, TellsHeadOf, IsReportOf, HaveRun}
-use Rattle.rrun.specs.Tasks.{AreSeatsFor}
+use Rattle.rrun.specs.Reporting.{beginning_of, HasOpened, TellsHeadOf, HasTold, IsReportOf, IsReportOfRun, HaveEnded}
+use Rattle.rrun.specs.Tasks.{AreSeatsFor, HasEnded}
 use Rattle.rrun.proofs.Ending.{less_from_slice_get}
+use Rattle.rrun.proofs.Left.{not_stopped}
 
 -- ---- the beginning
 
 -- what the machine and the values of a runtime say of how it began
 abbrev began_by : LockState → List Ledger → Beginning Ledger
-began_by state values = record { groups = state.groups; seats = state.seats; cap = state.cap; values = values }
+began_by state values = record { groups = state.groups; seats = state.seats; cap = state.cap; values = values; watched = None }
 
 pub has_opened : (p : ScriptFields) (site : Site) (seats : List (SeatOf Ledger Edit)) (state : LockState) (values : List Ledger) (contents : Contents Ledger Edit) (n : ℕ)
     → state ≡ opening (record { q = length p.resources; groups = p.groups }) n n → values ≡ replicate (length p.resources) opening_ledger → n ≡ length p.tasks
@@ -50,7 +50,7 @@ has_opened p site seats state values contents n state_is values_are n_is passes 
 }
   where
     began_is : began_by state values ≡ beginning_of p
-    began_is = (λ i. began_by (state_is i) (values_are i)) ∙ ap (λ (m : ℕ). record { groups = record { q = length p.resources; groups = p.groups }; seats = m; cap = m; values = replicate (length p.resources) opening_ledger }) n_is
+    began_is = (λ i. began_by (state_is i) (values_are i)) ∙ ap (λ (m : ℕ). record { groups = record { q = length p.resources; groups = p.groups }; seats = m; cap = m; values = replicate (length p.resources) opening_ledger; watched = None }) n_is
 
     is_new : (k : ℕ) (seat : SeatOf Ledger Edit) → slice_get seats k ≡ Some seat → seat ≡ newcomer site.gate k (began_by state values) contents
     is_new k seat there = same_item seat (newcomer site.gate k (began_by state values) contents) (sym there ∙ each k (subst (λ m. k < m) count (less_from_slice_get seats k seat there)))
@@ -69,6 +69,16 @@ has_opened p site seats state values contents n state_is values_are n_is passes 
         }
 
 -- ---- the end
+
+-- a seat has gone on with the entries of its task, or of a part of it
+record HasGone (b : Bool) (statements : List Statement) (seat last : SeatOf Ledger Edit) : Type 0 where
+  more : List (EntryFields Edit)
+  goes : Goes seat more last
+  told : HasTold b seat.number statements more
+
+has_gone : (b : Bool) (statements : List Statement) (seat last : SeatOf Ledger Edit) → HasEnded statements seat b last → HasGone b statements seat last
+has_gone false statements seat last ran = record { more = ran.more; goes = ran.goes; told = ran.run }
+has_gone true statements seat last broken = record { more = broken.more; goes = broken.goes; told = broken.run }
 
 module _ (p : ScriptFields) (script : IsScript p) (site : Site) (seats : List (SeatOf Ledger Edit)) (opened : HasOpened p site seats) (later : List (SeatOf Ledger Edit)) (are : AreSeatsFor site p later) where
   at : (k : ℕ) → k < length p.tasks → (last : SeatOf Ledger Edit) × (slice_get later k ≡ Some last)
@@ -89,7 +99,7 @@ module _ (p : ScriptFields) (script : IsScript p) (site : Site) (seats : List (S
       let last = at n some in
       (n, last.0, subst (λ m. n < m) (sym are.count) some, get_or_from_slice_get later n last.0 last.0 last.1, (are.each n last.0 last.1).number)
 
-  module _ (ran : HaveRun p seats later) (entries : List (EntryFields Edit)) (values : List Ledger)
+  module _ (stopped : List Bool) (flags : length stopped ≡ length p.tasks) (ran : HaveEnded p stopped seats later) (entries : List (EntryFields Edit)) (values : List Ledger)
       (closed : All (λ seat. IsClosedBy value_after is_taken (λ (ledger : Ledger). ledger.balance) entries values seat) later) where
     closed_at : (k : ℕ) (last : SeatOf Ledger Edit) → slice_get later k ≡ Some last → IsClosedBy value_after is_taken (λ (ledger : Ledger). ledger.balance) entries values last
     closed_at k last there =
@@ -101,15 +111,21 @@ module _ (p : ScriptFields) (script : IsScript p) (site : Site) (seats : List (S
     steps_within : (k : ℕ) (statements : List Statement) → slice_get p.steps k ≡ Some statements → k < length p.tasks
     steps_within k statements steps_is = subst (λ n. k < n) script.paired (less_from_slice_get p.steps k statements steps_is)
 
-    pub each_ran : (k : ℕ) (statements : List Statement) → slice_get p.steps k ≡ Some statements → IsRunOf k statements (entries_by (λ (entry : EntryFields Edit). seat_of entry.event) k entries)
-    each_ran k statements steps_is =
+    -- what became of a task
+    went : (k : ℕ) → k < length p.tasks → (statements : List Statement) → slice_get p.steps k ≡ Some statements → (b : Bool) → slice_get stopped k ≡ Some b
+        → (seat last : SeatOf Ledger Edit) → slice_get seats k ≡ Some seat → slice_get later k ≡ Some last → HasGone b statements seat last
+    went k less statements steps_is b stopped_is seat last seat_is last_is = has_gone b statements seat last (ran k statements b seat last steps_is stopped_is seat_is last_is)
+
+    pub each_told : (k : ℕ) (statements : List Statement) → slice_get p.steps k ≡ Some statements → (b : Bool) → slice_get stopped k ≡ Some b
+        → HasTold b k statements (entries_by (λ (entry : EntryFields Edit). seat_of entry.event) k entries)
+    each_told k statements steps_is b stopped_is =
         let less = steps_within k statements steps_is in
         let seat = seat_at k less in
         let last = at k less in
-        let run = ran k statements seat.0 last.0 steps_is seat.1 last.1 in
-        let own : entries_by (λ (entry : EntryFields Edit). seat_of entry.event) k entries ≡ run.more =
-        ap (λ n. entries_by (λ (entry : EntryFields Edit). seat_of entry.event) n entries) (sym (are.each k last.0 last.1).number) ∙ (closed_at k last.0 last.1).own ∙ run.goes.mine ∙ ap (λ (es : List (EntryFields Edit)). es ++ run.more) (opened.nothing_made k seat.0 seat.1) in
-        subst (IsRunOf k statements) (sym own) (subst (λ n. IsRunOf n statements run.more) (opened.seats_are.each k seat.0 seat.1).number run.run)
+        let gone = went k less statements steps_is b stopped_is seat.0 last.0 seat.1 last.1 in
+        let own : entries_by (λ (entry : EntryFields Edit). seat_of entry.event) k entries ≡ gone.more =
+        ap (λ n. entries_by (λ (entry : EntryFields Edit). seat_of entry.event) n entries) (sym (are.each k last.0 last.1).number) ∙ (closed_at k last.0 last.1).own ∙ gone.goes.mine ∙ ap (λ (es : List (EntryFields Edit)). es ++ gone.more) (opened.nothing_made k seat.0 seat.1) in
+        subst (HasTold b k statements) (sym own) (subst (λ n. HasTold b n statements gone.more) (opened.seats_are.each k seat.0 seat.1).number gone.told)
 
     some_task : 0 < length p.tasks
     some_task = filled p.tasks script.some_task
@@ -123,8 +139,9 @@ module _ (p : ScriptFields) (script : IsScript p) (site : Site) (seats : List (S
         let seat = seat_at 0 some_task in
         let last = at 0 some_task in
         let statements = get_there p.steps 0 (subst (λ n. 0 < n) (sym script.paired) some_task) in
-        let run = ran 0 statements.0 seat.0 last.0 statements.1 seat.1 last.1 in
-        (closed_at 0 last.0 last.1).left (beginning_of p) (run.goes.same.2 ∙ opened.begins 0 seat.0 seat.1)
+        let flag = get_there stopped 0 (subst (λ n. 0 < n) (sym flags) some_task) in
+        let gone = went 0 some_task statements.0 statements.1 flag.0 flag.1 seat.0 last.0 seat.1 last.1 in
+        (closed_at 0 last.0 last.1).left (beginning_of p) (gone.goes.same.2 ∙ opened.begins 0 seat.0 seat.1)
 
     -- what each value is told to open with
     told_of : (openings : ℕ → Ledger) → ((l : ℕ) (ledger : Ledger) → ledger ≡ opening_ledger → openings l ≡ ledger) → AreOpenings (IsListed (beginning_of p).values) openings
@@ -146,11 +163,27 @@ module _ (p : ScriptFields) (script : IsScript p) (site : Site) (seats : List (S
             let there = get_there (replicate (length p.resources) opening_ledger) l (subst (λ n. l < n) (sym (length-replicate (length p.resources) opening_ledger)) less) in
             there.1 ∙ ap Some (get_replicate (length p.resources) l opening_ledger there.0 there.1)
 
-    pub is_report : (r : ReportFields) → TellsHeadOf p r → r.entries ≡ entries → r.ledgers ≡ values → IsReportOf p r
+    pub is_report : (r : ReportFields) → TellsHeadOf p r → r.entries ≡ entries → r.ledgers ≡ values → IsReportOfRun p stopped r
     is_report r head entries_are ledgers_are = record {
-      head = head;
-      lawful = subst (λ (es : List (EntryFields Edit)). IsLawful (told_by r).head es) (sym entries_are) (lawful_report (told_by r).head head.resources (ap (λ g. g.groups) head.groups) head.tasks head.cap);
-      each = λ k statements steps_is. subst (λ (es : List (EntryFields Edit)). IsRunOf k statements (entries_by (λ (entry : EntryFields Edit). seat_of entry.event) k es)) (sym entries_are) (each_ran k statements steps_is);
-      over = ap (λ g. g.q) head.groups ∙ ap length (sym head.resources);
-      ledgers = ledgers_are ∙ its_ledgers ∙ (λ i. map (ledger_after (sym entries_are i)) (range_with_len 0 (length (sym head.resources i))));
+      count = flags;
+      is = record {
+        head = head;
+        lawful = subst (λ (es : List (EntryFields Edit)). IsLawful (told_by r).head es) (sym entries_are) (lawful_report (told_by r).head head.resources (ap (λ g. g.groups) head.groups) head.tasks head.cap);
+        each = λ k statements steps_is b stopped_is.
+            subst (λ (es : List (EntryFields Edit)). HasTold b k statements (entries_by (λ (entry : EntryFields Edit). seat_of entry.event) k es)) (sym entries_are) (each_told k statements steps_is b stopped_is);
+        over = ap (λ g. g.q) head.groups ∙ ap length (sym head.resources);
+        ledgers = ledgers_are ∙ its_ledgers ∙ (λ i. map (ledger_after (sym entries_are i)) (range_with_len 0 (length (sym head.resources i))));
+      };
     }
+
+-- the run of a script of which no task was stopped
+pub is_whole : (p : ScriptFields) (script : IsScript p) (stopped : List Bool) (r : ReportFields) → list_any (λ (b : Bool). b) stopped ≡ false → IsReportOfRun p stopped r → IsReportOf p r
+is_whole p script stopped r none run = record {
+  head = run.is.head;
+  lawful = run.is.lawful;
+  each = λ k statements steps_is.
+      let flag = get_there stopped k (subst (λ n. k < n) (script.paired ∙ sym run.count) (less_from_slice_get p.steps k statements steps_is)) in
+      subst (λ (b : Bool). HasTold b k statements (entries_by (λ (entry : EntryFields Edit). seat_of entry.event) k r.entries)) (not_stopped stopped k flag.0 none flag.1) (run.is.each k statements steps_is flag.0 flag.1);
+  over = run.is.over;
+  ledgers = run.is.ledgers;
+}

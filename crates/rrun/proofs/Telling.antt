@@ -1,5 +1,5 @@
 -- The report of a run may be written: each act of its history carries out a statement of the script, whose amounts are such as a field may tell.
-use Rattle.std.proofs.Common.{◌≡◌, ◌<◌, ◌^◌, ◌==◌, ℕ, List, [], ◌∷◌, ◌++◌, map, length, refl, sym, ap, subst, ◌∙◌, arith}
+use Rattle.std.proofs.Common.{◌≡◌, ◌<◌, ◌^◌, ◌==◌, ℕ, zero, suc, Bool, true, false, List, [], ◌∷◌, ◌++◌, map, take, length, Option, Some, None, refl, sym, ap, subst, ◌∙◌, arith}
 use Rattle.std.proofs.lemmas.Bool.{eq-eqb}
 use Rattle.std.specs.List.{AllByRecursion}
 use Rattle.std.specs.Prelude.{IsTrue}
@@ -27,13 +27,14 @@ use Rattle.rtrace_form.specs.Written.{IsTellable, MayBeWritten}
 use Rattle.rtrace_form.proofs.lists.Histories.{lock-tasks}
 use Rattle.rtrace_write.specs.Report.{ReportFields, told_by as report_told}
 use Rattle.rtrace_write.proofs.Counts.{some_length}
-use Rattle.rrun.specs.Statements.{FitsBehind, IsWithin, amount_of}
+use Rattle.rscript.specs.declared.section.Section.{Section}
+use Rattle.rrun.specs.Statements.{FitsBehind, IsWithin, amount_of, section_after}
 use Rattle.rrun.specs.Statement.{Statement}
 use Rattle.rrun.specs.Statement.TheVariants as statement
 use Rattle.rrun.specs.Scripts.{ScriptFields, IsScript}
 use Rattle.rrun.proofs.Tasks.{task_at}
-use Rattle.rrun.specs.Reporting.{IsReportOf}
-use Rattle.rrun.specs.Runs.{Told, told_by, deed_of, deeds_next, entry_now, run_of}
+use Rattle.rrun.specs.Reporting.{HasTold, IsReportOfRun}
+use Rattle.rrun.specs.Runs.{Told, told_by, deed_of, deeds_next, entry_now, run_of, broken_off}
 
 -- ---- statements
 
@@ -85,6 +86,16 @@ run_has n deeds [] before all = tt
 run_has n deeds (s ∷ ss) before all =
     all_append HasAmounts (entry_now n deeds s) (run_of n (deeds_next deeds s) ss) (now_has n deeds s before) (run_has n (deeds_next deeds s) ss (next_has deeds s before all.0) all.1)
 
+-- a section that is broken off has no acts
+broken_has : (n : ℕ) (section : Option Section) → AllByRecursion HasAmounts (broken_off n section)
+broken_has n None = tt
+broken_has n (Some section) = (tt, tt)
+
+front_has : (count : ℕ) (ss : List Statement) → AllByRecursion HasAmount ss → AllByRecursion HasAmount (take count ss)
+front_has zero ss all = tt
+front_has (suc count) [] all = tt
+front_has (suc count) (s ∷ ss) all = (all.0, front_has count ss all.1)
+
 -- ---- entries and their acts
 
 abbrev IsTellableEntry : EntryFields Edit → Type 0
@@ -104,6 +115,14 @@ entries_tellable : (entries : List (EntryFields Edit)) → AllByRecursion HasAmo
 entries_tellable [] has = tt
 entries_tellable (entry ∷ entries) has = (acts_tellable entry.acts has.0, entries_tellable entries has.1)
 
+-- those of a task that has run, or of which a part was run
+task_tellable : (b : Bool) (n : ℕ) (ss : List Statement) (entries : List (EntryFields Edit)) → AllByRecursion HasAmount ss → HasTold b n ss entries → AllByRecursion IsTellableEntry entries
+task_tellable false n ss entries all ran = entries_tellable entries (subst (AllByRecursion HasAmounts) (sym ran) (run_has n [] ss tt all))
+task_tellable true n ss entries all part =
+    let front = take part.count ss in
+    entries_tellable entries (subst (AllByRecursion HasAmounts) (sym part.are)
+    (all_append HasAmounts (run_of n [] front) (broken_off n (section_after front)) (run_has n [] front tt (front_has part.count ss all)) (broken_has n (section_after front))))
+
 -- ---- each entry of a lawful history is of a task
 
 seat_there : (s : LockState) (e : Event) → Fits s e → seat_of e < s.seats
@@ -121,41 +140,41 @@ seats_there head earlier (entry ∷ entries) turns = (
 
 -- ---- the report
 
-module _ (p : ScriptFields) (script : IsScript p) (r : ReportFields) (is : IsReportOf p r) where
-  -- the entries of a task are the run of its statements
+module _ (p : ScriptFields) (script : IsScript p) (stopped : List Bool) (r : ReportFields) (run : IsReportOfRun p stopped r) where
+  -- the entries of a task are the run of its statements, or of a part of them
   by_task : (k : ℕ) → k < length p.tasks → AllByRecursion IsTellableEntry (entries_by (λ (entry : EntryFields Edit). seat_of entry.event) k r.entries)
   by_task k less =
       let statements = get_there p.steps k (subst (λ n. k < n) (sym script.paired) less) in
       let all = of_turns (length p.resources) p.groups [] statements.0 (task_at p k statements.0 script statements.1).turns in
-      entries_tellable (entries_by (λ (entry : EntryFields Edit). seat_of entry.event) k r.entries)
-      (subst (AllByRecursion HasAmounts) (sym (is.each k statements.0 statements.1)) (run_has k [] statements.0 tt all))
+      let flag = get_there stopped k (subst (λ n. k < n) (sym run.count) less) in
+      task_tellable flag.0 k statements.0 (entries_by (λ (entry : EntryFields Edit). seat_of entry.event) k r.entries) all (run.is.each k statements.0 statements.1 flag.0 flag.1)
 
   -- and each entry is one of a task
   amounts : AllByRecursion IsTellableEntry r.entries
   amounts = all_from IsTellableEntry r.entries (λ entry there.
       let k = seat_of entry.event in
-      let less : k < length r.tasks = all_at (λ (e : EntryFields Edit). seat_of e.event < length r.tasks) r.entries entry (seats_there (report_told r).head [] r.entries is.lawful) there in
-      all_at IsTellableEntry (entries_by (λ (e : EntryFields Edit). seat_of e.event) k r.entries) entry (by_task k (subst (λ (names : List (List ℕ)). k < length names) is.head.tasks less))
+      let less : k < length r.tasks = all_at (λ (e : EntryFields Edit). seat_of e.event < length r.tasks) r.entries entry (seats_there (report_told r).head [] r.entries run.is.lawful) there in
+      all_at IsTellableEntry (entries_by (λ (e : EntryFields Edit). seat_of e.event) k r.entries) entry (by_task k (subst (λ (names : List (List ℕ)). k < length names) run.is.head.tasks less))
       (in_filter (λ (e : EntryFields Edit). seat_of e.event == k) r.entries entry there (eq-eqb k k refl)))
 
   pub may_be_written : MayBeWritten (report_told r)
   may_be_written =
-      let cap = is.head.cap in
+      let cap = run.is.head.cap in
       let some = some_length p.tasks script.some_task in
       let few = table_length SEATS p.tasks script.tasks in
       record {
         head = record {
-          resources_named = ap (is_table RESOURCES) is.head.resources ∙ script.resources;
-          tasks_named = ap (is_table SEATS) is.head.tasks ∙ script.tasks;
-          grouped = ap (λ g. are_read_groups g.groups) is.head.groups ∙ script.groups;
-          some_resource = ap (λ (names : List (List ℕ)). is_nil names) is.head.resources ∙ script.some_resource;
-          some_task = ap (λ (names : List (List ℕ)). is_nil names) is.head.tasks ∙ script.some_task;
+          resources_named = ap (is_table RESOURCES) run.is.head.resources ∙ script.resources;
+          tasks_named = ap (is_table SEATS) run.is.head.tasks ∙ script.tasks;
+          grouped = ap (λ g. are_read_groups g.groups) run.is.head.groups ∙ script.groups;
+          some_resource = ap (λ (names : List (List ℕ)). is_nil names) run.is.head.resources ∙ script.some_resource;
+          some_task = ap (λ (names : List (List ℕ)). is_nil names) run.is.head.tasks ∙ script.some_task;
           cap = refl;
         };
         cap_low = omega (arith, cap, some);
         cap_high = omega (arith, cap, few);
-        groups = by_names is.head.resources (ap (λ g. g.groups) is.head.groups);
-        lawful = is.lawful;
+        groups = by_names run.is.head.resources (ap (λ g. g.groups) run.is.head.groups);
+        lawful = run.is.lawful;
         amounts = amounts;
       }
     where

@@ -1,5 +1,5 @@
 -- The report of a script's run.
-use Rattle.std.specs.Prelude.{◌≡◌, ℕ, Some, List, [], length, replicate, slice_get}
+use Rattle.std.specs.Prelude.{◌≡◌, ℕ, Bool, true, false, None, Some, List, [], length, replicate, slice_get}
 use Rattle.rclaim.specs.Events.{seat_of}
 use Rattle.rlock.specs.Known.{Site, entries_by}
 use Rattle.rvalue.specs.declared.ledger.Edit.{Edit}
@@ -12,16 +12,17 @@ use Rattle.rtrace_write.specs.Report.{ReportFields, told_by, IsOverResources, Ha
 use Rattle.rrun.specs.Statement.{Statement}
 use Rattle.rrun.specs.Scripts.{ScriptFields}
 use Rattle.rrun.specs.GuardSeats.{SeatOf}
-use Rattle.rrun.specs.Runs.{HasRun, IsRunOf}
-use Rattle.rrun.specs.Tasks.{AreSeatsFor}
+use Rattle.rrun.specs.Runs.{IsRunOf, IsPartialRunOf}
+use Rattle.rrun.specs.Tasks.{AreSeatsFor, HasEnded}
 
--- how the runtime of a script begins: with what the script declares, a seat for each task, each of which may have a request, and ledgers as they open
+-- how the runtime of a script begins: with what the script declares, a seat for each task, each of which may have a request, ledgers as they open, and nobody who watches
 abbrev pub beginning_of : ScriptFields → Beginning Ledger
 beginning_of p = record {
   groups = record { q = length p.resources; groups = p.groups };
   seats = length p.tasks;
   cap = length p.tasks;
   values = replicate (length p.resources) opening_ledger;
+  watched = None;
 }
 
 -- the runtime of a script has just begun, with these seats
@@ -31,11 +32,11 @@ pub record HasOpened (p : ScriptFields) (site : Site) (seats : List (SeatOf Ledg
   pub begins : (k : ℕ) (seat : SeatOf Ledger Edit) → slice_get seats k ≡ Some seat → seat.opening ≡ Some (beginning_of p)
   pub nothing_made : (k : ℕ) (seat : SeatOf Ledger Edit) → slice_get seats k ≡ Some seat → seat.mine ≡ []
 
--- each of the seats has run its task
-abbrev pub HaveRun : ScriptFields → List (SeatOf Ledger Edit) → List (SeatOf Ledger Edit) → Type 0
-HaveRun p seats later =
-    (k : ℕ) (statements : List Statement) (seat last : SeatOf Ledger Edit) → slice_get p.steps k ≡ Some statements → slice_get seats k ≡ Some seat → slice_get later k ≡ Some last
-    → HasRun statements seat last
+-- each of the seats has run its task, or where that was stopped a part of it
+abbrev pub HaveEnded : ScriptFields → List Bool → List (SeatOf Ledger Edit) → List (SeatOf Ledger Edit) → Type 0
+HaveEnded p stopped seats later =
+    (k : ℕ) (statements : List Statement) (b : Bool) (seat last : SeatOf Ledger Edit) → slice_get p.steps k ≡ Some statements → slice_get stopped k ≡ Some b
+    → slice_get seats k ≡ Some seat → slice_get later k ≡ Some last → HasEnded statements seat b last
 
 -- the report tells what the script declares, with a cap of one request for each task
 pub record TellsHeadOf (p : ScriptFields) (r : ReportFields) : Type 0 where
@@ -44,11 +45,28 @@ pub record TellsHeadOf (p : ScriptFields) (r : ReportFields) : Type 0 where
   pub tasks : r.tasks ≡ p.tasks
   pub cap : r.cap ≡ length p.tasks
 
--- *The run of a script*: its history is lawful, the entries of each task are the run of its statements, and the ledgers are what the history makes
-pub record IsReportOf (p : ScriptFields) (r : ReportFields) : Type 0 where
+-- what the entries of a seat may be, by its number and the statements of its task
+abbrev pub Runs : Type 1
+Runs = ℕ → List Statement → List (EntryFields Edit) → Type 0
+
+-- The report of a run in which each task has such entries: its history is lawful, and the ledgers are what the history makes
+pub record IsReportBy (Ran : Runs) (p : ScriptFields) (r : ReportFields) : Type 0 where
   pub head : TellsHeadOf p r
   pub lawful : IsLawful (told_by r).head r.entries
-  pub each : (k : ℕ) (statements : List Statement) → slice_get p.steps k ≡ Some statements
-      → IsRunOf k statements (entries_by (λ (entry : EntryFields Edit). seat_of entry.event) k r.entries)
+  pub each : (k : ℕ) (statements : List Statement) → slice_get p.steps k ≡ Some statements → Ran k statements (entries_by (λ (entry : EntryFields Edit). seat_of entry.event) k r.entries)
   pub over : IsOverResources r
   pub ledgers : HasItsLedgers r
+
+-- *The run of a script*: the entries of each task are the run of its statements
+abbrev pub IsReportOf : ScriptFields → ReportFields → Type 0
+IsReportOf = IsReportBy IsRunOf
+
+-- the entries of a task are the run of its statements, or where it was stopped a part of that, never the whole, whose last section is broken off without its acts
+abbrev pub HasTold : Bool → Runs
+HasTold false = IsRunOf
+HasTold true = IsPartialRunOf
+
+-- *The run of a script of which tasks may have been stopped*, with a truth value for each task, which says whether it was
+pub record IsReportOfRun (p : ScriptFields) (stopped : List Bool) (r : ReportFields) : Type 0 where
+  pub count : length stopped ≡ length p.tasks
+  pub is : IsReportBy (λ k statements entries. (b : Bool) → slice_get stopped k ≡ Some b → HasTold b k statements entries) p r

@@ -21,6 +21,6 @@ mod waiting;
 
 pub use pace::{NoPace, Pace};
 pub use rtrace_write::{Report, WriteErr, write_report};
-pub use run::run_script;
+pub use run::{Run, run_all, run_script};
 pub use section::run_section;
 pub use tasks::{Ended, run_tasks};

@@ -1,11 +1,11 @@
 //! The run of a script, from its beginning to its report.
-ghost use Rattle.std.specs.Prelude.{◌≡◌, ◌≤◌, [], map, length, vec_capacity, IfOk};
+ghost use Rattle.std.specs.Prelude.{◌≡◌, ◌≤◌, [], false, map, length, vec_capacity, IfOk};
 ghost use Rattle.std.specs.Arc.{arc_value};
 ghost use Rattle.std.specs.List.{list_any};
 ghost use Rattle.rtrace_form.specs.Written.{MayBeWritten};
 ghost use Rattle.rtrace_write.specs.Report.{told_by};
 ghost use Rattle.rrun.specs.Tasks.{AreSeatsFor};
-ghost use Rattle.rrun.specs.Reporting.{HaveRun, HasOpened, TellsHeadOf, IsReportOf};
+ghost use Rattle.rrun.specs.Reporting.{HaveEnded, HasOpened, TellsHeadOf, IsReportOf, IsReportOfRun};
 
 use crate::pace::Pace;
 use crate::tasks::{Ended, run_tasks};
@@ -24,8 +24,46 @@ use std::thread::Threads;
 /// A runtime with its seats.
 type Opened<M> = (Rnlp<Ledger, M>, Vec<Seat<Ledger, M>>);
 
-/// Runs a script at a runtime of its own: makes it, runs the tasks, closes it, and gives the report of what happened, with the receipt of
-/// its history. The report is one that may be written.
+/// The seats of a runtime, and which of their tasks were stopped.
+type Left<M> = (Vec<Seat<Ledger, M>>, Vec<bool>);
+
+/// A run of a script.
+#[derive(Drop)]
+pub struct Run {
+    /// What happened. It may be written.
+    pub report: Report,
+    /// The receipt of the report's history.
+    pub receipt: Receipt<Edit>,
+    /// Of each task, by number, whether its worker found no memory: the section in which it was is broken off then, and those
+    /// behind it were not begun.
+    pub stopped: Vec<bool>,
+}
+
+/// Runs a script at a runtime of its own: makes it, runs the tasks, closes it, and gives the report of what happened. Where the
+/// worker of a task finds no memory, that task is stopped, and the others go on to their ends.
+///
+/// # Errors
+///
+/// Want of memory for the run itself.
+pub fn run_all<R: Threads + Wait + Sync, G: Pace>(
+    rt: &R,
+    alloc: Global,
+    script: &Script,
+    pace: &G,
+) -> Result<Run, AllocError>
+    ensures report { IfOk result (λ run. IsReportOfRun script.entry.now run.stopped.items run.report) }
+    ensures written { IfOk result (λ run. MayBeWritten (told_by run.report)) }
+    ensures receipt { IfOk result (λ run. run.receipt ≡ run.report.entries) }
+{
+    let (rnlp, seats) = open(alloc, script)?;
+    let _ = script.tasks();
+    match left_behind(rt, alloc, &rnlp, seats, script, pace) {
+        Ok((seats, stopped)) => run_of(alloc, script, rnlp.close(seats), stopped),
+        Err(e) => Err(e),
+    }
+}
+
+/// The same where no task is stopped: the report of the whole run, with the receipt of its history.
 ///
 /// # Errors
 ///
@@ -40,12 +78,35 @@ pub fn run_script<R: Threads + Wait + Sync, G: Pace>(
     ensures written { IfOk result (λ r. MayBeWritten (told_by r.0)) }
     ensures receipt { IfOk result (λ r. r.1 ≡ r.0.entries) }
 {
-    let (rnlp, seats) = open(alloc, script)?;
     let _ = script.tasks();
-    match seats_behind(rt, alloc, &rnlp, seats, script, pace) {
-        Ok(seats) => report_of(alloc, script, rnlp.close(seats)),
+    match run_all(rt, alloc, script, pace) {
+        Ok(all) => whole(all),
         Err(e) => Err(e),
     }
+}
+
+// The report and the receipt of a run of which no task was stopped.
+fn whole(run: Run) -> Result<(Report, Receipt<Edit>), AllocError>
+    ensures none { IfOk result (λ _. list_any (λ b. b) run.stopped.items ≡ false) }
+    ensures same { IfOk result (λ r. (r.0 ≡ run.report) × (r.1 ≡ run.receipt)) }
+{
+    let Run {
+        report,
+        receipt,
+        stopped,
+    } = run;
+    if is_any(stopped.as_slice()) {
+        Err(AllocError)
+    } else {
+        Ok((report, receipt))
+    }
+}
+
+// Whether one of them is.
+fn is_any(all: &[bool]) -> bool
+    ensures { result ≡ list_any (λ b. b) all.now }
+{
+    all.iter().any(|one| *one)
 }
 
 // A runtime over what the script declares, at which nothing was done, with a seat for each task.
@@ -61,39 +122,42 @@ fn open(alloc: Global, script: &Script) -> Result<Opened<Plain>, AllocError>
     Ok((rnlp, all))
 }
 
-// Runs all tasks, and gives their seats if none was stopped.
-fn seats_behind<R: Threads + Wait + Sync, M: Machine, G: Pace>(
+// Runs all tasks, and gives their seats, and which of them were stopped.
+fn left_behind<R: Threads + Wait + Sync, M: Machine, G: Pace>(
     rt: &R,
     alloc: Global,
     rnlp: &Rnlp<Ledger, M>,
     seats: Vec<Seat<Ledger, M>>,
     script: &Script,
     pace: &G,
-) -> Result<Vec<Seat<Ledger, M>>, AllocError>
+) -> Result<Left<M>, AllocError>
     requires { AreSeatsFor rnlp.now script.now seats.items }
-    ensures seats { IfOk result (λ later. AreSeatsFor rnlp.entry.now script.entry.now later.items) }
-    ensures ran { IfOk result (λ later. HaveRun script.entry.now seats.items later.items) }
+    ensures seats { IfOk result (λ left. AreSeatsFor rnlp.entry.now script.entry.now left.0.items) }
+    ensures count { IfOk result (λ left. length left.1.items ≡ length script.entry.now.tasks) }
+    ensures ended { IfOk result (λ left. HaveEnded script.entry.now left.1.items seats.items left.0.items) }
 {
-    let Ok(room) = Vec::with_capacity(alloc, seats.len()) else {
-        return Err(AllocError);
-    };
+    let room = Vec::with_capacity(alloc, seats.len())?;
+    let flags = Vec::with_capacity(alloc, seats.len())?;
     match run_tasks(rt, alloc, rnlp, seats, script, pace) {
         Ok(ended) => {
-            if is_broken(ended.as_slice()) {
-                Err(AllocError)
-            } else {
-                Ok(seats_of(ended, room))
-            }
+            let stopped = stopped_of(ended.as_slice(), flags);
+            Ok((seats_of(ended, room), stopped))
         }
         Err((_, e)) => Err(e),
     }
 }
 
-// Whether one of the tasks was stopped.
-fn is_broken<M: Machine>(all: &[Ended<M>]) -> bool
-    ensures { result ≡ list_any (λ ended. ended.stopped) all.now }
+// Which of the tasks were stopped, in room that was made.
+fn stopped_of<M: Machine>(all: &[Ended<M>], room: Vec<bool>) -> Vec<bool>
+    requires empty { room.items ≡ [] }
+    requires room { length all.now ≤ vec_capacity room }
+    ensures { result.items ≡ map (λ ended. ended.stopped) all.now }
 {
-    all.iter().any(|ended| ended.stopped)
+    let mut stopped = room;
+    for ended in all {
+        stopped.push_reserved(ended.stopped);
+    }
+    stopped
 }
 
 // The seats of the tasks, in room that was made.
@@ -110,16 +174,18 @@ fn seats_of<M: Machine>(all: Vec<Ended<M>>, room: Vec<Seat<Ledger, M>>) -> Vec<S
     seats
 }
 
-// The report of a runtime that was closed, and its receipt.
-fn report_of(
+// The run that a runtime which was closed leaves.
+fn run_of(
     alloc: Global,
     script: &Script,
     closed: Closed<Ledger>,
-) -> Result<(Report, Receipt<Edit>), AllocError>
-    ensures head { IfOk result (λ r. TellsHeadOf script.now r.0) }
-    ensures entries { IfOk result (λ r. r.0.entries ≡ closed.0.entries) }
-    ensures ledgers { IfOk result (λ r. r.0.ledgers ≡ map arc_value closed.1.items) }
-    ensures receipt { IfOk result (λ r. r.1 ≡ closed.2) }
+    stopped: Vec<bool>,
+) -> Result<Run, AllocError>
+    ensures head { IfOk result (λ run. TellsHeadOf script.now run.report) }
+    ensures entries { IfOk result (λ run. run.report.entries ≡ closed.0.entries) }
+    ensures ledgers { IfOk result (λ run. run.report.ledgers ≡ map arc_value closed.1.items) }
+    ensures receipt { IfOk result (λ run. run.receipt ≡ closed.2) }
+    ensures stopped { IfOk result (λ run. run.stopped.items ≡ stopped.items) }
 {
     let (history, values, receipt) = closed;
     match head_of(alloc, script, values.as_slice()) {
@@ -138,7 +204,11 @@ fn report_of(
                 history,
                 ledgers,
             };
-            Ok((report, receipt))
+            Ok(Run {
+                report,
+                receipt,
+                stopped,
+            })
         }
         Err(e) => Err(e),
     }

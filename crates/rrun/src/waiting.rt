@@ -30,7 +30,7 @@ pub fn wait_for_guard<'a, R: Wait, M: Machine, G: Pace>(
             }
             Looked::NotYet(next) => {
                 pace.turn();
-                waiting = next.rest();
+                waiting = next.rest(rt);
             }
         }
     }

@@ -1,5 +1,5 @@
 -- What contracts see of a locked state, and what its type keeps.
-use Rattle.std.specs.Prelude.{◌≡◌, ℕ, ◌≤◌, ◌<◌, Bool, true, false, not, ◌&&◌, ◌==◌, IsTrue, ◌⊎◌, Some, List, [], ◌∷◌, ◌++◌, length, slice_get, refl}
+use Rattle.std.specs.Prelude.{◌≡◌, ℕ, ◌≤◌, ◌<◌, Bool, true, false, not, ◌&&◌, ◌==◌, IsTrue, ◌⊎◌, Option, Some, List, [], ◌∷◌, ◌++◌, length, slice_get, refl}
 use Rattle.std.specs.Coded.{Coded, code_by, coded×, coded_list}
 use Rattle.std.specs.FinSet.{contains}
 use Rattle.rset.specs.Sets.{all_below}
@@ -15,7 +15,8 @@ use Rattle.rmodel.specs.State.{LockState}
 use Rattle.rmodel.specs.Steps.{incomplete_of, is_not_holding}
 use Rattle.rvalue.specs.Entries.{EntryFields, edits_of, entry_code}
 use Rattle.rvalue.specs.Histories.{value_of}
-use Rattle.rstate.specs.Histories.{Beginning, lock_after, IsLawfulFrom, beginning_code}
+use Rattle.rwatch.specs.Seen.{Seen}
+use Rattle.rstate.specs.Histories.{Beginning, lock_after, HaveBeenTold, IsLawfulFrom, beginning_code}
 use Rattle.rstate.specs.Homes.{AreHome}
 use Rattle.rstate.specs.Lent.{IsLent, LentFields}
 use Rattle.rstate.specs.Shares.{ShareFields}
@@ -93,6 +94,11 @@ module _ {V E : Type 0} (after : V → E → V) (taken : V → E → Bool) (numb
     pub homes : HomesAre after c at_home
     pub none_given : given ≡ 0
     pub closing : length at_home ≤ room
+
+  -- and those who watch the machine have been told just the steps of the entries
+  pub record IsWhole (machine : LockState) (watched : Option (List Seen)) (spare : ℕ) (c : Contents V E) (at_home : List (ShareFields V)) (given room : ℕ) : Type 0 where
+    pub stands : IsState machine spare c at_home given room
+    pub told : HaveBeenTold c.beginning c.entries watched
 
 module _ {V E : Type 0} (after : V → E → V) where
   -- just what the seat has taken is lent to it, as the entries have made it

@@ -8,7 +8,7 @@ impl<T: Editable, M: Machine> Kept for State<T, M> {
     ghost use Rattle.std.proofs.Common.{◌≡◌, refl, ◌∙◌, slice_get};
     ghost use Rattle.rclaim.specs.Events.{seat_of};
 
-    type Opening = Opening<T>;
+    type Opening = Opening<T, M>;
 
     type Entry = Entry<T::Edit>;
 

@@ -75,8 +75,19 @@ impl<T: Drop> Lent<T> {
     pub fn new(alloc: Global, n: usize) -> Result<Lent<T>, AllocError>
         ensures { IfOk result (λ lent. lent ≡ record { reads = []; writes = []; reads_room = n; writes_room = n }) }
     {
-        let reads = Vec::with_capacity(alloc, n)?;
-        let writes = Vec::with_capacity(alloc, n)?;
+        Lent::with_room(alloc, n, n)
+    }
+
+    /// Nothing is lent, and there is room for so many resources to read, and for so many to write.
+    ///
+    /// # Errors
+    ///
+    /// Want of memory.
+    pub fn with_room(alloc: Global, reads: usize, writes: usize) -> Result<Lent<T>, AllocError>
+        ensures { IfOk result (λ lent. lent ≡ record { reads = []; writes = []; reads_room = reads; writes_room = writes }) }
+    {
+        let reads = Vec::with_capacity(alloc, reads)?;
+        let writes = Vec::with_capacity(alloc, writes)?;
         Ok(Lent { reads, writes })
     }
 
@@ -107,6 +118,13 @@ impl<T: Drop> Lent<T> {
 }
 
 impl<T> Lent<T> {
+    /// Of how many resources all shares are lent.
+    pub fn written(&self) -> usize
+        ensures { result ≡ length self.now.writes }
+    {
+        self.writes.len()
+    }
+
     /// Lends the value of a resource that is lent. No memory is taken.
     pub fn get(&self, place: u8) -> &T
         requires { IsSome (lent_value self.now place) }

@@ -1,5 +1,5 @@
 // The locked state: a machine, its history, and the home values.
-ghost use Rattle.std.specs.Prelude.{◌≡◌, ℕ, ◌-◌, ◌<◌, ◌≤◌, ◌++◌, ◌∷◌, [], map, IfOk, OnOk, OnErr, false, length, replicate, slice_set, Some, slice_get};
+ghost use Rattle.std.specs.Prelude.{◌≡◌, ℕ, ◌+◌, ◌-◌, ◌<◌, ◌≤◌, ◌++◌, ◌∷◌, [], map, vec_capacity, IfOk, IfErr, OnOk, OnErr, false, length, replicate, slice_set, Some, slice_get};
 ghost use Rattle.std.specs.Arc.{arc_value};
 ghost use Rattle.rclaim.specs.Events.{IsNormalEvent};
 ghost use Rattle.rclaim.specs.declared.event.Event.TheVariants.{Issue, Finish, Rise, Ask};
@@ -7,9 +7,10 @@ ghost use Rattle.rmodel.specs.Holds.{nothing, holds_of, has_request};
 ghost use Rattle.rmodel.specs.StateLaws.{gives_back};
 ghost use Rattle.rmodel.specs.declared.granted.Granted.{Granted};
 ghost use Rattle.rmodel.specs.Steps.{Fits, Accepts, next};
-ghost use Rattle.rstate.specs.Histories.{IsLawfulFrom, MayFollow};
+ghost use Rattle.rstate.specs.Histories.{IsLawfulFrom, MayFollow, HaveBeenTold};
 ghost use Rattle.rstate.specs.Contents.{lock_of, value_now, is_ready, AreTaken, MayIssue, IsLentNow, ComesHome, GivesBackAll};
 ghost use Rattle.rstate.specs.Moves.{HasRoomFor};
+ghost use Rattle.rstate.specs.Shares.{whole};
 
 use crate::keep::{keep, nothing};
 use crate::moves::{give_reads, give_writes, homes_of, one_of_each, take_reads, take_writes};
@@ -28,9 +29,9 @@ use std::sync::Arc;
 /// A contract sees how the lock began (`beginning`), the `entries` of the history, and what each seat has `taken`. The entries
 /// tell the state of the machine, and what each value has become.
 #[derive(Drop)]
-pub struct State<T: Editable, M: Machine> {
+struct Parts<T: Editable, M: Machine> {
     machine: M,
-    opening: Opening<T>,
+    opening: Opening<T, M>,
     history: History<T::Edit>,
     taken: Vec<Granted>,
     homes: Vec<Shares<T>>,
@@ -39,21 +40,73 @@ pub struct State<T: Editable, M: Machine> {
     alloc: Global,
 }
 
+/// The locked state, in one place on the heap, so that a turn moves no more than where it is.
+#[derive(Drop)]
+pub struct State<T: Editable, M: Machine> {
+    all: Box<Parts<T, M>, Global>,
+}
+
 impl<T: Editable, M: Machine> Model for State<T, M> {
     ghost use Rattle.std.specs.Prelude.{length, vec_capacity};
-    ghost use Rattle.rstate.specs.Contents.{Contents, contents_code, IsState};
+    ghost use Rattle.rstate.specs.Contents.{Contents, contents_code, IsWhole};
 
     ghost Value = { Contents T T.Edit };
 
     ghost coded = { contents_code T.code T.Edit.code };
 
-    ghost view = { λ a. record { beginning = a.opening; entries = a.history.entries; taken = a.taken.items } };
+    ghost view = { λ a. record { beginning = a.all.value.opening; entries = a.all.value.history.entries; taken = a.all.value.taken.items } };
 
-    ghost invariant = { λ a. IsState T.after T.taken T.number (M.state a.machine) a.history.spare (record { beginning = a.opening; entries = a.history.entries; taken = a.taken.items }) a.homes.items (length a.closing.items) (vec_capacity a.closing) };
+    ghost invariant = { λ a. IsWhole T.after T.taken T.number (M.state a.all.value.machine) (M.watched a.all.value.machine) a.all.value.history.spare (record { beginning = a.all.value.opening; entries = a.all.value.history.entries; taken = a.all.value.taken.items }) a.all.value.homes.items (length a.all.value.closing.items) (vec_capacity a.all.value.closing) };
 }
 
 impl<T: Editable, M: Machine> State<T, M> {
     /// A lock that begins with this machine, at which nothing was done, and with these values. Nobody has taken anything.
+    ///
+    /// # Errors
+    ///
+    /// Want of memory. The machine comes back, and those who watch it were told nothing.
+    pub fn new_over(
+        alloc: Global,
+        machine: M,
+        values: Vec<T>,
+    ) -> Result<State<T, M>, (M, AllocError)>
+        requires claims { (M.state machine).claims ≡ [] }
+        requires issued { (M.state machine).issued ≡ 0 }
+        requires values { length values.items ≡ (M.state machine).groups.q }
+        ensures beginning { IfOk result (λ s. s.beginning ≡ record { groups = (M.state machine).groups; seats = (M.state machine).seats; cap = (M.state machine).cap; values = values.items; watched = M.watched machine }) }
+        ensures entries { IfOk result (λ s. s.entries ≡ []) }
+        ensures taken { IfOk result (λ s. s.taken ≡ replicate (M.state machine).seats nothing) }
+        ensures back { IfErr result (λ e. e.0 ≡ machine) }
+    {
+        let seats = machine.seats();
+        match room_of(alloc, seats, &values) {
+            Ok((taken, homes, closing)) => {
+                let opening = Opening {
+                    groups: Snapshot::of(machine.groups()),
+                    seats,
+                    cap: machine.cap(),
+                    values: Snapshot::of(&values),
+                    machine: Snapshot::of(&machine),
+                };
+                let parts = Parts {
+                    machine,
+                    opening,
+                    history: History::new(alloc),
+                    taken,
+                    homes,
+                    closing,
+                    alloc,
+                };
+                match Box::new(alloc, parts) {
+                    Ok(all) => Ok(State { all }),
+                    Err(refused) => Err((refused.value.machine, AllocError)),
+                }
+            }
+            Err(e) => Err((machine, e)),
+        }
+    }
+
+    /// The same; where memory is wanting the machine is dropped.
     ///
     /// # Errors
     ///
@@ -62,37 +115,24 @@ impl<T: Editable, M: Machine> State<T, M> {
         requires claims { (M.state machine).claims ≡ [] }
         requires issued { (M.state machine).issued ≡ 0 }
         requires values { length values.items ≡ (M.state machine).groups.q }
-        ensures beginning { IfOk result (λ s. s.beginning ≡ record { groups = (M.state machine).groups; seats = (M.state machine).seats; cap = (M.state machine).cap; values = values.items }) }
+        ensures beginning { IfOk result (λ s. s.beginning ≡ record { groups = (M.state machine).groups; seats = (M.state machine).seats; cap = (M.state machine).cap; values = values.items; watched = M.watched machine }) }
         ensures entries { IfOk result (λ s. s.entries ≡ []) }
         ensures taken { IfOk result (λ s. s.taken ≡ replicate (M.state machine).seats nothing) }
     {
-        let seats = machine.seats();
-        let opening = Opening {
-            groups: Snapshot::of(machine.groups()),
-            seats,
-            cap: machine.cap(),
-            values: Snapshot::of(&values),
-        };
-        let taken = vec![in alloc; nothing(); usize::from(seats)]?;
-        let homes = homes_of(alloc, u16::from(seats) + 1, &values)?;
-        let closing = Vec::with_capacity(alloc, homes.len())?;
-        Ok(State {
-            machine,
-            opening,
-            history: History::new(alloc),
-            taken,
-            homes,
-            closing,
-            alloc,
-        })
+        match State::new_over(alloc, machine, values) {
+            Ok(state) => Ok(state),
+            Err((_, e)) => Err(e),
+        }
     }
 
-    /// Lends the machine, which is in the state that the entries tell. What each seat has taken lies within what it holds there.
+    /// Lends the machine, which is in the state that the entries tell. What each seat has taken lies within what it holds there. Those who
+    /// watch it have been told just the steps of the entries.
     pub fn machine(&self) -> &M
         ensures state { M.state result.now ≡ lock_of self.now }
         ensures taken { AreTaken (lock_of self.now).claims self.now.beginning.seats self.now.taken }
+        ensures told { HaveBeenTold self.now.beginning self.now.entries (M.watched result.now) }
     {
-        &self.machine
+        &self.all.machine
     }
 
     /// Lends the history, which is lawful from the beginning. The beginning has a value for each resource.
@@ -101,14 +141,14 @@ impl<T: Editable, M: Machine> State<T, M> {
         ensures lawful { IsLawfulFrom T.after T.taken T.number self.now.beginning self.now.entries }
         ensures values { length self.now.beginning.values ≡ self.now.beginning.groups.q }
     {
-        &self.history
+        &self.all.history
     }
 
     /// Whether nothing of the seat is pending: it has no request, or that holds something and no ask of it is pending.
     pub fn ready(&self, seat: u8) -> bool
         ensures { result ≡ is_ready (lock_of self.now) seat }
     {
-        !self.machine.pending(seat)
+        !self.all.machine.pending(seat)
     }
 
     /// A seat issues a request. The history gets room for all that follows of it but asks.
@@ -123,7 +163,7 @@ impl<T: Editable, M: Machine> State<T, M> {
         ensures ok { OnOk result (self.new.entries ≡ self.old.entries ++ record { event = Issue seat request; acts = [] } ∷ []) }
         ensures err { OnErr result (self.new ≡ self.old) }
     {
-        if self.machine.issued() >= MOST_ISSUES {
+        if self.all.machine.issued() >= MOST_ISSUES {
             return Err(AllocError);
         }
         self.add(Event::Issue { seat, request })
@@ -155,10 +195,11 @@ impl<T: Editable, M: Machine> State<T, M> {
         ensures ok { OnOk result (self.new.entries ≡ self.old.entries ++ record { event = event; acts = [] } ∷ []) }
         ensures err { OnErr result (self.new ≡ self.old) }
     {
-        self.history
-            .reserve(2 * usize::from(self.machine.seats()) + 1)?;
-        let acts = Vec::new(self.alloc);
-        keep(&mut self.machine, &mut self.history, &event, acts);
+        let all = &mut *self.all;
+        all.history
+            .reserve(2 * usize::from(all.machine.seats()) + 1)?;
+        let acts = Vec::new(all.alloc);
+        keep(&mut all.machine, &mut all.history, &event, acts);
         Ok(())
     }
 
@@ -173,13 +214,14 @@ impl<T: Editable, M: Machine> State<T, M> {
         ensures lent { IsLentNow T.after self.old (holds_of (lock_of self.old).claims seat) into.new }
         ensures room { (into.new.reads_room ≡ into.old.reads_room) × (into.new.writes_room ≡ into.old.writes_room) }
     {
-        let granted = self.machine.granted(seat);
-        let before = self.taken[usize::from(seat)];
+        let all = &mut *self.all;
+        let granted = all.machine.granted(seat);
+        let before = all.taken[usize::from(seat)];
         let reads = granted.reads.minus(before.reads);
         let writes = granted.writes.minus(before.writes);
-        take_reads(&mut self.homes, &mut into.reads, reads);
-        take_writes(&mut self.homes, &mut into.writes, writes, self.alloc);
-        self.taken[usize::from(seat)] = granted;
+        take_reads(&mut all.homes, &mut into.reads, reads);
+        take_writes(&mut all.homes, &mut into.writes, writes, all.alloc);
+        all.taken[usize::from(seat)] = granted;
     }
 
     /// Ends the section of the seat: the history keeps its acts, and what it has taken comes home, what it has edited with the
@@ -215,11 +257,34 @@ impl<T: Editable, M: Machine> State<T, M> {
         ensures entries { self.new.entries ≡ self.old.entries ++ record { event = event; acts = acts.items } ∷ [] }
         ensures taken { self.new.taken ≡ slice_set self.old.taken seat nothing }
     {
-        keep(&mut self.machine, &mut self.history, &event, acts);
+        let all = &mut *self.all;
+        keep(&mut all.machine, &mut all.history, &event, acts);
         let Lent { reads, writes } = back;
-        give_reads(&mut self.homes, reads);
-        give_writes(&mut self.homes, writes);
-        self.taken[usize::from(seat)] = nothing();
+        give_reads(&mut all.homes, reads);
+        give_writes(&mut all.homes, writes);
+        all.taken[usize::from(seat)] = nothing();
+    }
+
+    /// Takes the state apart while no request is incomplete: the history, a share of each value, and the machine. No memory is taken.
+    pub fn into_whole(self) -> (History<T::Edit>, Vec<Arc<T, Global>>, M)
+        requires { (seat : ℕ) → has_request (lock_of self).claims seat ≡ false }
+        ensures entries { result.0.entries ≡ self.entries }
+        ensures lawful { IsLawfulFrom T.after T.taken T.number self.beginning self.entries }
+        ensures count { length result.1.items ≡ self.beginning.groups.q }
+        ensures values { (l : ℕ) (opening : T) → slice_get self.beginning.values l ≡ Some opening → slice_get (map arc_value result.1.items) l ≡ Some (value_now T.after self l opening) }
+        ensures told { HaveBeenTold self.beginning self.entries (M.watched result.2) }
+    {
+        let State { all } = self;
+        let Parts {
+            machine,
+            opening: _,
+            history,
+            taken: _,
+            homes,
+            closing,
+            alloc: _,
+        } = Box::into_inner(all);
+        (history, one_of_each(homes, closing), machine)
     }
 
     /// Takes the state apart while no request is incomplete: the history, and a share of each value. No memory is taken.
@@ -230,17 +295,23 @@ impl<T: Editable, M: Machine> State<T, M> {
         ensures count { length result.1.items ≡ self.beginning.groups.q }
         ensures values { (l : ℕ) (opening : T) → slice_get self.beginning.values l ≡ Some opening → slice_get (map arc_value result.1.items) l ≡ Some (value_now T.after self l opening) }
     {
-        let State {
-            machine: _,
-            opening: _,
-            history,
-            taken: _,
-            homes,
-            closing,
-            alloc: _,
-        } = self;
-        (history, one_of_each(homes, closing))
+        let (history, values, _) = self.into_whole();
+        (history, values)
     }
+}
+
+// What a state has beside its machine and its history: nothing that is taken, the homes of the values, and room for a share of each.
+type Room<T> = (Vec<Granted>, Vec<Shares<T>>, Vec<Arc<T, Global>>);
+
+fn room_of<T: Editable>(alloc: Global, seats: u8, values: &[T]) -> Result<Room<T>, AllocError>
+    ensures taken { IfOk result (λ r. r.0.items ≡ replicate seats nothing) }
+    ensures homes { IfOk result (λ r. r.1.items ≡ map (whole (seats + 1)) values.now) }
+    ensures closing { IfOk result (λ r. (r.2.items ≡ []) × (length r.1.items ≤ vec_capacity r.2)) }
+{
+    let taken = vec![in alloc; nothing(); usize::from(seats)]?;
+    let homes = homes_of(alloc, u16::from(seats) + 1, values)?;
+    let closing = Vec::with_capacity(alloc, homes.len())?;
+    Ok((taken, homes, closing))
 }
 
 // The most requests that may be issued. After these there is no stamp for another.

@@ -1,2 +1,4 @@
 pub mod Weights
 pub mod Seen
+pub mod Codes
+pub mod Laws

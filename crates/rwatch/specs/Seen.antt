@@ -1,5 +1,5 @@
 -- What contracts see of a watcher, and what it becomes by what it is told.
-use Rattle.std.specs.Prelude.{ℕ, ◌-◌, nat_lt, List, [], ◌∷◌, ◌++◌, fold, Option, Some, None, slice_get, slice_index_or, if◌then◌else◌}
+use Rattle.std.specs.Prelude.{ℕ, ◌-◌, nat_lt, List, [], ◌∷◌, ◌++◌, fold, map, Option, Some, None, option_map, slice_get, slice_index_or, if◌then◌else◌}
 use Rattle.rclaim.specs.Changes.{ChangeLists}
 use Rattle.rclaim.specs.declared.event.Event.{Event}
 use Rattle.rwatch.specs.Weights.{count_after}
@@ -35,6 +35,14 @@ told event changes w = record {
 -- a watcher that was told some steps in order
 abbrev pub told_all : List (Event × ChangeLists) → Seen → Seen
 told_all steps w = fold (λ v (step : Event × ChangeLists). told step.0 step.1 v) w steps
+
+-- those who watch, if there are any, after a step
+abbrev pub watched_next : Event → ChangeLists → Option (List Seen) → Option (List Seen)
+watched_next event changes watched = option_map (map (told event changes)) watched
+
+-- and after some steps in order
+abbrev pub watched_after : List (Event × ChangeLists) → Option (List Seen) → Option (List Seen)
+watched_after steps watched = option_map (map (told_all steps)) watched
 
 -- the event with a number, counted from 0, of those that are kept
 abbrev pub event_at : Option (List Event) → ℕ → Option Event

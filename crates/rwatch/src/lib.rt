@@ -6,6 +6,7 @@
 
 mod counter;
 mod kinds;
+pub mod laws;
 mod recorder;
 mod watcher;
 mod watchers;

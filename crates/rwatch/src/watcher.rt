@@ -1,5 +1,5 @@
 // What a watcher is.
-ghost use Rattle.std.specs.Prelude.{◌≡◌, ◌<◌, List, map, length};
+ghost use Rattle.std.specs.Prelude.{◌≡◌, ◌<◌, List, [], map, length};
 ghost use Rattle.rwatch.specs.Seen.{Seen, told, event_at, watcher_at};
 
 use crate::WatchKind;
@@ -27,14 +27,19 @@ pub trait Watcher: Drop {
         ensures { seen self.new ≡ told event.now changes.now (seen self.old) };
 }
 
-/// All that are told the steps of a lock together.
-pub trait Audience {
+/// All that are told the steps of a lock together. They may be dropped at any time, and moved to another thread.
+pub trait Audience: Drop + Send {
     /// What each of them has been told, in order.
     ghost all: { Self → List Seen };
 
     /// Tells each of them a step, in order. No memory is taken.
     fn tell(&mut self, event: &Event, changes: &Changes)
         ensures { all self.new ≡ map (told event.now changes.now) (all self.old) };
+
+    /// Takes all of them out; nobody is left then. No memory is taken.
+    fn take(&mut self) -> Self
+        ensures taken { all result ≡ all self.old }
+        ensures left { all self.new ≡ [] };
 
     /// How many there are.
     fn count(&self) -> usize

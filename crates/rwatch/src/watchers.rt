@@ -4,6 +4,7 @@ ghost use Rattle.rwatch.specs.Seen.{Seen, told, event_at, watcher_at};
 
 use crate::{Audience, WatchKind, Watcher};
 use rclaim::{Changes, Event};
+use std::mem;
 
 /// Watchers that are told together, in order. The boxes are the caller's.
 #[derive(Drop)]
@@ -98,6 +99,13 @@ impl Audience for Watchers {
 
     fn tell(&mut self, event: &Event, changes: &Changes) {
         self.tell_all(event, changes);
+    }
+
+    fn take(&mut self) -> Watchers {
+        let alloc = *self.list.allocator();
+        Watchers {
+            list: mem::replace(&mut self.list, Vec::new(alloc)),
+        }
     }
 
     fn count(&self) -> usize {

@@ -176,11 +176,11 @@ fn two_passes_on_two_threads(rt: HostRuntime) -> Result<(), Fail> {
 
 #[test]
 fn many_passes_on_four_threads(rt: HostRuntime) -> Result<(), Fail> {
-    let (gate, passes) = Gate::new(rt.alloc(), Roll::new(rt.alloc(), 9), SEATS)?;
+    let (gate, passes) = Gate::new(rt.alloc(), Roll::new(rt.alloc(), 9), SEATS + 1)?;
     let passes = sign_in_four(&rt, &gate, passes, 100)?;
-    let roll = closed(&rt, gate, passes, SEATS);
-    assert!(rt; roll.day == 9 && roll.signed.len() == 100 * usize::from(SEATS));
-    for pass in 0..SEATS {
+    let roll = closed(&rt, gate, passes, SEATS + 1);
+    assert!(rt; roll.day == 9 && roll.signed.len() == 100 * usize::from(SEATS + 1));
+    for pass in 0..=SEATS {
         assert!(rt; signed_in_order(&rt, &roll, pass) == 100);
     }
     Ok(())

@@ -4,7 +4,7 @@ ghost use Rattle.rtrace_form.specs.Written.{MayBeWritten};
 ghost use Rattle.rtrace_write.specs.Report.{told_by, IsOverResources, HasItsLedgers};
 
 use io_ends::{MemSink, MemSource};
-use rrun::{NoPace, run_script};
+use rrun::{NoPace, run_all, run_script};
 use rscript::read_script;
 use rtrace::audit_stream;
 use rtrace_write::{Report, write_report};
@@ -206,5 +206,42 @@ fn an_audit_accepts_the_run_of_a_ring(rt: HostRuntime) -> Result<(), Fail> {
     push_ring(&mut text)?;
     let right = runs_right(&rt, rt.alloc(), text.as_slice());
     assert!(rt; right);
+    Ok(())
+}
+
+// A script of two tasks that each add to the same resource, one hundred times.
+fn push_adding(text: &mut Vec<u8>) -> Result<(), AllocError> {
+    text.extend_from_slice(b"rnlp,1\nresource,a\n")?;
+    let adding = "write,a,1\nadd,a,1\nfinish\n";
+    push_task(text, "t1", adding, 100)?;
+    push_task(text, "t2", adding, 100)?;
+    text.extend_from_slice(b"end\n")
+}
+
+// Whether a run stops none of two tasks, its report has so many entries and edits, and an audit accepts it; None where there was no memory.
+fn runs_all<R: Threads + Wait + Sync>(
+    rt: &R,
+    alloc: Global,
+    text: &[u8],
+    entries: u64,
+    edits: &[u64],
+) -> Option<bool> {
+    let Ok(script) = read_script(alloc, text) else {
+        return None;
+    };
+    let Ok(run) = run_all(rt, alloc, &script, &NoPace) else {
+        return None;
+    };
+    let none = run.stopped.len() == 2 && run.stopped.iter().all(|stopped| !*stopped);
+    let added = has_added(&run.report, entries as usize, edits);
+    Some(none && added && audited(alloc, &run.report) == Some(entries))
+}
+
+#[test]
+fn a_run_that_finds_memory_stops_no_task(rt: HostRuntime) -> Result<(), Fail> {
+    let mut text = Vec::new(rt.alloc());
+    push_adding(&mut text)?;
+    let all = runs_all(&rt, rt.alloc(), text.as_slice(), 400, &[200]);
+    assert!(rt; all == Some(true));
     Ok(())
 }

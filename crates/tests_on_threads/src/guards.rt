@@ -45,7 +45,7 @@ fn read_behind<R: Wait, M: Machine>(
         Ok(early) => (guard.discard(rt), early.discard(rt), None),
         Err(wait) => {
             let (writer, _) = spent(rt, alloc, lock, group, guard, keep);
-            let (guard, early) = wait_to_read(rt, lock, wait.rest(), group);
+            let (guard, early) = wait_to_read(rt, lock, wait.rest(rt), group);
             let sum = sum_of(&guard, group);
             (writer, guard.finish(rt), Some((sum, early)))
         }

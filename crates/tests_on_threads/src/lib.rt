@@ -10,6 +10,8 @@ mod looks;
 #[cfg(test)]
 mod nesting;
 #[cfg(test)]
+mod rationed;
+#[cfg(test)]
 mod refusals;
 #[cfg(test)]
 mod rising;

@@ -80,7 +80,7 @@ pub fn wait_to_read<'a, R: Wait, M: Machine>(
         match look_to_read(rt, lock, waiting, group) {
             Ok(guard) => return (guard, early),
             Err(next) => {
-                waiting = next.rest();
+                waiting = next.rest(rt);
                 early = early.saturating_add(1);
             }
         }

@@ -1,4 +1,4 @@
-use Rattle.std.proofs.Common.{◌≡◌, ◌<◌, ◌≤◌, refl, sym, ap, subst, ◌∙◌}
+use Rattle.std.proofs.Common.{◌≡◌, ◌<◌, ◌≤◌, refl, sym, ap, subst, ◌∙◌, arith}
 use Rattle.std.proofs.lemmas.Option.{get_or_from_slice_get}
 use Rattle.rlock.specs.Known.{Site}
 use Rattle.rstate.specs.Histories.{Beginning}
@@ -17,7 +17,8 @@ returns-in-Ok-clause-seats g c = λ k d less.
         began = c.in_ok-state.state.beginning;
         opening = refl;
         there = subst (λ n. k < n) (sym seats) below;
-        all = seats ∙ sym c.in-Ok.ensures.count.0 ∙ ap (λ (site : Site). site.passes) (sym c.new-gate.ensures);
+        all = seats ∙ ap (λ (site : Site). site.seats) (sym c.new-gate.ensures);
+        within = subst (λ (site : Site). site.seats ≤ site.passes) (sym c.new-gate.ensures) (subst (λ n. c.args.seats ≤ n) (sym c.in-Ok.ensures.count.0) (omega arith));
         enough = subst (λ (b : Beginning V). b.seats ≤ b.cap) (sym c.in_ok-state.ensures.beginning) (subst (λ n. n ≤ (g.M.Machine.state c.args.machine).cap) c.requires.seats c.requires.cap);
       },
       refl,

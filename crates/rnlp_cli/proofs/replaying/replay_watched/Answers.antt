@@ -15,7 +15,7 @@ pub returns-in-Err-Bad-clause-watched : goal.returns-in-Err-Bad-clause-watched
 returns-in-Err-Bad-clause-watched g c = told_watched _ _ _ _ _ _ _ (g.A.Audience.all c.args.audience.now) c.refuse.result c.refuse.ensures.written
 
 pub report-requires : goal.report-requires
-report-requires g c = c.in-Ok.ensures.made.3.accepted
+report-requires g c = (search, c.in-Ok.ensures.made.3.accepted)
 
 pub returns-in-Ok-clause-answer : goal.returns-in-Ok-clause-answer
 returns-in-Ok-clause-answer g c =

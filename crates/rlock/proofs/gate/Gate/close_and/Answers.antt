@@ -2,7 +2,7 @@ use Rattle.std.proofs.Common.{◌≡◌, ℕ, ◌<◌, ap, subst, ⊎_elim}
 use Rattle.std.specs.Prelude.{Any}
 use Rattle.std.proofs.lemmas.List.Elements.{All-get_or, All-weaker}
 use Rattle.rlock.specs.declared.view.Mode.TheVariants.{Idle}
-use Rattle.rlock.specs.Known.{Known, Site, IsTrueOf}
+use Rattle.rlock.specs.Known.{Known, GateSite, IsTrueOf}
 use Rattle.rlock.specs.Views.{known_from, times, numbers_of}
 use Rattle.rlock.specs.Covering.{Covers}
 use Rattle.rlock.proofs.Passes.{covers_itself}
@@ -16,7 +16,7 @@ last_state-requires-clause-all g c = λ n low. let p = c.last.inside in let numb
     ⊎_elim (λ (a : Any (λ (k : Known g.row.S.Denot g.row.S-Opening.Denot g.row.S-Entry.Denot). k.number ≡ n) c.args.passes.items). let (i, k, inside, is, e) = a in
     has k e (subst (Covers number stays v) is (All-get_or (Covers number stays v) c.args.passes.items i k inside c.taken_in-place.ensures.passes)))
     (λ (e : c.args.last.number ≡ n). has c.args.last e of_last)
-    (c.requires.all n (subst (λ (m : ℕ). n < m) (ap (λ (z : Site). z.passes) c.self.view_is) low))
+    (c.requires.all n (subst (λ (m : ℕ). n < m) (ap (λ (z : GateSite). z.passes) c.self.view_is) low))
 
 pub returns-clause-passes : goal.returns-clause-passes
 returns-clause-passes g c = let number = g.S.Kept.number in let stays = g.S.Kept.stays in

@@ -1,0 +1,13 @@
+use Rattle.std.proofs.Common.{◌≡◌, [], length, sym, ap, ◌∙◌}
+use Rattle.rset.specs.Sets.{Set, rising}
+use Rattle.rset.proofs.SetLemmas.{length_rising}
+use Rattle.rguard.specs.LentSections.{writes_at_most}
+use Rattle.rguard.proofs.pending.rooms.Goals as goal
+
+pub returns-clause-lent : goal.returns-clause-lent
+returns-clause-lent g c =
+    let reads : c.from-reads.result ≡ length (rising c.args.request.now.reads)
+    = c.from-reads.ensures ∙ c.len.ensures.value ∙ sym (length_rising c.reads.result c.len.ensures.within) ∙ ap (λ (s : Set). length (rising s)) c.reads.ensures.value in
+    let writes : c.from-writes.result ≡ length (rising (writes_at_most c.args.request.now))
+    = c.from-writes.ensures ∙ c.len-2.ensures.value ∙ sym (length_rising c.writes_at_most.result c.len-2.ensures.within) ∙ ap (λ (s : Set). length (rising s)) c.writes_at_most.ensures in
+    c.in_ok-lent.ensures ∙ (λ i. record { reads = []; writes = []; reads_room = reads i; writes_room = writes i })

@@ -1,0 +1,12 @@
+-- The steps that those are told who watch a lock.
+use Rattle.std.specs.Prelude.{List, [], ◌∷◌}
+use Rattle.rclaim.specs.Changes.{ChangeLists}
+use Rattle.rclaim.specs.declared.event.Event.{Event}
+use Rattle.rmodel.specs.Changes.{changes_between}
+use Rattle.rmodel.specs.State.{LockState}
+use Rattle.rmodel.specs.Steps.{next}
+
+-- the steps that events make: each event, and what it changes
+abbrev pub steps_of : LockState → List Event → List (Event × ChangeLists)
+steps_of s [] = []
+steps_of s (e ∷ es) = (e, changes_between s (next s e)) ∷ steps_of (next s e) es

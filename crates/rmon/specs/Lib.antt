@@ -1,0 +1,10 @@
+pub mod Feeding
+pub mod Fitting
+pub mod Fronts
+pub mod Growing
+pub mod Images
+pub mod Known
+pub mod Looks
+pub mod Opened
+pub mod Rules
+pub mod Watching

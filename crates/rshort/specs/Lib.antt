@@ -1,0 +1,4 @@
+pub mod Cut
+pub mod Steps
+pub mod Cutters
+pub mod Closed
