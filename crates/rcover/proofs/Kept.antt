@@ -21,18 +21,18 @@ use Rattle.rmodel.proofs.ListFacts.{false_from}
 use Rattle.std.proofs.lemmas.Bool.{and_parts}
 use Rattle.rcover_laws.proofs.runs.Moments.{are_one}
 use Rattle.rclaim.specs.declared.claim.Claim.{Claim}
-use Rattle.rcover.specs.declared.section.Section.{Section}
+use Rattle.rcover.specs.declared.section.CoverSection.{CoverSection}
 use Rattle.rcover.specs.declared.section.Lengths.{Lengths}
 use Rattle.rcover.specs.Kept.{claims_of, claim_if, length_by, section_of, HaveLengths, AreOf}
 use Rattle.rmodel.specs.Laws.{keeps_out}
 use Rattle.rcover_laws.specs.Sections.{Sections}
 use Rattle.rcover.specs.Tracked.{keeper_at, read_closed_if}
 
-pub any_claims : (p : Claim → Bool) (ss : List Section) → list_any (λ s. p s.claim) ss ≡ list_any p (claims_of ss)
+pub any_claims : (p : Claim → Bool) (ss : List CoverSection) → list_any (λ s. p s.claim) ss ≡ list_any p (claims_of ss)
 any_claims p [] = refl
 any_claims p (s ∷ ss) = ap (λ b. p s.claim || b) (any_claims p ss)
 
-pub length_claims : (ss : List Section) → length (claims_of ss) ≡ length ss
+pub length_claims : (ss : List CoverSection) → length (claims_of ss) ≡ length ss
 length_claims [] = refl
 length_claims (s ∷ ss) = ap (λ n. suc n) (length_claims ss)
 
@@ -55,7 +55,7 @@ least_has by len c own (x ∷ xs) are =
 -- ---- one element of a list is exchanged
 
 -- the sum of the lengths of sections that have theirs
-pub sum_claims : (len : Claim → ℕ) (ss : List Section) → HaveLengths len ss → sum_by (λ s. s.len) ss ≡ sum_by len (claims_of ss)
+pub sum_claims : (len : Claim → ℕ) (ss : List CoverSection) → HaveLengths len ss → sum_by (λ s. s.len) ss ≡ sum_by len (claims_of ss)
 sum_claims len [] have = refl
 sum_claims len (s ∷ ss) have = sum_by-cons (λ s. s.len) s ss ∙ (λ i. have.0 i + sum_claims len ss have.1 i) ∙ sym (sum_by-cons len s.claim (claims_of ss))
 

@@ -5,10 +5,10 @@ use Rattle.rset.specs.declared.TheConstants.{SEATS}
 use Rattle.rclaim.specs.declared.claim.Claim.{Claim}
 use Rattle.rmodel.specs.Claims.{is_upgrade}
 use Rattle.rmodel.specs.declared.claimed.Claimed.{Claimed}
-use Rattle.rcover.specs.declared.section.Section.{Section}
+use Rattle.rcover.specs.declared.section.CoverSection.{CoverSection}
 use Rattle.rcover.specs.declared.section.Lengths.{Lengths}
 use Rattle.rcover.specs.declared.run.Run.{Run}
-use Rattle.rcover.specs.declared.run.Taken.{Taken}
+use Rattle.rcover.specs.declared.run.FoundRead.{FoundRead}
 use Rattle.rcover.specs.Last.{first_at}
 use Rattle.rcover_laws.specs.Lists.{reads_against}
 use Rattle.std.specs.Option.{option_map}
@@ -18,11 +18,11 @@ use Rattle.rcover_laws.specs.Told.{waits_first, waits_to_rise}
 use Rattle.rcover.specs.Tracked.{kept_by}
 
 -- the claims of sections
-abbrev pub claims_of : List Section → List Claim
+abbrev pub claims_of : List CoverSection → List Claim
 claims_of ss = map (λ s. s.claim) ss
 
 -- the claim of a section that there may be
-abbrev pub claim_if : Option Section → Option Claim
+abbrev pub claim_if : Option CoverSection → Option Claim
 claim_if o = option_map (λ s. s.claim) o
 
 -- what a run keeps of a wait
@@ -38,15 +38,15 @@ abbrev pub length_by : List Lengths → Claim → ℕ
 length_by ls c = length_if (slice_get ls c.seat) c
 
 -- the section of a claim, with its length
-abbrev pub section_of : List Lengths → Claim → Section
+abbrev pub section_of : List Lengths → Claim → CoverSection
 section_of ls c = record { claim = c; len = length_by ls c }
 
 -- what was found at a moment for claims that read and write this: the section of the read that is taken for them, if there is one
-abbrev pub IsTaken : List Lengths → Moment → Taken → Type 0
+abbrev pub IsTaken : List Lengths → Moment → FoundRead → Type 0
 IsTaken ls m t = (c : Claim) → c.reads ≡ t.reads → c.writes ≡ t.writes → t.section ≡ option_map (section_of ls) (first_at (reads_against c) m)
 
 -- sections have their lengths
-abbrev pub HaveLengths : (Claim → ℕ) → List Section → Type 0
+abbrev pub HaveLengths : (Claim → ℕ) → List CoverSection → Type 0
 HaveLengths len ss = AllByRecursion (λ s. s.len ≡ len s.claim) ss
 
 -- a run has its room: as many places of each sort as there are seats

@@ -20,8 +20,8 @@ ghost use Rattle.rcover.specs.Tracked.{no_sections, gone_on};
 
 use crate::lines::Head;
 use crate::rising::still_rises;
-use crate::run::{Run, Taken, clear, keep_by, none_taken};
-use crate::section::{Lengths, Section, section_of};
+use crate::run::{FoundRead, Run, clear, keep_by, none_taken};
+use crate::section::{CoverSection, Lengths, section_of};
 use crate::stood::has_stood;
 use crate::waiting_reads::reads_stay;
 use rclaim::Event;
@@ -74,11 +74,11 @@ fn may_wait(rising: ResourceSet, x: &Claimed) -> bool
 #[inline(always)]
 fn keep_wait(
     runs: &mut [Run],
-    taken: &mut Taken,
+    taken: &mut FoundRead,
     event: &Event,
     lengths: &[Lengths],
     lost: &Head,
-    section: &Section,
+    section: &CoverSection,
     moved: ResourceSet,
     risen: ResourceSet,
     heads: &[Head],
@@ -123,12 +123,12 @@ fn keep_wait(
 #[inline(always)]
 fn keep_due(
     runs: &mut [Run],
-    taken: &mut Taken,
+    taken: &mut FoundRead,
     rising: ResourceSet,
     event: &Event,
     lengths: &[Lengths],
     lost: &Head,
-    section: &Section,
+    section: &CoverSection,
     moved: ResourceSet,
     risen: ResourceSet,
     heads: &[Head],
@@ -165,14 +165,14 @@ fn keep_due(
 /// Keeps of the wait of a claim at the next moment what is due there, if something is and it waits.
 fn keep_at(
     runs: &mut [Run],
-    taken: &mut Taken,
+    taken: &mut FoundRead,
     looked: ResourceSet,
     rising: ResourceSet,
     event: &Event,
     written: ResourceSet,
     lengths: &[Lengths],
     lost: &Head,
-    section: &Section,
+    section: &CoverSection,
     moved: ResourceSet,
     risen: ResourceSet,
     heads: &[Head],

@@ -16,10 +16,10 @@ mod section;
 mod seen;
 mod shares;
 mod stood;
-mod taken;
 mod turns;
 mod waiting;
 mod waiting_reads;
+mod writes_told;
 
 pub use covers::Covers;
 pub use following::Following;

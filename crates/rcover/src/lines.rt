@@ -12,7 +12,7 @@ ghost use Rattle.rcover.specs.Found.{AreBefore, IsFound};
 ghost use Rattle.rcover.specs.Heads.{StayWithoutWrite};
 ghost use Rattle.rcover.specs.Shares.{is_write_of};
 
-use crate::taken::is_write_told;
+use crate::writes_told::is_write_told;
 use rclaim::{Claim, Kind, StatusChange};
 use rmodel::Claimed;
 use rset::{ResourceSet, SEATS};

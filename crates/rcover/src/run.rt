@@ -15,7 +15,7 @@ ghost use Rattle.rcover.specs.Shown.{closed_by};
 ghost use Rattle.rcover.specs.Tracked.{no_sections, keeper_at, read_closed_if, gone_on};
 
 use crate::lines::Head;
-use crate::section::{Lengths, Section, add_found, push_section, section_if};
+use crate::section::{CoverSection, Lengths, add_found, push_section, section_if};
 use crate::stood::has_stood;
 use rclaim::{Claim, Event};
 use rcover_laws::{Wanted, is_claim, is_wanted, keeper_at};
@@ -26,20 +26,20 @@ use rset::ResourceSet;
 #[derive(Drop)]
 pub struct Run {
     /// Those that count as reads.
-    pub reads: Vec<Section>,
+    pub reads: Vec<CoverSection>,
     /// Those that count as writes.
-    pub writes: Vec<Section>,
+    pub writes: Vec<CoverSection>,
 }
 
 /// The read that was taken at the last moment for claims that read and write this, with its length. It is looked for once.
 #[derive(Clone, Copy)]
-pub struct Taken {
+pub struct FoundRead {
     /// What those claims read.
     pub reads: ResourceSet,
     /// What they write.
     pub writes: ResourceSet,
     /// None, where no read was.
-    pub section: Option<Section>,
+    pub section: Option<CoverSection>,
 }
 
 /// The claim of least stamp that is wanted and satisfied at a moment.
@@ -57,7 +57,7 @@ pub(crate) fn section_at(
     lengths: &[Lengths],
     wanted: &Wanted,
     moment: &[Claimed],
-) -> Option<Section>
+) -> Option<CoverSection>
     ensures section { result ≡ option_map (section_of lengths.now) (first_at (is_wanted wanted.now) moment.now) }
     ensures claim { claim_if result ≡ first_at (is_wanted wanted.now) moment.now }
     ensures lengths { (len : Claim → ℕ) → AreOf (length_by lengths.now) len moment.now → IfSome result (λ s. s.len ≡ len s.claim) }
@@ -66,10 +66,10 @@ pub(crate) fn section_at(
 }
 
 /// What is taken for a claim that reads and writes nothing: none.
-pub fn none_taken() -> Taken
+pub fn none_taken() -> FoundRead
     ensures { (ls : List Lengths) (m : Moment) → IsTaken ls m result }
 {
-    Taken {
+    FoundRead {
         reads: ResourceSet::empty(),
         writes: ResourceSet::empty(),
         section: None,
@@ -77,11 +77,11 @@ pub fn none_taken() -> Taken
 }
 
 /// What is taken at a moment for claims that read and write what this one does.
-fn taken_at(lengths: &[Lengths], c: &Claim, moment: &[Claimed]) -> Taken
+fn taken_at(lengths: &[Lengths], c: &Claim, moment: &[Claimed]) -> FoundRead
     ensures taken { IsTaken lengths.now moment.now result }
     ensures section { result.section ≡ option_map (section_of lengths.now) (first_at (reads_against c.now) moment.now) }
 {
-    Taken {
+    FoundRead {
         reads: c.reads,
         writes: c.writes,
         section: section_at(lengths, &Wanted::ReadAgainst(*c), moment),
@@ -89,14 +89,14 @@ fn taken_at(lengths: &[Lengths], c: &Claim, moment: &[Claimed]) -> Taken
 }
 
 /// Whether what is taken for a claim was found already: for one that reads and writes the same.
-fn is_for(taken: &Taken, c: &Claim) -> bool
+fn is_for(taken: &FoundRead, c: &Claim) -> bool
     ensures { IsTrue result ↔ ((c.now.reads ≡ taken.now.reads) × (c.now.writes ≡ taken.now.writes)) }
 {
     c.reads == taken.reads && c.writes == taken.writes
 }
 
 /// Finds what is taken for a claim at a moment, if that was not found already.
-fn find_taken(taken: &mut Taken, lengths: &[Lengths], c: &Claim, moment: &[Claimed])
+fn find_taken(taken: &mut FoundRead, lengths: &[Lengths], c: &Claim, moment: &[Claimed])
     requires { IsTaken lengths.now moment.now taken.old }
     ensures taken { IsTaken lengths.now moment.now taken.new }
     ensures section { taken.new.section ≡ option_map (section_of lengths.now) (first_at (reads_against c.now) moment.now) }
@@ -109,8 +109,8 @@ fn find_taken(taken: &mut Taken, lengths: &[Lengths], c: &Claim, moment: &[Claim
 
 /// Keeps the read that is taken for a least claim at the last moment.
 fn keep_taken(
-    reads: &mut Vec<Section>,
-    taken: &mut Taken,
+    reads: &mut Vec<CoverSection>,
+    taken: &mut FoundRead,
     lengths: &[Lengths],
     least: &Claim,
     last: &[Claimed],
@@ -134,7 +134,7 @@ fn goes_on(least: &Head, next_least: &Head) -> bool
 }
 
 /// Keeps the section of a least claim that was satisfied, if another is the least at the next moment.
-fn keep_section(writes: &mut Vec<Section>, section: &Section, next_least: &Claim)
+fn keep_section(writes: &mut Vec<CoverSection>, section: &CoverSection, next_least: &Claim)
     requires room { length (if is_claim section.now.claim next_least.now then claims_of writes.old.items else claims_of writes.old.items ++ section.now.claim ∷ []) ≤ vec_capacity writes.old }
     ensures claims { claims_of writes.new.items ≡ (if is_claim section.now.claim next_least.now then claims_of writes.old.items else claims_of writes.old.items ++ section.now.claim ∷ []) }
     ensures capacity { vec_capacity writes.new ≡ vec_capacity writes.old }
@@ -152,10 +152,10 @@ fn keep_section(writes: &mut Vec<Section>, section: &Section, next_least: &Claim
 #[inline(always)]
 fn close_lost(
     run: &mut Run,
-    taken: &mut Taken,
+    taken: &mut FoundRead,
     lengths: &[Lengths],
     lost: &Head,
-    section: &Section,
+    section: &CoverSection,
     next_least: &Head,
     last: &[Claimed],
 )
@@ -184,10 +184,10 @@ fn close_lost(
 #[inline(always)]
 fn go_on_write(
     run: &mut Run,
-    taken: &mut Taken,
+    taken: &mut FoundRead,
     lengths: &[Lengths],
     lost: &Head,
-    section: &Section,
+    section: &CoverSection,
     moved: ResourceSet,
     risen: ResourceSet,
     heads: &[Head],
@@ -240,7 +240,7 @@ fn holds_write(c: &Claim, moment: &[Claimed]) -> bool
 
 /// Keeps the read that was taken for the write that keeps a read claim waiting, if that write is satisfied at the next moment.
 fn close_read(
-    reads: &mut Vec<Section>,
+    reads: &mut Vec<CoverSection>,
     lengths: &[Lengths],
     keeper: Option<Claim>,
     last: &[Claimed],
@@ -269,7 +269,7 @@ fn close_read(
 
 /// Keeps the read that was taken for the write that keeps a read claim waiting, if that write is satisfied at the next moment.
 fn close_read_of(
-    reads: &mut Vec<Section>,
+    reads: &mut Vec<CoverSection>,
     lengths: &[Lengths],
     c: &Claim,
     last: &[Claimed],
@@ -290,10 +290,10 @@ fn close_read_of(
 #[inline(always)]
 fn go_on(
     run: &mut Run,
-    taken: &mut Taken,
+    taken: &mut FoundRead,
     lengths: &[Lengths],
     lost: &Head,
-    section: &Section,
+    section: &CoverSection,
     moved: ResourceSet,
     risen: ResourceSet,
     heads: &[Head],
@@ -341,10 +341,10 @@ pub fn clear(run: &mut Run)
 pub fn keep_by(
     run: &mut Run,
     event: &Event,
-    taken: &mut Taken,
+    taken: &mut FoundRead,
     lengths: &[Lengths],
     lost: &Head,
-    section: &Section,
+    section: &CoverSection,
     moved: ResourceSet,
     risen: ResourceSet,
     heads: &[Head],

@@ -6,7 +6,7 @@ ghost use Rattle.rmodel.specs.Claims.{satisfied_by};
 ghost use Rattle.rcover.specs.Lines.{tells_write_of};
 ghost use Rattle.rcover.specs.Quiet.{has_grant};
 
-use crate::taken::is_write_told;
+use crate::writes_told::is_write_told;
 use rclaim::{GrantChange, StatusChange};
 use rset::{ResourceSet, SEATS};
 

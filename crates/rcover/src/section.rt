@@ -14,7 +14,7 @@ use rmodel::is_upgrade;
 
 /// A section of a wait, with its length.
 #[derive(Clone, Copy)]
-pub struct Section {
+pub struct CoverSection {
     /// The claim whose section it is.
     pub claim: Claim,
     /// How long it is, in units.
@@ -47,24 +47,24 @@ pub(crate) fn length_by(lengths: &[Lengths], c: &Claim) -> u32
 }
 
 /// Whether the section of a claim is among these.
-fn has_section(sections: &[Section], d: &Claim) -> bool
+fn has_section(sections: &[CoverSection], d: &Claim) -> bool
     ensures { result ≡ list_any (λ s. is_claim s.claim d.now) sections.now }
 {
     sections.iter().any(|s| is_claim(&s.claim, d))
 }
 
 /// The section of a claim, with its length.
-pub fn section_of(lengths: &[Lengths], d: &Claim) -> Section
+pub fn section_of(lengths: &[Lengths], d: &Claim) -> CoverSection
     ensures { result ≡ section_of lengths.now d.now }
 {
-    Section {
+    CoverSection {
         claim: *d,
         len: length_by(lengths, d),
     }
 }
 
 /// The section of the claim that there may be.
-pub(crate) fn section_if(lengths: &[Lengths], found: Option<Claim>) -> Option<Section>
+pub(crate) fn section_if(lengths: &[Lengths], found: Option<Claim>) -> Option<CoverSection>
     ensures { result ≡ option_map (section_of lengths.now) found }
 {
     match found {
@@ -74,7 +74,7 @@ pub(crate) fn section_if(lengths: &[Lengths], found: Option<Claim>) -> Option<Se
 }
 
 /// Adds a section.
-pub(crate) fn push_section(sections: &mut Vec<Section>, section: &Section)
+pub(crate) fn push_section(sections: &mut Vec<CoverSection>, section: &CoverSection)
     requires { length sections.old.items < vec_capacity sections.old }
     ensures claims { claims_of sections.new.items ≡ claims_of sections.old.items ++ section.now.claim ∷ [] }
     ensures capacity { vec_capacity sections.new ≡ vec_capacity sections.old }
@@ -84,7 +84,7 @@ pub(crate) fn push_section(sections: &mut Vec<Section>, section: &Section)
 }
 
 /// Adds a section, if it is not there.
-fn add_section(sections: &mut Vec<Section>, section: &Section)
+fn add_section(sections: &mut Vec<CoverSection>, section: &CoverSection)
     requires { length (with_different (claims_of sections.old.items) section.now.claim) ≤ vec_capacity sections.old }
     ensures claims { claims_of sections.new.items ≡ with_different (claims_of sections.old.items) section.now.claim }
     ensures capacity { vec_capacity sections.new ≡ vec_capacity sections.old }
@@ -97,7 +97,7 @@ fn add_section(sections: &mut Vec<Section>, section: &Section)
 }
 
 /// Adds the section that there may be, if it is not there.
-pub(crate) fn add_found(sections: &mut Vec<Section>, found: &Option<Section>)
+pub(crate) fn add_found(sections: &mut Vec<CoverSection>, found: &Option<CoverSection>)
     requires { length (with_option (claims_of sections.old.items) (claim_if found.now)) ≤ vec_capacity sections.old }
     ensures claims { claims_of sections.new.items ≡ with_option (claims_of sections.old.items) (claim_if found.now) }
     ensures capacity { vec_capacity sections.new ≡ vec_capacity sections.old }
@@ -110,7 +110,7 @@ pub(crate) fn add_found(sections: &mut Vec<Section>, found: &Option<Section>)
 }
 
 /// Makes sections a copy of others, in the room that they have.
-pub(crate) fn copy_sections(to: &mut Vec<Section>, from: &[Section])
+pub(crate) fn copy_sections(to: &mut Vec<CoverSection>, from: &[CoverSection])
     requires { length from.now ≤ vec_capacity to.old }
     ensures items { to.new.items ≡ from.now }
     ensures capacity { vec_capacity to.new ≡ vec_capacity to.old }
@@ -122,7 +122,7 @@ pub(crate) fn copy_sections(to: &mut Vec<Section>, from: &[Section])
 }
 
 /// The sum of the lengths of sections.
-pub(crate) fn sum_of(sections: &[Section]) -> u64
+pub(crate) fn sum_of(sections: &[CoverSection]) -> u64
     requires { length sections.now ≤ SEATS }
     ensures value { result ≡ sum_by (λ s. s.len) sections.now }
     ensures bound { result ≤ 2 ^ 40 }

@@ -8,7 +8,7 @@ ghost use Rattle.rmodel.specs.WellFormed.{EachPair, Distinct};
 ghost use Rattle.rmodel.specs.Claims.{satisfied_by};
 ghost use Rattle.rcover.specs.Shares.{no_share, share_of, shares_with, is_write_of, is_written, takes_write, writes_if, TellWrites};
 
-use crate::taken::{is_finish, is_write_told};
+use crate::writes_told::{is_finish, is_write_told};
 use rclaim::{Event, StatusChange};
 use rmodel::Claimed;
 use rset::{ResourceSet, SEATS};

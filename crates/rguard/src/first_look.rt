@@ -6,7 +6,7 @@ ghost use Rattle.rguard.specs.LentSections.{Holds, Waits, HasIssued, room_for};
 
 use crate::counted::CountedGate;
 use crate::section::{Seat, Section};
-use crate::told::told;
+use crate::waking::told;
 use rclaim::Request;
 use rmodel::Machine;
 use rstate::{Lent, State};

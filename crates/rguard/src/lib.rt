@@ -25,8 +25,8 @@ mod rise;
 mod scribe;
 mod section;
 mod section_guard;
-mod told;
 mod turns;
+mod waking;
 mod write;
 
 pub use closing::{Closed, Receipt, close_whole};

@@ -9,7 +9,7 @@ ghost use Rattle.rguard.specs.declared.kind.GuardKind.{GuardKind};
 
 use crate::copies::{Own, edit_own, replace_all, shares_of, value_of, with_copy};
 use crate::counted::CountedGate;
-use crate::told::told;
+use crate::waking::told;
 use rlock::Pass;
 use rmodel::Machine;
 use rstate::{Lent, State};

@@ -9,7 +9,7 @@ ghost use Rattle.rguard.specs.declared.kind.GuardKind.{GuardKind};
 use crate::counted::CountedGate;
 use crate::kind::GuardKind;
 use crate::section::{Seat, Section};
-use crate::told::told;
+use crate::waking::told;
 use rclaim::Request;
 use rmodel::Machine;
 use rset::{RESOURCES, ResourceSet};

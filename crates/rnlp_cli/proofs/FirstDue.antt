@@ -19,7 +19,7 @@ use Rattle.rtrace_form.proofs.facts.Choices.{some_none}
 use Rattle.rtrace_read.specs.Due.{due_list}
 use Rattle.rtrace_replay.specs.Knows.{Knows, StandBehind, changes_in, ended_at, last_ended, past_in}
 use Rattle.rtrace_replay.specs.LineTakes.{StillDue, ledgers_told}
-use Rattle.rtrace_replay.specs.Reading.{Reading}
+use Rattle.rtrace_replay.specs.ReportReader.{ReportReader}
 use Rattle.rtrace_read.proofs.Steps.{events_push}
 use Rattle.rtrace_replay.specs.Names.{names_read}
 use Rattle.rnlp_cli.specs.Due.{as_text, due_text, due_behind, first_due_text}
@@ -45,7 +45,7 @@ is_followed : (P : Following → Type 0) (o : Option Following) (f : Following) 
 is_followed P None f same h = absurd (some_none same)
 is_followed P (Some g) f same h = h
 
-module _ (was now : Reading) (s : SoFar) (h : Knows true was s) (still : StillDue was now) where
+module _ (was now : ReportReader) (s : SoFar) (h : Knows true was s) (still : StillDue was now) where
   -- the texts of what is due behind the latest event: of the changes that the machine had last, and of the waits that this event ended
   abbrev texts_now : List (List ℕ)
   texts_now = due_texts (names_read now) (changes_in now.machine) (last_ended s)

@@ -29,7 +29,7 @@ use Rattle.rmodel.proofs.reaching.Reached.{reached_next}
 use Rattle.rmodel.proofs.reaching.Soundness.{seat_is_idle, same_claims, sound_changed}
 use Rattle.rlock.specs.Known.{entries_by}
 use Rattle.rscript.specs.Statements.{section_next, with_asked, with_risen}
-use Rattle.rscript.specs.declared.section.Section.{Section}
+use Rattle.rscript.specs.declared.section.OpenSection.{OpenSection}
 use Rattle.rscript.specs.declared.statement.Statement.{Statement}
 use Rattle.rscript.specs.declared.statement.Statement.TheVariants as statement
 use Rattle.rrun.specs.Runs.{Told, told_by, run_of, IsRunOf, deeds_next}
@@ -156,7 +156,7 @@ still_some f None = refl
 still_some f (Some x) = refl
 
 -- a request is to finish behind the entries of statements where a section is open behind these
-run_open : (n : ℕ) (deeds : List Statement) (section : Option Section) (statements : List Statement)
+run_open : (n : ℕ) (deeds : List Statement) (section : Option OpenSection) (statements : List Statement)
     → fold (open_next n) (is_some section) (map event_told (run_of n deeds statements)) ≡ is_some (fold section_next section statements)
 run_open n deeds section [] = refl
 run_open n deeds section (statement.Begin r ∷ statements) =

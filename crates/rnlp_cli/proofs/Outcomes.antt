@@ -11,7 +11,7 @@ use Rattle.rtrace_form.specs.declared.fault.Code.{Code}
 use Rattle.rtrace_form.specs.declared.fault.Fault.{Fault}
 use Rattle.rtrace_form.proofs.back.Rows.{spelled_clean}
 use Rattle.rtrace_form.proofs.texts.Records.{rows_unique}
-use Rattle.rscript.specs.declared.code.Code as script_code
+use Rattle.rscript.specs.declared.code.ScriptCode as script_code
 use Rattle.rscript.specs.Scripts.{ScriptFields}
 use Rattle.rscript.specs.Scripts as scripts
 use Rattle.rscript.specs.Texts as scripts_read

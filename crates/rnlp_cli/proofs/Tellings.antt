@@ -13,8 +13,8 @@ use Rattle.rnlp_cli.specs.declared.command.Command.{Command}
 use Rattle.rnlp_cli.specs.declared.command.Command.TheVariants.{Run, Replay, Audit, Bound, Drill}
 use Rattle.rnlp_cli.specs.declared.status.ToolStatus.{ToolStatus}
 use Rattle.rnlp_cli.specs.declared.status.ToolStatus.TheVariants as status
-use Rattle.rnlp_cli.specs.declared.told.Told.{Told}
-use Rattle.rnlp_cli.specs.declared.told.Told.TheVariants as what
+use Rattle.rnlp_cli.specs.declared.explained.Told.{Told}
+use Rattle.rnlp_cli.specs.declared.explained.Told.TheVariants as what
 
 -- an output was written, or memory ran out before
 pub written_tells : (text : List ℕ) (written written_after : Option (List ℕ)) (quiet failed same : Type 0) (behind : Option Told) (asked : Option Command) (left : Option (List ℕ)) (before after : Option Told) (s : ToolStatus)

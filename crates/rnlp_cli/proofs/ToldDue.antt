@@ -11,7 +11,7 @@ use Rattle.rtrace_form.specs.declared.fault.Fault.{Fault}
 use Rattle.rtrace.specs.Coming.{CameWhole}
 use Rattle.rtrace_replay.specs.Knows.{Knows}
 use Rattle.rtrace_replay.specs.LineTakes.{StillDue}
-use Rattle.rtrace_replay.specs.Reading.{Reading}
+use Rattle.rtrace_replay.specs.ReportReader.{ReportReader}
 use Rattle.rtrace_replay.proofs.Still.{same_still}
 use Rattle.rtrace_replay.specs.Names.{names_read}
 use Rattle.rtrace.specs.Collects.{KnowsCount, CountStays}
@@ -19,7 +19,7 @@ use Rattle.rtrace.specs.declared.count.Counting.{Counting}
 use Rattle.rnlp_cli.specs.Due.{IsDueAt, IsDueFor, first_due_text}
 use Rattle.rnlp_cli.specs.Told.{IsFaultTold, told_due, told_fault}
 use Rattle.rnlp_cli.specs.declared.command.Command.TheVariants.{Audit}
-use Rattle.rnlp_cli.specs.declared.told.Told.{Told}
+use Rattle.rnlp_cli.specs.declared.explained.Told.{Told}
 
 left_still : (behind : List Row) (was now : Counting) → IsLeftBy CountStays behind was now → StillDue was.reading now.reading
 left_still [] was now same = same_still was.reading now.reading (ap (λ (c : Counting). c.reading) same)
@@ -31,7 +31,7 @@ longer read said all same h = (h.0, h.1 ∙ ap (λ (front : List (List ℕ)). fr
 
 -- the first line that is due to a reader is due where its report has its fault; so it is where none is
 pub due_at : (bytes : List ℕ) (fault : Fault Code) (counting : Counting) (line : Option (List ℕ)) → StandsAt KnowsCount CountStays bytes fault.line counting
-    → ((was : Reading) (s : SoFar) → Knows true was s → StillDue was counting.reading → first_due_text (names_read counting.reading) s fault.code ≡ line) → IsDueAt bytes fault line
+    → ((was : ReportReader) (s : SoFar) → Knows true was s → StillDue was counting.reading → first_due_text (names_read counting.reading) s fault.code ≡ line) → IsDueAt bytes fault line
 due_at bytes fault counting line at first =
     let said = at.knows.knows in
     let still = left_still at.behind at.was counting at.left in

@@ -11,7 +11,7 @@ use Rattle.rnlp_cli.specs.BoundText.{bounds_text}
 use Rattle.rtrace_write.specs.ErrorLine.{error_line}
 use Rattle.rrun.specs.Report.{ReportFields, told_by}
 use Rattle.rscript.specs.Codes.{code_number}
-use Rattle.rscript.specs.declared.code.Code as script_code
+use Rattle.rscript.specs.declared.code.ScriptCode as script_code
 use Rattle.rscript.specs.Scripts.{ScriptFields}
 use Rattle.rscript.specs.Scripts as scripts
 use Rattle.rscript.specs.Texts as scripts_read

@@ -3,15 +3,15 @@ use Rattle.std.specs.Prelude.{◌≡◌, ℕ, true, false, List, [], ◌∷◌, 
 use Rattle.rtrace_form.specs.Takers.{IsFirstFault}
 use Rattle.rtrace_form.specs.declared.fault.Code.{Code}
 use Rattle.rtrace_form.specs.declared.fault.Fault.{Fault}
-use Rattle.rscript.specs.declared.code.Code as script_code
+use Rattle.rscript.specs.declared.code.ScriptCode as script_code
 use Rattle.rscript.specs.Texts as scripts_read
 use Rattle.rwatch.specs.Seen.{Seen}
 use Rattle.rnlp_cli.specs.declared.command.Command.{Command}
 use Rattle.rnlp_cli.specs.declared.command.Command.TheVariants.{Run, Replay, Audit, Bound, Drill}
 use Rattle.rnlp_cli.specs.declared.status.ToolStatus.{ToolStatus}
 use Rattle.rnlp_cli.specs.declared.status.ToolStatus.TheVariants as status
-use Rattle.rnlp_cli.specs.declared.told.Told.{Told}
-use Rattle.rnlp_cli.specs.declared.told.Told.TheVariants as what
+use Rattle.rnlp_cli.specs.declared.explained.Told.{Told}
+use Rattle.rnlp_cli.specs.declared.explained.Told.TheVariants as what
 use Rattle.rnlp_cli.specs.Due.{IsDueFor}
 
 -- the fault of a list or a report that is told

@@ -10,11 +10,11 @@ ghost use Rattle.rnlp_cli.specs.declared.command.Command.TheVariants.{Audit};
 ghost use Rattle.rtrace.specs.Collects.{KnowsCount};
 
 use crate::command::REPORT_LIMIT;
-use crate::due::expected;
-use crate::refusing_lists::refuse;
+use crate::due_line::expected;
+use crate::explained::Told;
+use crate::list_fault::refuse;
+use crate::output::write_output;
 use crate::status::ToolStatus;
-use crate::told::Told;
-use crate::writing::write_output;
 use io_ends::{Sink, Source};
 use itoa::Buffer;
 use rtrace::{AuditCounts, AuditErr, Counting, count_stream};

@@ -7,11 +7,11 @@ ghost use Rattle.rnlp_cli.specs.Told.{Tells};
 ghost use Rattle.rnlp_cli.specs.Writing.{IsAnswer, IsWritten};
 ghost use Rattle.rnlp_cli.specs.declared.command.Command.TheVariants.{Bound};
 
-use crate::refusing_scripts::refuse_script;
+use crate::bound_lines::bound_text;
+use crate::explained::Told;
+use crate::output::write_output;
+use crate::script_fault::refuse_script;
 use crate::status::ToolStatus;
-use crate::text::bound_text;
-use crate::told::Told;
-use crate::writing::write_output;
 use io_ends::Sink;
 use rscript::{Script, ScriptErr, read_script};
 use std::alloc::Global;

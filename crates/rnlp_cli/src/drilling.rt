@@ -6,8 +6,8 @@ ghost use Rattle.rnlp_cli.specs.Outputs.{drill_text};
 ghost use Rattle.rnlp_cli.specs.Watched.{DrillWatched};
 ghost use Rattle.rnlp_cli.specs.Writing.{IsWritten};
 
+use crate::output::write_output;
 use crate::status::ToolStatus;
-use crate::writing::write_output;
 use io_ends::Sink;
 use rdrill::{drill, drill_machine, push_summary, summary_room};
 use rplain::Plain;

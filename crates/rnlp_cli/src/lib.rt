@@ -16,29 +16,29 @@
 #![tactic(auto)]
 
 mod auditing;
+mod bound_line;
+mod bound_lines;
 mod bounding;
 mod command;
 mod drilling;
-mod due;
-mod faults;
+mod due_line;
+mod explained;
+mod input;
 pub mod laws;
-mod line;
-mod reading;
-mod refusing_lists;
-mod refusing_scripts;
+mod list_fault;
+mod output;
 mod replaying;
 mod running;
+mod script_fault;
+mod script_line;
 mod status;
-mod text;
-mod told;
 mod tool;
-mod writing;
 
+pub use bound_lines::bound_text;
 pub use command::{Command, LIST_LIMIT, REPORT_LIMIT, are_for_run, plain_of};
+pub use explained::Told;
+pub use output::write_output;
 pub use rrun::Pace;
 pub use running::{run_tool, told_run};
 pub use status::ToolStatus;
-pub use text::bound_text;
-pub use told::Told;
 pub use tool::{plain_tool, told_tool};
-pub use writing::write_output;

@@ -9,9 +9,9 @@ ghost use Rattle.rnlp_cli.specs.Told.{TellsBehind, Tells};
 ghost use Rattle.rnlp_cli.specs.Watched.{ReplayWatched};
 ghost use Rattle.rnlp_cli.specs.declared.command.Command.TheVariants.{Replay};
 
-use crate::refusing_lists::refuse;
+use crate::explained::Told;
+use crate::list_fault::refuse;
 use crate::status::ToolStatus;
-use crate::told::Told;
 use io_ends::Sink;
 use rtrace::write_parts;
 use rtrace_form::TextErr;

@@ -16,10 +16,10 @@ ghost use Rattle.rnlp_cli.specs.Told.{Tells};
 ghost use Rattle.rnlp_cli.specs.Writing.{IsAnswer, IsWritten};
 
 use crate::command::{Command, ask_for_run};
-use crate::reading::read_input;
-use crate::refusing_scripts::refuse_script;
+use crate::explained::Told;
+use crate::input::read_input;
+use crate::script_fault::refuse_script;
 use crate::status::ToolStatus;
-use crate::told::Told;
 use io_ends::{Sink, Source};
 use rguard::Receipt;
 use rrun::{Pace, Report, WriteErr, run_script, write_report};

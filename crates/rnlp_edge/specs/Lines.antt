@@ -3,10 +3,10 @@ use Rattle.std.specs.Prelude.{ℕ, Bool, true, false, List, [], ◌∷◌, ◌++
 use Rattle.rtrace_form.specs.declared.fault.Code.{Code}
 use Rattle.rtrace_form.specs.declared.fault.Code.TheVariants as list
 use Rattle.rnlp_cli.specs.declared.status.ToolStatus.{ToolStatus}
-use Rattle.rnlp_cli.specs.declared.told.Told.{Told}
-use Rattle.rnlp_cli.specs.declared.told.Told.TheVariants as what
+use Rattle.rnlp_cli.specs.declared.explained.Told.{Told}
+use Rattle.rnlp_cli.specs.declared.explained.Told.TheVariants as what
 use Rattle.rscript.specs.Codes.{code_number}
-use Rattle.rscript.specs.declared.code.Code.{Code as ScriptCode}
+use Rattle.rscript.specs.declared.code.ScriptCode.{ScriptCode}
 use Rattle.rwatch.specs.Seen.{Seen}
 use Rattle.rnlp_edge.specs.Meanings.{status_meaning, kind_word, script_meaning, list_meaning, refusal_meaning}
 

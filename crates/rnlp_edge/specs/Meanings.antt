@@ -8,8 +8,8 @@ use Rattle.rtrace_form.specs.declared.fault.Refusal.TheVariants.{Request, Step}
 use Rattle.rmodel.specs.declared.refused.Refused.TheVariants as refused
 use Rattle.rnlp_cli.specs.declared.status.ToolStatus.{ToolStatus}
 use Rattle.rnlp_cli.specs.declared.status.ToolStatus.TheVariants as status
-use Rattle.rscript.specs.declared.code.Code.{Code as ScriptCode}
-use Rattle.rscript.specs.declared.code.Code.TheVariants as script
+use Rattle.rscript.specs.declared.code.ScriptCode.{ScriptCode}
+use Rattle.rscript.specs.declared.code.ScriptCode.TheVariants as script
 use Rattle.rwatch.specs.declared.kinds.WatchKind.{WatchKind}
 use Rattle.rwatch.specs.declared.kinds.WatchKind.TheVariants as kinds
 

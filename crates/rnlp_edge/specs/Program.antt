@@ -15,7 +15,7 @@ use Rattle.rnlp_cli.specs.declared.command.Command.{Command}
 use Rattle.rnlp_cli.specs.declared.command.Command.TheVariants.{Run, Replay, Audit, Bound, Drill}
 use Rattle.rnlp_cli.specs.declared.status.ToolStatus.{ToolStatus}
 use Rattle.rnlp_cli.specs.declared.status.ToolStatus.TheVariants.{Done}
-use Rattle.rnlp_cli.specs.declared.told.Told.{Told}
+use Rattle.rnlp_cli.specs.declared.explained.Told.{Told}
 use Rattle.rnlp_edge.specs.Words.{own_text}
 
 -- the words ask for a replay

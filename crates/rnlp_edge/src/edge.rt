@@ -3,7 +3,7 @@ ghost use Rattle.std.specs.Prelude.{◌≡◌, Option, None, map, string_bytes, 
 ghost use Rattle.std.specs.Process.{exit_status};
 ghost use Rattle.rnlp_cli.specs.Status.{status_number};
 ghost use Rattle.rnlp_cli.specs.Words.{command_in};
-ghost use Rattle.rnlp_cli.specs.declared.told.Told.{Told};
+ghost use Rattle.rnlp_cli.specs.declared.explained.Told.{Told};
 ghost use Rattle.rnlp_edge.specs.Lines.{told_lines};
 ghost use Rattle.rnlp_edge.specs.Program.{KeepsTheHeadline, ProgramAnswer, ProgramTells, RunAnswer, RunTells, ShownAnswer, ShownTells, is_replay, is_unwatched};
 

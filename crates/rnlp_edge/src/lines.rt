@@ -7,7 +7,7 @@ use crate::meanings::{
     meaning_in_script, meaning_of, meaning_of_refusal, meaning_of_status, word_of,
 };
 use rnlp_cli::{Told, ToolStatus};
-use rscript::Code as ScriptCode;
+use rscript::ScriptCode;
 use rtrace_form::{Code, Fault, Refusal};
 use rwatch::{Audience, WatchKind};
 use std::alloc::{AllocError, Global};

@@ -5,7 +5,7 @@ ghost use Rattle.rnlp_edge.specs.Meanings.{status_meaning, kind_word, script_mea
 use rclaim::RequestErr;
 use rmodel::Refused;
 use rnlp_cli::ToolStatus;
-use rscript::Code as ScriptCode;
+use rscript::ScriptCode;
 use rtrace_form::{Code, Refusal};
 use rwatch::WatchKind;
 

@@ -5,7 +5,7 @@ ghost use Rattle.rmodel.specs.Claims.{is_read_half};
 ghost use Rattle.rmodel.specs.WellFormed.{EachPair, Distinct};
 ghost use Rattle.rmodel.specs.declared.claimed.Claimed.{Claimed};
 
-use crate::claim_list::{remove_read_half, remove_seat};
+use crate::removals::{remove_read_half, remove_seat};
 use rmodel::{Claimed, is_read_half};
 use rset::ResourceSet;
 

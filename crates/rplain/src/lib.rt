@@ -7,13 +7,13 @@
 //! asked for, in few looks, each of which is proved to come to what the rules say.
 #![tactic(auto)]
 
-mod claim_list;
 mod claims;
 mod give;
 mod left;
 mod list;
 mod new_claim;
 mod plain;
+mod removals;
 mod seen;
 mod settled;
 mod sweep;

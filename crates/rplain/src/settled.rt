@@ -7,9 +7,9 @@ ghost use Rattle.rmodel.specs.Settling.{settled};
 ghost use Rattle.rmodel.specs.Steps.{some_asks, given};
 ghost use Rattle.rplain.specs.Sweep.{IsLeft};
 
-use crate::claim_list::copy_into;
 use crate::give::{give, some_asks, some_gets};
 use crate::left::Left;
+use crate::removals::copy_into;
 use crate::seen::{Seen, no_seen};
 use crate::sweep::sweep;
 use crate::tell::tell_changes;

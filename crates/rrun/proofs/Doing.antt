@@ -23,21 +23,21 @@ use Rattle.rstate.specs.Contents.{is_ready}
 use Rattle.rstate.specs.Histories.{Beginning, lock_after}
 use Rattle.rstate.proofs.histories.Following.{reached_lawful}
 use Rattle.rscript.specs.Statements.{held_as}
-use Rattle.rscript.specs.declared.section.Section.{Section}
+use Rattle.rscript.specs.declared.section.OpenSection.{OpenSection}
 use Rattle.rguard.specs.Guards.{HasSeenLawful, HasSeenOwn, IsReady}
 use Rattle.rguard.specs.Seats.{SeatOf}
 use Rattle.rrun.specs.Working.{section_made, MayDo}
 use Rattle.rrun.proofs.Standing.{HalfFor, SetsFor, IsFor, Stands, none_in, stands}
 
 -- the seat holds what the section holds; of an upgrade that has not risen, the one half or the other holds all of its set
-abbrev pub Holds : Kind → Section → Granted → Type 0
+abbrev pub Holds : Kind → OpenSection → Granted → Type 0
 Holds kinds.Read s g = g ≡ held_as kinds.Read s
 Holds kinds.Write s g = g ≡ held_as kinds.Write s
 Holds kinds.Mixed s g = g ≡ held_as kinds.Mixed s
 Holds kinds.Upgrade s g = ((s.risen ≡ false) × (g ≡ record { reads = s.request.reads; writes = empty })) ⊎ (g ≡ record { reads = empty; writes = s.request.reads })
 Holds kinds.Nested s g = g ≡ held_as kinds.Nested s
 
-module _ (s : Section) (x : Claimed) (some : is_nothing (held_by x) ≡ false) (none : (l : ℕ) → contains x.asked l ≡ false) where
+module _ (s : OpenSection) (x : Claimed) (some : is_nothing (held_by x) ≡ false) (none : (l : ℕ) → contains x.asked l ≡ false) where
   -- what a claim that is not nested and holds something holds
   whole : is_nested x.claim.kind ≡ false → held_by x ≡ record { reads = x.claim.reads; writes = x.claim.writes }
   whole flat = at (is_satisfied x) refl
@@ -70,7 +70,7 @@ module _ (s : Section) (x : Claimed) (some : is_nothing (held_by x) ≡ false) (
       ∙ (λ i. record { reads = intersection (granted_is is i) (is.sets.0 i); writes = intersection (granted_is is i) (is.sets.1 i) })
 
 -- what a seat holds that stands in the section and waits for nothing
-holds_by_section : (n : ℕ) (s : Section) (lock : LockState) → IsReached lock → Stands n s lock → is_ready lock n ≡ true → Holds s.request.kind s (holds_of lock.claims n) × HeldBy lock.claims n
+holds_by_section : (n : ℕ) (s : OpenSection) (lock : LockState) → IsReached lock → Stands n s lock → is_ready lock n ≡ true → Holds s.request.kind s (holds_of lock.claims n) × HeldBy lock.claims n
 holds_by_section n s lock reached stands ready = holding lock.claims n (each_alone lock reached) by_one (λ none. contrary (is_nothing (holds_of lock.claims n)) (is_nothing_of (holds_of lock.claims n) none) some.0)
   where
     not_both : (x y : Bool) → not (x && y) ≡ true → x ≡ true → y ≡ false
@@ -97,7 +97,7 @@ holds_by_section n s lock reached stands ready = holding lock.claims n (each_alo
 abbrev pub upgrade_held : Bool → Set → Granted
 upgrade_held risen set = cond risen (record { reads = empty; writes = set }) (record { reads = set; writes = empty })
 
-module _ (s : Section) (g : Granted) (l : ℕ) where
+module _ (s : OpenSection) (g : Granted) (l : ℕ) where
   held : (k : Kind) → Holds k s g → (contains (held_as k s).reads l || contains (held_as k s).writes l) ≡ true → (contains g.reads l || contains g.writes l) ≡ true
   held kinds.Read is h = ap (λ (x : Granted). contains x.reads l || contains x.writes l) is ∙ h
   held kinds.Write is h = ap (λ (x : Granted). contains x.reads l || contains x.writes l) is ∙ h
@@ -137,7 +137,7 @@ nested_sets kinds.Mixed risen reads writes c nested h = h
 nested_sets kinds.Upgrade risen reads writes c nested h = absurd (true≢false (sym nested))
 nested_sets kinds.Nested risen reads writes c nested h = h
 
-module _ {V E : Type 0} (after : V → E → V) (taken : V → E → Bool) (number : V → ℕ) (seat : SeatOf V E) (s : Section) where
+module _ {V E : Type 0} (after : V → E → V) (taken : V → E → Bool) (number : V → ℕ) (seat : SeatOf V E) (s : OpenSection) where
   pub may_do : HasSeenLawful after taken number seat → HasSeenOwn seat → IsReady seat true → section_made seat.mine ≡ Some s → MayDo seat s
   may_do lawful own ready made = record {
     holds = λ l h b opens. held s (holds_of (lock_after b seat.seen).claims seat.number) l s.request.kind (all b opens).0 h;

@@ -5,14 +5,14 @@ use Rattle.rset.specs.Sets.{Set}
 use Rattle.rvalue.specs.declared.ledger.Edit.{Edit}
 use Rattle.rvalue.specs.declared.ledger.Ledger.{Ledger}
 use Rattle.rscript.specs.Statements.{section_next}
-use Rattle.rscript.specs.declared.section.Section.{Section}
+use Rattle.rscript.specs.declared.section.OpenSection.{OpenSection}
 use Rattle.rscript.specs.declared.statement.Statement.{Statement}
 use Rattle.rscript.specs.declared.statement.Statement.TheVariants as statement
 use Rattle.rguard.specs.Seats.{SeatOf}
 use Rattle.rrun.specs.Sections.{ends_section, behind_sections, first_section, section_at}
 use Rattle.rrun.specs.Working.{AreWhole, AreWholeAt}
 
-ends_open : (o : Option Section) (s : Statement) → ends_section s ≡ true → section_next o s ≡ None
+ends_open : (o : Option OpenSection) (s : Statement) → ends_section s ≡ true → section_next o s ≡ None
 ends_open o (statement.Begin r) h = absurd (true≢false (sym h))
 ends_open o (statement.Edit place edit) h = absurd (true≢false (sym h))
 ends_open o (statement.Show place) h = absurd (true≢false (sym h))
@@ -21,7 +21,7 @@ ends_open o statement.Rise h = absurd (true≢false (sym h))
 ends_open o statement.Finish h = refl
 
 module _ (q : ℕ) (groups : List Set) where
-  behind_whole : (k : ℕ) (o : Option Section) (ss : List Statement) → (k ≡ 0 → o ≡ None) → AreWhole q groups o ss → AreWhole q groups None (behind_sections k ss)
+  behind_whole : (k : ℕ) (o : Option OpenSection) (ss : List Statement) → (k ≡ 0 → o ≡ None) → AreWhole q groups o ss → AreWhole q groups None (behind_sections k ss)
   behind_whole k o [] first whole = refl
   behind_whole k o (s ∷ ss) first whole = at (k == 0) refl (λ f. behind_whole (k - 1) (section_next o s) ss f whole.1) (λ f. behind_whole k (section_next o s) ss f whole.1)
     where
@@ -32,10 +32,10 @@ module _ (q : ℕ) (groups : List Set) where
 
       at : (b : Bool) → (k == 0) ≡ b → ((k - 1 ≡ 0 → section_next o s ≡ None) → AreWhole q groups None (behind_sections (k - 1) ss)) → ((k ≡ 0 → section_next o s ≡ None) → AreWhole q groups None (behind_sections k ss))
           → AreWhole q groups None (cond b (s ∷ ss) (behind_sections (cond (ends_section s) (k - 1) k) ss))
-      at true is fewer same = subst (λ (x : Option Section). AreWhole q groups x (s ∷ ss)) (first (eqb-true k 0 is)) whole
+      at true is fewer same = subst (λ (x : Option OpenSection). AreWhole q groups x (s ∷ ss)) (first (eqb-true k 0 is)) whole
       at false is fewer same = behind (ends_section s) refl is fewer same
 
-  first_whole : (o : Option Section) (ss : List Statement) → AreWhole q groups o ss → AreWhole q groups o (first_section ss)
+  first_whole : (o : Option OpenSection) (ss : List Statement) → AreWhole q groups o ss → AreWhole q groups o (first_section ss)
   first_whole o [] whole = whole
   first_whole o (s ∷ ss) whole = (whole.0, at (ends_section s) refl (first_whole (section_next o s) ss whole.1))
     where

@@ -10,7 +10,7 @@ use Rattle.rvalue.specs.declared.ledger.Ledger.{Ledger}
 use Rattle.rvalue.specs.Entries.{EntryFields}
 use Rattle.rstate.specs.Histories.{Beginning}
 use Rattle.rscript.specs.Statements.{section_next}
-use Rattle.rscript.specs.declared.section.Section.{Section}
+use Rattle.rscript.specs.declared.section.OpenSection.{OpenSection}
 use Rattle.rscript.specs.declared.statement.Statement.{Statement}
 use Rattle.rguard.specs.Seats.{SeatOf, IsIdle, busy_after, is_busy}
 use Rattle.rguard.specs.declared.guard.Guard.{Guard}
@@ -23,12 +23,12 @@ use Rattle.rrun.specs.Working.{section_told, section_made, FitsIn, AreWhole, Are
 
 -- ---- an idle seat is in no section
 
-is_open : Option Section → Bool
+is_open : Option OpenSection → Bool
 is_open None = false
 is_open (Some section) = true
 
 module _ where
-  open_told : (o : Option Section) (e : Event) → busy_after (is_open o) e ≡ is_open (section_told o e)
+  open_told : (o : Option OpenSection) (e : Event) → busy_after (is_open o) e ≡ is_open (section_told o e)
   unfolding is_open
   open_told o (Issue seat r) = refl
   open_told o (Finish seat) = refl
@@ -37,12 +37,12 @@ module _ where
   open_told None (Ask seat part) = refl
   open_told (Some section) (Ask seat part) = refl
 
-  open_made : (mine : List (EntryFields Edit)) (busy : Bool) (o : Option Section) → busy ≡ is_open o
-      → fold (λ (b : Bool) (entry : EntryFields Edit). busy_after b entry.event) busy mine ≡ is_open (fold (λ (x : Option Section) (entry : EntryFields Edit). section_told x entry.event) o mine)
+  open_made : (mine : List (EntryFields Edit)) (busy : Bool) (o : Option OpenSection) → busy ≡ is_open o
+      → fold (λ (b : Bool) (entry : EntryFields Edit). busy_after b entry.event) busy mine ≡ is_open (fold (λ (x : Option OpenSection) (entry : EntryFields Edit). section_told x entry.event) o mine)
   open_made [] busy o same = same
   open_made (entry ∷ mine) busy o same = open_made mine (busy_after busy entry.event) (section_told o entry.event) (ap (λ b. busy_after b entry.event) same ∙ open_told o entry.event)
 
-  closed : (o : Option Section) → is_open o ≡ false → o ≡ None
+  closed : (o : Option OpenSection) → is_open o ≡ false → o ≡ None
   unfolding is_open
   closed None h = refl
   closed (Some section) h = absurd (true≢false h)
@@ -78,7 +78,7 @@ module _ {M : Type 0} where
         more = [];
         goes = goes_nowhere seat;
         run = refl;
-        whole = λ b opens. subst (λ (o : Option Section). AreWhole b.groups.q b.groups.groups o steps) (sym none) (whole b opens);
+        whole = λ b opens. subst (λ (o : Option OpenSection). AreWhole b.groups.q b.groups.groups o steps) (sym none) (whole b opens);
       }
 
   module _ (seat : SeatOf Ledger Edit) (steps : List Statement) (i : ℕ) (x : Statement) (less : i < length steps) (is : x ≡ get_or steps i x) (desk : Desk M) (h : IsBehind {M = M} seat (take i steps) (drop i steps) desk) where
@@ -91,14 +91,14 @@ module _ {M : Type 0} where
     pub behind_more : (later : Desk M) → HasStepped {M = M} desk x later → IsBehind {M = M} seat (take (i + 1) steps) (drop (i + 1) steps) later
     behind_more later st = subst (λ (xs : List Statement). IsBehind {M = M} seat xs (drop (i + 1) steps) later) (sym (behind_of steps i x less is)) (record {
       is_at = st.is_at;
-      section = st.section ∙ ap (λ (o : Option Section). section_next o x) h.section ∙ sym (fold-append section_next None (take i steps) (x ∷ []));
+      section = st.section ∙ ap (λ (o : Option OpenSection). section_next o x) h.section ∙ sym (fold-append section_next None (take i steps) (x ∷ []));
       deeds = st.deeds ∙ ap (λ (ds : List Statement). deeds_next ds x) h.deeds ∙ sym (fold-append deeds_next [] (take i steps) (x ∷ []));
       more = h.more ++ st.more;
       goes = goes_on seat (seat_in desk) (seat_in later) h.more st.more h.goes st.goes;
       run = map-append told_by h.more st.more
           ∙ (λ j. h.run j ++ (st.run ∙ (λ k. entry_now (h.goes.same.1 k) (h.deeds k) x)) j)
           ∙ sym (run_push seat.number [] (take i steps) x);
-      whole = λ b opens. subst (λ (o : Option Section). AreWhole b.groups.q b.groups.groups o (drop (i + 1) steps)) (sym st.section) (whole_there b opens).1;
+      whole = λ b opens. subst (λ (o : Option OpenSection). AreWhole b.groups.q b.groups.groups o (drop (i + 1) steps)) (sym st.section) (whole_there b opens).1;
     })
 
   pub at_end : (seat : SeatOf Ledger Edit) (steps : List Statement) (i : ℕ) (desk : Desk M) → length steps ≤ i → IsBehind {M = M} seat (take i steps) (drop i steps) desk → (b : Beginning Ledger) → seat.opening ≡ Some b → section_in desk ≡ None
@@ -121,5 +121,5 @@ module _ {M : Type 0} where
       let there = subst (IsAt {M = M}) is at in
       none_some there.0 (sym none ∙ ap (section_in {M = M}) is ∙ there.1.is_in.made)
     where
-      none_some : (x : Section) → None ≡ Some x → ⊥
+      none_some : (x : OpenSection) → None ≡ Some x → ⊥
       none_some x h = cc

@@ -39,7 +39,7 @@ use Rattle.rstate.proofs.histories.Following.{lock_push, reached_lawful}
 use Rattle.rstate.proofs.homes.Lists.{same_item}
 use Rattle.rscript.specs.Statements.{begun}
 use Rattle.rscript.specs.Statements as section
-use Rattle.rscript.specs.declared.section.Section.{Section}
+use Rattle.rscript.specs.declared.section.OpenSection.{OpenSection}
 use Rattle.rguard.proofs.seats.Along.{maker, differs}
 use Rattle.rguard.proofs.seats.Claims.{is_of, of_seat, claim_next, claim_asked, issued_next}
 use Rattle.rguard.proofs.seats.Halves.{has_half, risen_next}
@@ -160,7 +160,7 @@ comer s e reached comes y there =
 -- ---- the claims of a seat
 
 -- the seat has a request, and its claims are those of the section
-pub record Stands (n : ℕ) (s : Section) (lock : LockState) : Type 0 where
+pub record Stands (n : ℕ) (s : OpenSection) (lock : LockState) : Type 0 where
   pub some : has_request lock.claims n ≡ true
   pub each : (x : Claimed) → Among x lock.claims → x.claim.seat ≡ n → IsFor s.request.kind s.risen s.request.reads s.request.writes s.asked x
 
@@ -174,7 +174,7 @@ passed false cause rest h = (refl, h)
 pub none_in : (s : Set) → nat_lt 0 (len s) ≡ false → (l : ℕ) → contains s l ≡ false
 none_in s none l = ap (λ (t : Set). contains t l) (no_members s none) ∙ contains_empty l
 
-same_section : (x y : Section) → Some x ≡ Some y → x ≡ y
+same_section : (x y : OpenSection) → Some x ≡ Some y → x ≡ y
 same_section x y h = same_item x y h
 
 -- after its own events
@@ -190,7 +190,7 @@ after_issue n r s reached comes = record {
       ]);
 }
 
-after_rise : (n : ℕ) (sec : Section) (s : LockState) → IsReached s → Comes s (Rise n) → has_request (next s (Rise n)).claims n ≡ true → Stands n sec s → Stands n (section.with_risen sec) (next s (Rise n))
+after_rise : (n : ℕ) (sec : OpenSection) (s : LockState) → IsReached s → Comes s (Rise n) → has_request (next s (Rise n)).claims n ≡ true → Stands n sec s → Stands n (section.with_risen sec) (next s (Rise n))
 after_rise n sec s reached comes some was = record {
   some = some;
   each = λ y there of.
@@ -206,7 +206,7 @@ after_rise n sec s reached comes some was = record {
     writes true false is h = absurd (true≢false (sym h))
     writes false b is h = absurd (true≢false (sym is))
 
-after_ask : (n : ℕ) (part : Set) (sec : Section) (s : LockState) → IsReached s → Comes s (Ask n part) → Stands n sec s → Stands n (section.with_asked part sec) (next s (Ask n part))
+after_ask : (n : ℕ) (part : Set) (sec : OpenSection) (s : LockState) → IsReached s → Comes s (Ask n part) → Stands n sec s → Stands n (section.with_asked part sec) (next s (Ask n part))
 after_ask n part sec s reached comes was = record {
   some = claim_asked n (is_of n) (of_seat n) s part reached comes ∙ was.some;
   each = λ y there of.
@@ -240,7 +240,7 @@ after_ask n part sec s reached comes was = record {
         not_both false b is h = absurd (true≢false (sym is))
 
 -- after an event of another
-after_other : (n : ℕ) (sec : Section) (s : LockState) (e : Event) → IsReached s → Comes s e → seat_of e ≢ n → Stands n sec s → Stands n sec (next s e)
+after_other : (n : ℕ) (sec : OpenSection) (s : LockState) (e : Event) → IsReached s → Comes s e → seat_of e ≢ n → Stands n sec s → Stands n sec (next s e)
 after_other n sec s e reached comes differ was = record {
   some = claim_next n (is_of n) (of_seat n) s e reached comes differ ∙ was.some;
   each = λ y there of.
@@ -285,27 +285,27 @@ module _ {V E : Type 0} (after : V → E → V) (taken : V → E → Bool) (numb
 
   -- the seat stands in the section that its own entries tell
   abbrev StandsBy : List (EntryFields E) → Type 0
-  StandsBy entries = (sec : Section) → section_made (entries_by maker n entries) ≡ Some sec → Stands n sec (lock_after b entries)
+  StandsBy entries = (sec : OpenSection) → section_made (entries_by maker n entries) ≡ Some sec → Stands n sec (lock_after b entries)
 
   -- one own event more
-  own_event : (earlier : List (EntryFields E)) (e : Event) (told : Option Section) → IsLawfulFrom after taken number b earlier → Comes (lock_after b earlier) e → seat_of e ≡ n
-      → ((sec : Section) → told ≡ Some sec → Stands n sec (lock_after b earlier)) → (sec : Section) → section_told told e ≡ Some sec → Stands n sec (next (lock_after b earlier) e)
+  own_event : (earlier : List (EntryFields E)) (e : Event) (told : Option OpenSection) → IsLawfulFrom after taken number b earlier → Comes (lock_after b earlier) e → seat_of e ≡ n
+      → ((sec : OpenSection) → told ≡ Some sec → Stands n sec (lock_after b earlier)) → (sec : OpenSection) → section_told told e ≡ Some sec → Stands n sec (next (lock_after b earlier) e)
   own_event earlier (Issue k r) told lawful comes is was sec tells =
-      subst (λ (x : Section). Stands n x (next (lock_after b earlier) (Issue k r))) (same_section (begun r) sec tells)
+      subst (λ (x : OpenSection). Stands n x (next (lock_after b earlier) (Issue k r))) (same_section (begun r) sec tells)
       (subst (λ m. Stands n (begun r) (next (lock_after b earlier) (Issue m r))) (sym is) (after_issue n r (lock_after b earlier) (reached_lawful after taken number b earlier lawful) (subst (λ m. Comes (lock_after b earlier) (Issue m r)) is comes)))
   own_event earlier (Finish k) told lawful comes is was sec tells = absurd (none_some sec tells)
     where
-      none_some : (x : Section) → None ≡ Some x → ⊥
+      none_some : (x : OpenSection) → None ≡ Some x → ⊥
       none_some x h = cc
   own_event earlier (Rise k) None lawful comes is was sec tells = absurd (none_some sec tells)
     where
-      none_some : (x : Section) → None ≡ Some x → ⊥
+      none_some : (x : OpenSection) → None ≡ Some x → ⊥
       none_some x h = cc
   own_event earlier (Rise k) (Some old) lawful comes is was sec tells =
       let of_n : Comes (lock_after b earlier) (Rise n) = subst (λ m. Comes (lock_after b earlier) (Rise m)) is comes in
       let reached = reached_lawful after taken number b earlier lawful in
       let rises = (passed (not (may_rise (lock_after b earlier).claims n)) _ _ (passed (is_not_holding (lock_after b earlier).claims n) _ _ of_n.accepted).1).0 in
-      subst (λ (x : Section). Stands n x (next (lock_after b earlier) (Rise k))) (same_section (section.with_risen old) sec tells)
+      subst (λ (x : OpenSection). Stands n x (next (lock_after b earlier) (Rise k))) (same_section (section.with_risen old) sec tells)
       (subst (λ m. Stands n (section.with_risen old) (next (lock_after b earlier) (Rise m))) (sym is) (after_rise n old (lock_after b earlier) reached of_n
       (risen_next (lock_after b earlier) n reached of_n (from_not (may_rise (lock_after b earlier).claims n) rises) (has_half after taken number b n earlier lawful)) (was old refl)))
     where
@@ -314,10 +314,10 @@ module _ {V E : Type 0} (after : V → E → V) (taken : V → E → Bool) (numb
       from_not false h = absurd (true≢false h)
   own_event earlier (Ask k part) None lawful comes is was sec tells = absurd (none_some sec tells)
     where
-      none_some : (x : Section) → None ≡ Some x → ⊥
+      none_some : (x : OpenSection) → None ≡ Some x → ⊥
       none_some x h = cc
   own_event earlier (Ask k part) (Some old) lawful comes is was sec tells =
-      subst (λ (x : Section). Stands n x (next (lock_after b earlier) (Ask k part))) (same_section (section.with_asked part old) sec tells)
+      subst (λ (x : OpenSection). Stands n x (next (lock_after b earlier) (Ask k part))) (same_section (section.with_asked part old) sec tells)
       (subst (λ m. Stands n (section.with_asked part old) (next (lock_after b earlier) (Ask m part))) (sym is)
       (after_ask n part old (lock_after b earlier) (reached_lawful after taken number b earlier lawful) (subst (λ m. Comes (lock_after b earlier) (Ask m part)) is comes) (was old refl)))
 
@@ -331,7 +331,7 @@ module _ {V E : Type 0} (after : V → E → V) (taken : V → E → Bool) (numb
       at true is =
           own_event earlier e.event (section_made (entries_by maker n earlier)) lawful right.comes (eqb-true (maker e) n is) was sec
           (sym (ap section_made (parts ∙ ap (λ (c : Bool). entries_by maker n earlier ++ cond c (e ∷ []) []) is)
-          ∙ fold-append (λ (x : Option Section) (entry : EntryFields E). section_told x entry.event) None (entries_by maker n earlier) (e ∷ [])) ∙ tells)
+          ∙ fold-append (λ (x : Option OpenSection) (entry : EntryFields E). section_told x entry.event) None (entries_by maker n earlier) (e ∷ [])) ∙ tells)
       at false is =
           after_other n sec (lock_after b earlier) e.event (reached_lawful after taken number b earlier lawful) right.comes (differs (maker e) n is)
           (was sec (sym (ap section_made (parts ∙ ap (λ (c : Bool). entries_by maker n earlier ++ cond c (e ∷ []) []) is ∙ append-nil (entries_by maker n earlier))) ∙ tells))
@@ -345,5 +345,5 @@ module _ {V E : Type 0} (after : V → E → V) (taken : V → E → Bool) (numb
   pub stands : (entries : List (EntryFields E)) → IsLawfulFrom after taken number b entries → StandsBy entries
   stands entries lawful = stands_along [] entries tt lawful (λ sec tells. absurd (none_some sec tells))
     where
-      none_some : (x : Section) → None ≡ Some x → ⊥
+      none_some : (x : OpenSection) → None ≡ Some x → ⊥
       none_some x h = cc

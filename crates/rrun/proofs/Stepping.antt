@@ -21,7 +21,7 @@ use Rattle.rvalue.specs.Ledgers.{value_after, is_taken}
 use Rattle.rstate.specs.Histories.{Beginning}
 use Rattle.rscript.specs.Statements.{begun, with_asked, with_risen, section_next, held_as, is_writable, may_ask_for, is_there, is_upgrade}
 use Rattle.rscript.specs.declared.place.Where.TheVariants.{InNested, BeforeRise}
-use Rattle.rscript.specs.declared.section.Section.{Section}
+use Rattle.rscript.specs.declared.section.OpenSection.{OpenSection}
 use Rattle.rscript.specs.declared.statement.Statement.{Statement}
 use Rattle.rscript.specs.declared.statement.Statement.TheVariants as statement
 use Rattle.rguard.specs.Guards.{GuardFields, WaitFields, HasBegun, HasAsked, HasSeenLawful, HasSeenOwn, IsPartOf, kind_for}
@@ -40,7 +40,7 @@ use Rattle.rrun.proofs.Doing.{may_do, upgrade_held}
 
 -- the section after one entry more
 made_push : (mine : List (EntryFields Edit)) (entry : EntryFields Edit) → section_made (mine ++ entry ∷ []) ≡ section_told (section_made mine) entry.event
-made_push mine entry = fold-append (λ (x : Option Section) (e : EntryFields Edit). section_told x e.event) None mine (entry ∷ [])
+made_push mine entry = fold-append (λ (x : Option OpenSection) (e : EntryFields Edit). section_told x e.event) None mine (entry ∷ [])
 
 first_kind : (k : Kind) → kind_for k ≡ guard_kind k false
 first_kind kinds.Read = refl
@@ -65,9 +65,9 @@ risen_kind kinds.Nested risen h = absurd (differ h)
 
 module _ {M : Type 0} where
   -- an act more
-  pub acted : (before later : Guard Ledger M Edit) (section : Section) (act : Act Edit) (s : Statement) → IsGuardOf section before → kind_of later ≡ kind_of before
+  pub acted : (before later : Guard Ledger M Edit) (section : OpenSection) (act : Act Edit) (s : Statement) → IsGuardOf section before → kind_of later ≡ kind_of before
       → fields_of later ≡ record (fields_of before) { acts = (fields_of before).acts ++ act ∷ [] }
-      → deed_of act ≡ s → ((o : Option Section) → section_next o s ≡ o) → ((ds : List Statement) → deeds_next ds s ≡ ds ++ s ∷ []) → ((n : ℕ) (ds : List Statement) → entry_now n ds s ≡ [])
+      → deed_of act ≡ s → ((o : Option OpenSection) → section_next o s ≡ o) → ((ds : List Statement) → deeds_next ds s ≡ ds ++ s ∷ []) → ((n : ℕ) (ds : List Statement) → entry_now n ds s ≡ [])
       → HasStepped {M = M} (Busy before) s (Busy later)
   acted before later section act s is kind fields deed stays adds none =
       let seat_is : (fields_of later).seat ≡ (fields_of before).seat = ap (λ (f : GuardFields Ledger Edit). f.seat) fields in
@@ -82,7 +82,7 @@ module _ {M : Type 0} where
 
   module _ (later : Guard Ledger M Edit) (lawful : HasSeenLawful value_after is_taken (λ (ledger : Ledger). ledger.balance) (fields_of later).seat) (own : HasSeenOwn (fields_of later).seat) where
     -- the section of a seat that has made one entry more
-    later_in : (seat : SeatOf Ledger Edit) (entry : EntryFields Edit) (section : Section) (began : Beginning Ledger) (wait : WaitFields Ledger Edit) → seat.opening ≡ Some began → Goes seat (entry ∷ []) wait.seat → HasAwaited wait later
+    later_in : (seat : SeatOf Ledger Edit) (entry : EntryFields Edit) (section : OpenSection) (began : Beginning Ledger) (wait : WaitFields Ledger Edit) → seat.opening ≡ Some began → Goes seat (entry ∷ []) wait.seat → HasAwaited wait later
         → section_told (section_made seat.mine) entry.event ≡ Some section → IsNormal section.request → IsIn section (fields_of later).seat
     later_in seat entry section began wait opening goes awaited tells normal =
         let all = goes_on seat wait.seat (fields_of later).seat (entry ∷ []) [] goes awaited.goes in
@@ -110,10 +110,10 @@ module _ {M : Type 0} where
         }
 
     -- a nested section has asked for more
-    pub has_asked : (before : GuardFields Ledger Edit) (section : Section) (part : Set) (wait : WaitFields Ledger Edit) → IsGuardOf {M = M} section (guard.Nest before) → HasAsked before part wait → HasAwaited wait later
+    pub has_asked : (before : GuardFields Ledger Edit) (section : OpenSection) (part : Set) (wait : WaitFields Ledger Edit) → IsGuardOf {M = M} section (guard.Nest before) → HasAsked before part wait → HasAwaited wait later
         → HasStepped {M = M} (Busy (guard.Nest before)) (statement.Ask part) (Busy later)
     has_asked before section part wait is asks awaited =
-        let tells : section_told (section_made before.seat.mine) (events.Ask before.seat.number part) ≡ Some (with_asked part section) = ap (λ (o : Option Section). option_map (with_asked part) o) is.is_in.made in
+        let tells : section_told (section_made before.seat.mine) (events.Ask before.seat.number part) ≡ Some (with_asked part section) = ap (λ (o : Option OpenSection). option_map (with_asked part) o) is.is_in.made in
         let now = later_in before.seat (bare (events.Ask before.seat.number part)) (with_asked part section) is.is_in.began wait is.is_in.opening asks.goes awaited tells is.is_in.normal in
         record {
           is_at = (with_asked part section, record { is_in = now; kind = awaited.awaited.kind ∙ asks.kind_is ∙ is.kind });
@@ -125,12 +125,12 @@ module _ {M : Type 0} where
         }
 
     -- an upgrade has risen
-    pub has_risen : (before : GuardFields Ledger Edit) (section : Section) (wait : WaitFields Ledger Edit) → IsGuardOf {M = M} section (guard.Rise before) → wait.kind ≡ guards.Write → wait.acts ≡ []
+    pub has_risen : (before : GuardFields Ledger Edit) (section : OpenSection) (wait : WaitFields Ledger Edit) → IsGuardOf {M = M} section (guard.Rise before) → wait.kind ≡ guards.Write → wait.acts ≡ []
         → Goes before.seat (record { event = events.Rise before.seat.number; acts = before.acts } ∷ []) wait.seat → HasAwaited wait later
         → HasStepped {M = M} (Busy (guard.Rise before)) statement.Rise (Busy later)
     has_risen before section wait is kind acts goes awaited =
         let entry : EntryFields Edit = record { event = events.Rise before.seat.number; acts = before.acts } in
-        let tells : section_told (section_made before.seat.mine) entry.event ≡ Some (with_risen section) = ap (λ (o : Option Section). option_map with_risen o) is.is_in.made in
+        let tells : section_told (section_made before.seat.mine) entry.event ≡ Some (with_risen section) = ap (λ (o : Option OpenSection). option_map with_risen o) is.is_in.made in
         let now = later_in before.seat entry (with_risen section) is.is_in.began wait is.is_in.opening goes awaited tells is.is_in.normal in
         record {
           is_at = (with_risen section, record { is_in = now; kind = awaited.awaited.kind ∙ kind ∙ risen_kind section.request.kind section.risen is.kind });
@@ -158,7 +158,7 @@ module _ {M : Type 0} where
 
 -- ---- what a guard may do where a statement may stand
 
-writable_kind : (k : Kind) (s : Section) (l : ℕ) → FitsKind k s.request.reads s.request.writes → contains (held_as k s).writes l ≡ true → may_edit (guard_kind k s.risen) ≡ true
+writable_kind : (k : Kind) (s : OpenSection) (l : ℕ) → FitsKind k s.request.reads s.request.writes → contains (held_as k s).writes l ≡ true → may_edit (guard_kind k s.risen) ≡ true
 writable_kind kinds.Read s l normal h = absurd (true≢false (sym h ∙ ap (λ (t : Set). contains t l) normal.1 ∙ contains_empty l))
 writable_kind kinds.Write s l normal h = refl
 writable_kind kinds.Mixed s l normal h = refl
@@ -184,21 +184,21 @@ rising_kind kinds.Upgrade true h = absurd (true≢false (sym h))
 rising_kind kinds.Upgrade false h = refl
 rising_kind kinds.Nested risen h = absurd (true≢false (sym h))
 
-module _ {M : Type 0} (section : Section) (guard : Guard Ledger M Edit) (is : IsGuardOf section guard) where
+module _ {M : Type 0} (section : OpenSection) (guard : Guard Ledger M Edit) (is : IsGuardOf section guard) where
   abbrev seat : SeatOf Ledger Edit
   seat = (fields_of guard).seat
 
   pub may_edit_there : (place : ℕ) (edit : Edit) → FitsAt seat (section_made seat.mine) (statement.Edit place edit) → may_edit (kind_of guard) ≡ true
   may_edit_there place edit fits =
       ap may_edit is.kind
-      ∙ writable_kind section.request.kind section place is.is_in.normal.sets (ap (λ (o : Option Section). is_writable o place) (sym is.is_in.made) ∙ (fits is.is_in.began is.is_in.opening).right)
+      ∙ writable_kind section.request.kind section place is.is_in.normal.sets (ap (λ (o : Option OpenSection). is_writable o place) (sym is.is_in.made) ∙ (fits is.is_in.began is.is_in.opening).right)
 
   nested_there : (part : Set) → FitsAt seat (section_made seat.mine) (statement.Ask part) → is_nested section.request.kind ≡ true
   nested_there part fits = ap (is_there InNested) (sym is.is_in.made) ∙ (fits is.is_in.began is.is_in.opening).placed
 
   pub may_ask_there : (part : Set) → FitsAt seat (section_made seat.mine) (statement.Ask part) → IsPartOf seat part
   may_ask_there part fits =
-      is.is_in.may.asks part (nested_there part fits) (ap (λ (o : Option Section). may_ask_for o part) (sym is.is_in.made) ∙ (fits is.is_in.began is.is_in.opening).right)
+      is.is_in.may.asks part (nested_there part fits) (ap (λ (o : Option OpenSection). may_ask_for o part) (sym is.is_in.made) ∙ (fits is.is_in.began is.is_in.opening).right)
 
   pub asks_by : (part : Set) → FitsAt seat (section_made seat.mine) (statement.Ask part) → kind_of guard ≡ guards.Nest
   asks_by part fits = is.kind ∙ nested_kind section.request.kind section.risen (nested_there part fits)

@@ -27,7 +27,7 @@ use Rattle.rtrace_form.specs.Written.{IsTellable, MayBeWritten}
 use Rattle.rtrace_form.proofs.lists.Histories.{lock-tasks}
 use Rattle.rtrace_write.specs.Report.{ReportFields, told_by as report_told}
 use Rattle.rtrace_write.proofs.Counts.{some_length}
-use Rattle.rscript.specs.declared.section.Section.{Section}
+use Rattle.rscript.specs.declared.section.OpenSection.{OpenSection}
 use Rattle.rrun.specs.Statements.{FitsBehind, IsWithin, amount_of, section_after}
 use Rattle.rrun.specs.Statement.{Statement}
 use Rattle.rrun.specs.Statement.TheVariants as statement
@@ -87,7 +87,7 @@ run_has n deeds (s ∷ ss) before all =
     all_append HasAmounts (entry_now n deeds s) (run_of n (deeds_next deeds s) ss) (now_has n deeds s before) (run_has n (deeds_next deeds s) ss (next_has deeds s before all.0) all.1)
 
 -- a section that is broken off has no acts
-broken_has : (n : ℕ) (section : Option Section) → AllByRecursion HasAmounts (broken_off n section)
+broken_has : (n : ℕ) (section : Option OpenSection) → AllByRecursion HasAmounts (broken_off n section)
 broken_has n None = tt
 broken_has n (Some section) = (tt, tt)
 

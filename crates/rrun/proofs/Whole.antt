@@ -8,7 +8,7 @@ use Rattle.rvalue.specs.declared.ledger.Edit.{Edit}
 use Rattle.rvalue.specs.declared.ledger.Ledger.{Ledger}
 use Rattle.rvalue.specs.InTurn.{AllInTurn}
 use Rattle.rscript.specs.Statements.{FitsBehind, IsTask, section_next, section_after}
-use Rattle.rscript.specs.declared.section.Section.{Section}
+use Rattle.rscript.specs.declared.section.OpenSection.{OpenSection}
 use Rattle.rscript.specs.declared.statement.Statement.{Statement}
 use Rattle.rscript.specs.Scripts.{ScriptFields, IsScript}
 use Rattle.rscript.proofs.Tasks.{task_at}
@@ -21,7 +21,7 @@ module _ (q : ℕ) (groups : List Set) where
   whole_behind earlier [] fits closed = subst (λ (xs : List Statement). section_after xs ≡ None) (append-nil earlier) closed
   whole_behind earlier (s ∷ ss) fits closed = (
     record { within = fits.0.within; placed = fits.0.placed; right = fits.0.right },
-    subst (λ (o : Option Section). AreWhole q groups o ss) (fold-append section_next None earlier (s ∷ []))
+    subst (λ (o : Option OpenSection). AreWhole q groups o ss) (fold-append section_next None earlier (s ∷ []))
         (whole_behind (earlier ++ s ∷ []) ss fits.1 (subst (λ (xs : List Statement). section_after xs ≡ None) (sym (append_assoc earlier (s ∷ []) ss)) closed)),
   )
 

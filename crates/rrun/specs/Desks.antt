@@ -4,7 +4,7 @@ use Rattle.rvalue.specs.Entries.{EntryFields}
 use Rattle.rvalue.specs.declared.ledger.Edit.{Edit}
 use Rattle.rvalue.specs.declared.ledger.Ledger.{Ledger}
 use Rattle.rscript.specs.Statements.{section_next, section_after}
-use Rattle.rscript.specs.declared.section.Section.{Section}
+use Rattle.rscript.specs.declared.section.OpenSection.{OpenSection}
 use Rattle.rscript.specs.declared.statement.Statement.{Statement}
 use Rattle.rguard.specs.Guards.{AsSeen}
 use Rattle.rguard.specs.Looks.{fields_of, kind_of}
@@ -17,7 +17,7 @@ use Rattle.rrun.specs.Working.{section_made, guard_kind, IsIn, AreWhole}
 
 module _ {M : Type 0} where
   -- the guard is that of the section
-  pub record IsGuardOf (section : Section) (guard : Guard Ledger M Edit) : Type 0 where
+  pub record IsGuardOf (section : OpenSection) (guard : Guard Ledger M Edit) : Type 0 where
     pub is_in : IsIn section (fields_of guard).seat
     pub kind : kind_of guard ≡ guard_kind section.request.kind section.risen
 
@@ -31,13 +31,13 @@ module _ {M : Type 0} where
   deeds_in (Busy guard) = map deed_of (fields_of guard).acts
 
   -- the section that is open, by the seat's own entries
-  abbrev pub section_in : Desk M → Option Section
+  abbrev pub section_in : Desk M → Option OpenSection
   section_in desk = section_made (seat_in desk).mine
 
   -- an idle desk has an idle seat, and a busy one the guard of its section
   abbrev pub IsAt : Desk M → Type 0
   IsAt (Idle seat) = IsIdle seat × (section_made seat.mine ≡ None)
-  IsAt (Busy guard) = (section : Section) × IsGuardOf section guard
+  IsAt (Busy guard) = (section : OpenSection) × IsGuardOf section guard
 
   -- The statement is carried out: the seat goes on with what it makes
   pub record HasStepped (before : Desk M) (s : Statement) (later : Desk M) : Type 0 where

@@ -8,7 +8,7 @@ use Rattle.rvalue.specs.declared.ledger.Edit.{Edit}
 use Rattle.rvalue.specs.declared.ledger.Ledger.{Ledger}
 use Rattle.rvalue.specs.Entries.{EntryFields}
 use Rattle.rscript.specs.Statements.{section_after}
-use Rattle.rscript.specs.declared.section.Section.{Section}
+use Rattle.rscript.specs.declared.section.OpenSection.{OpenSection}
 use Rattle.rscript.specs.declared.statement.Statement.{Statement}
 use Rattle.rscript.specs.declared.statement.Statement.TheVariants as statement
 use Rattle.rguard.specs.Seats.{SeatOf, Goes}
@@ -57,7 +57,7 @@ abbrev pub IsRunOf : ℕ → List Statement → List (EntryFields Edit) → Type
 IsRunOf n statements entries = map told_by entries ≡ run_of n [] statements
 
 -- the entry that ends a section which is broken off: a finish without acts
-abbrev pub broken_off : ℕ → Option Section → List Told
+abbrev pub broken_off : ℕ → Option OpenSection → List Told
 broken_off n None = []
 broken_off n (Some section) = record { event = events.Finish n; deeds = [] } ∷ []
 

@@ -2,7 +2,7 @@
 ghost use Rattle.std.specs.Prelude.{◌≡◌, None, IfOk, IfErr};
 ghost use Rattle.rguard.specs.Seats.{IsOf, IsIdle};
 ghost use Rattle.rguard.specs.Looks.{fields_of};
-ghost use Rattle.rscript.specs.declared.section.Section.{Section};
+ghost use Rattle.rscript.specs.declared.section.OpenSection.{OpenSection};
 ghost use Rattle.rrun.specs.Working.{section_made, FitsAt};
 ghost use Rattle.rrun.specs.Desks.{IsGuardOf, HasStepped, HasLeft};
 
@@ -61,7 +61,7 @@ pub(crate) fn edit<'a, R: Wait, M: Machine>(
     place: u8,
     edit: Edit,
 ) -> Result<Desk<'a, M>, (Seat<Ledger, M>, AllocError)>
-    requires at { (section : Section) × IsGuardOf section guard }
+    requires at { (section : OpenSection) × IsGuardOf section guard }
     requires fits { FitsAt (fields_of guard).seat (section_made (fields_of guard).seat.mine) (Statement.Edit place edit) }
     ensures ok { IfOk result (HasStepped (Desk.Busy guard.entry) (Statement.Edit place edit)) }
     ensures err { IfErr result (λ e. HasLeft (fields_of guard.entry).seat e.0) }
@@ -84,7 +84,7 @@ pub(crate) fn show<'a, R: Wait, M: Machine>(
     guard: Guard<'a, Ledger, M>,
     place: u8,
 ) -> Result<Desk<'a, M>, (Seat<Ledger, M>, AllocError)>
-    requires at { (section : Section) × IsGuardOf section guard }
+    requires at { (section : OpenSection) × IsGuardOf section guard }
     requires fits { FitsAt (fields_of guard).seat (section_made (fields_of guard).seat.mine) (Statement.Show place) }
     ensures ok { IfOk result (HasStepped (Desk.Busy guard.entry) (Statement.Show place)) }
     ensures err { IfErr result (λ e. HasLeft (fields_of guard.entry).seat e.0) }
@@ -108,7 +108,7 @@ pub(crate) fn ask<'a, R: Wait, M: Machine, G: Pace>(
     set: ResourceSet,
     pace: &G,
 ) -> Result<Desk<'a, M>, (Seat<Ledger, M>, AllocError)>
-    requires at { (section : Section) × IsGuardOf section guard }
+    requires at { (section : OpenSection) × IsGuardOf section guard }
     requires fits { FitsAt (fields_of guard).seat (section_made (fields_of guard).seat.mine) (Statement.Ask set) }
     ensures ok { IfOk result (HasStepped (Desk.Busy guard.entry) (Statement.Ask set)) }
     ensures err { IfErr result (λ e. HasLeft (fields_of guard.entry).seat e.0) }
@@ -128,7 +128,7 @@ pub(crate) fn rise<'a, R: Wait, M: Machine, G: Pace>(
     guard: Guard<'a, Ledger, M>,
     pace: &G,
 ) -> Desk<'a, M>
-    requires at { (section : Section) × IsGuardOf section guard }
+    requires at { (section : OpenSection) × IsGuardOf section guard }
     requires fits { FitsAt (fields_of guard).seat (section_made (fields_of guard).seat.mine) Statement.Rise }
     ensures { HasStepped (Desk.Busy guard.entry) Statement.Rise result }
 {
@@ -148,7 +148,7 @@ pub(crate) fn finish<'a, R: Wait, M: Machine>(
     alloc: Global,
     guard: Guard<'a, Ledger, M>,
 ) -> Result<Desk<'a, M>, (Seat<Ledger, M>, AllocError)>
-    requires { (section : Section) × IsGuardOf section guard }
+    requires { (section : OpenSection) × IsGuardOf section guard }
     ensures ok { IfOk result (HasStepped (Desk.Busy guard.entry) Statement.Finish) }
     ensures err { IfErr result (λ e. HasLeft (fields_of guard.entry).seat e.0) }
 {

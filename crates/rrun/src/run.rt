@@ -190,7 +190,7 @@ fn run_of(
     let (history, values, receipt) = closed;
     match head_of(alloc, script, values.as_slice()) {
         Ok(head) => {
-            let Head {
+            let ReportHead {
                 resources,
                 groups,
                 tasks,
@@ -216,7 +216,7 @@ fn run_of(
 
 // What a report has beside its history.
 #[derive(Drop)]
-struct Head {
+struct ReportHead {
     resources: NameTable,
     groups: Groups,
     tasks: NameTable,
@@ -228,7 +228,7 @@ fn head_of(
     alloc: Global,
     script: &Script,
     values: &[Arc<Ledger, Global>],
-) -> Result<Head, AllocError>
+) -> Result<ReportHead, AllocError>
     ensures declared { IfOk result (λ b. (b.resources ≡ script.now.resources) × (b.groups ≡ record { q = length script.now.resources; groups = script.now.groups }) × (b.tasks ≡ script.now.tasks)) }
     ensures ledgers { IfOk result (λ b. b.ledgers.items ≡ map arc_value values.now) }
 {
@@ -236,7 +236,7 @@ fn head_of(
     let groups = script.groups().copy(alloc)?;
     let resources = script.resources().copy(alloc)?;
     let tasks = script.tasks().copy(alloc)?;
-    Ok(Head {
+    Ok(ReportHead {
         resources,
         groups,
         tasks,

@@ -11,7 +11,7 @@ use Rattle.rbound.specs.Needs.{Needs, RequestNeeds}
 use Rattle.rbound.specs.TaskNeeds.{TaskNeeds, with_request, with_ask, with_last_ask, last_is_nested, requests_of, none_needed}
 use Rattle.rscript.specs.Statements.{FitsBehind, IsTask, section_next, section_after, is_there}
 use Rattle.rscript.specs.declared.place.Where.TheVariants.{InNested}
-use Rattle.rscript.specs.declared.section.Section.{Section}
+use Rattle.rscript.specs.declared.section.OpenSection.{OpenSection}
 use Rattle.rscript.specs.declared.statement.Statement.{Statement}
 use Rattle.rscript.specs.declared.statement.Statement.TheVariants as statement
 use Rattle.rscript.specs.Scripts.{ScriptFields, IsScript}
@@ -71,7 +71,7 @@ requests_more ss s = sym (in_turn (ss ++ s ∷ [])) ∙ fold_push with_next [] s
 -- ---- asks belong to the nested request of the section that is open
 
 -- the last request is that of the open section
-abbrev IsOpen : Option Section → List RequestNeeds → Type 0
+abbrev IsOpen : Option OpenSection → List RequestNeeds → Type 0
 IsOpen None ns = Unit {0}
 IsOpen (Some s) ns = last_is_nested ns ≡ is_nested s.request.kind
 
@@ -86,7 +86,7 @@ last_asked (n ∷ []) part = refl
 last_asked (n ∷ m ∷ []) part = refl
 last_asked (n ∷ m ∷ k ∷ ns) part = last_asked (m ∷ k ∷ ns) part
 
-stays_open : (section : Option Section) (ns : List RequestNeeds) (s : Statement) → IsOpen section ns → IsOpen (section_next section s) (with_next ns s)
+stays_open : (section : Option OpenSection) (ns : List RequestNeeds) (s : Statement) → IsOpen section ns → IsOpen (section_next section s) (with_next ns s)
 stays_open section ns (statement.Begin r) h = last_pushed ns (record { request = r; asks = [] })
 stays_open section ns (statement.Edit place edit) h = h
 stays_open section ns (statement.Show place) h = h
@@ -96,7 +96,7 @@ stays_open None ns statement.Rise h = tt
 stays_open (Some o) ns statement.Rise h = h
 stays_open section ns statement.Finish h = tt
 
-open_after : (section : Option Section) (ns : List RequestNeeds) (ss : List Statement) → IsOpen section ns → IsOpen (fold section_next section ss) (fold with_next ns ss)
+open_after : (section : Option OpenSection) (ns : List RequestNeeds) (ss : List Statement) → IsOpen section ns → IsOpen (fold section_next section ss) (fold with_next ns ss)
 open_after section ns [] h = h
 open_after section ns (s ∷ ss) h = open_after (section_next section s) (with_next ns s) ss (stays_open section ns s h)
 
@@ -149,7 +149,7 @@ fits_at q groups earlier (s ∷ ss) zero d all h = subst (λ (before : List Stat
 fits_at q groups earlier (s ∷ ss) (suc i) d all h =
     subst (λ (before : List Statement). FitsBehind q groups before (get_or ss i d)) (append_assoc earlier (s ∷ []) (take i ss)) (fits_at q groups (earlier ++ s ∷ []) ss i d all.1 (omega arith))
 
-nested_there : (section : Option Section) (ns : List RequestNeeds) → IsOpen section ns → is_there InNested section ≡ true → last_is_nested ns ≡ true
+nested_there : (section : Option OpenSection) (ns : List RequestNeeds) → IsOpen section ns → is_there InNested section ≡ true → last_is_nested ns ≡ true
 nested_there None ns h there = cc
 nested_there (Some o) ns h there = h ∙ there
 

@@ -24,29 +24,29 @@ use Rattle.rscript.specs.Words.{fields_of, word_in}
 use Rattle.rscript.specs.Lines.{Line, Opens, HasResource, HasGroup, HasTask, Does, Ends, names_of, line_by, meant_as, meaning}
 use Rattle.rscript.specs.Causes.{name_causes, line_causes, meant_causes, said_causes, statement_causes, groups_in}
 use Rattle.rscript.specs.Told.{is_statement, Tells, IsWrong}
-use Rattle.rscript.specs.declared.code.Code.{Code}
-use Rattle.rscript.specs.declared.code.Code.TheVariants.{UnknownName, EmptyGroup}
-use Rattle.rscript.specs.declared.section.Section.{Section}
+use Rattle.rscript.specs.declared.code.ScriptCode.{ScriptCode}
+use Rattle.rscript.specs.declared.code.ScriptCode.TheVariants.{UnknownName, EmptyGroup}
+use Rattle.rscript.specs.declared.section.OpenSection.{OpenSection}
 use Rattle.rscript.specs.declared.statement.Statement.{Statement}
-use Rattle.rscript.specs.declared.word.Word.{Word}
-use Rattle.rscript.specs.declared.word.Word.TheVariants as word
+use Rattle.rscript.specs.declared.word.ScriptWord.{ScriptWord}
+use Rattle.rscript.specs.declared.word.ScriptWord.TheVariants as word
 use Rattle.rscript.proofs.record_facts.Causes.{first_of-append}
 use Rattle.rscript.proofs.record_facts.Shapes.{long_of, one_row, two_row}
 use Rattle.rscript.proofs.record_facts.Tells.{line_first, unknown_wrong, told_causes}
 use Rattle.rscript.specs.SoFar.{SoFar, steps_in, section_of, followed_by, with_line, with_meaning, with_row}
 use Rattle.rscript.specs.Faults.{placed_causes}
 use Rattle.rscript.specs.Reading.{statements_in, latest_in, Knows, Adds, Closes, Takes, Refuses}
-use Rattle.rscript.specs.declared.reading.Reading.{Reading}
+use Rattle.rscript.specs.declared.reading.ScriptReader.{ScriptReader}
 
 -- ---- what a record says
 
 -- the fields of a record of this word name what is declared and count, and this is what they say
-record Says (resources : List (List ℕ)) (w : Word) (row : Row) (line : Line) : Type 0 where
+record Says (resources : List (List ℕ)) (w : ScriptWord) (row : Row) (line : Line) : Type 0 where
   pub known : all_known (names_of resources) (fields_of w) row ≡ true
   pub counted : all_counted (fields_of w) row ≡ true
   pub means : meant_as (names_of resources) row (Some w) ≡ Some line
 
-module _ (s : SoFar) (w : Word) (row : Row) where
+module _ (s : SoFar) (w : ScriptWord) (row : Row) where
   said_line : (line : Line) → Says s.resources w row line → first_of (said_causes s.resources s.groups (section_of s.latest) row w) ≡ first_of (line_causes s.groups (section_of s.latest) line)
   said_line line h =
       line_first _ _ (meant_causes s.groups (section_of s.latest) (meant_as (names_of s.resources) row (Some w))) h.known h.counted
@@ -119,8 +119,8 @@ nil_length (x ∷ xs) = at (length xs)
 pub not_zero : (n m : ℕ) → n ≡ m → (n ≡ 0 → ⊥) → (m == 0) ≡ false
 not_zero n m e h = grind (arith, nat_tests)
 
-both_none : (xs ys : List (Option Code)) → first_of xs ≡ None → first_of ys ≡ None → first_of (xs ++ ys) ≡ None
-both_none xs ys p q = first_of-append xs ys ∙ ap (λ (o : Option Code). or_else o (first_of ys)) p ∙ q
+both_none : (xs ys : List (Option ScriptCode)) → first_of xs ≡ None → first_of ys ≡ None → first_of (xs ++ ys) ≡ None
+both_none xs ys p q = first_of-append xs ys ∙ ap (λ (o : Option ScriptCode). or_else o (first_of ys)) p ∙ q
 
 -- a set that is not empty is of some resource
 pub some_below : (q : ℕ) (set : Set) → all_below q set ≡ true → (set ≡ empty → ⊥) → 1 ≤ q
@@ -131,17 +131,17 @@ pub on_ok : {T E : Type 0} {P Q : Type 0} (r : Result T E) → (P → Q) → OnO
 on_ok (Ok x) f h = f h
 on_ok (Err e) f h = tt
 
-pub same_bad : {T : Type 0} {a b : Code} → ◌≡◌ {A = Result T (RowErr Code)} (Err (why.Bad a)) (Err (why.Bad b)) → a ≡ b
+pub same_bad : {T : Type 0} {a b : ScriptCode} → ◌≡◌ {A = Result T (RowErr ScriptCode)} (Err (why.Bad a)) (Err (why.Bad b)) → a ≡ b
 same_bad {T} {a} {b} e = cc
 
 -- what is wrong with the fields of a record is the same by the resources that the reader knows
-by_known : (resources : List (List ℕ)) (s : SoFar) (row : Row) (w : Word) → s.resources ≡ resources
+by_known : (resources : List (List ℕ)) (s : SoFar) (row : Row) (w : ScriptWord) → s.resources ≡ resources
     → first_of (said_causes s.resources s.groups (section_of s.latest) row w) ≡ first_of (said_causes resources s.groups (section_of s.latest) row w)
 by_known resources s row w same = ap (λ (rs : List (List ℕ)). first_of (said_causes rs s.groups (section_of s.latest) row w)) same
 
 -- ---- records
 
-module _ (r : Reading) (row : Row) where
+module _ (r : ScriptReader) (row : Row) where
   pub takes_version : word_in row ≡ Some word.Version → r.last ≤ 2 → Takes r (record r { last = 1 }) row word.Version
   takes_version is early s k =
       let says = version_says s.resources row is in
@@ -227,12 +227,12 @@ module _ (r : Reading) (row : Row) where
       → first_of (placed_causes s row word.Task) ≡ None
   task_free s some named says = rw some (both_none (name_causes RESOURCES s.tasks (field_of row 1)) (said_causes s.resources s.groups (section_of s.latest) row word.Task) named (said_line s word.Task row (HasTask (field_of row 1)) says))
 
-  steps_after : (none : Bool) (s : SoFar) (closed : Reading) (table : List (List ℕ)) (groups : Option ReadGroups) → Knows r s → none ≡ is_nil s.tasks → Closes none (record r { tasks = table; groups = groups }) closed
+  steps_after : (none : Bool) (s : SoFar) (closed : ScriptReader) (table : List (List ℕ)) (groups : Option ReadGroups) → Knows r s → none ≡ is_nil s.tasks → Closes none (record r { tasks = table; groups = groups }) closed
       → (statements_in closed.steps.items ≡ steps_in s) × (closed.latest.items ≡ []) × (closed ≡ record r { tasks = table; groups = groups; steps = closed.steps; latest = closed.latest })
   steps_after true s closed table groups k is h =
       let no_latest : s.latest ≡ None = k.latest ∙ ap (λ b. latest_in b r.latest.items) (sym is) in (
-        ap (λ (c : Reading). statements_in c.steps.items) h ∙ k.earlier ∙ sym (append-nil s.earlier) ∙ ap (λ (o : Option (List Statement)). s.earlier ++ option_to_list o) (sym no_latest),
-        ap (λ (c : Reading). c.latest.items) h ∙ k.fresh (sym is),
+        ap (λ (c : ScriptReader). statements_in c.steps.items) h ∙ k.earlier ∙ sym (append-nil s.earlier) ∙ ap (λ (o : Option (List Statement)). s.earlier ++ option_to_list o) (sym no_latest),
+        ap (λ (c : ScriptReader). c.latest.items) h ∙ k.fresh (sym is),
         h ∙ (λ i. record r { tasks = table; groups = groups; steps = (sym h i).steps; latest = (sym h i).latest }),
       )
   steps_after false s closed table groups k is h =
@@ -242,7 +242,7 @@ module _ (r : Reading) (row : Row) where
         h.others,
       )
 
-  pub takes_task : (none : Bool) (table : List (List ℕ)) (groups : Option ReadGroups) (closed : Reading) → word_in row ≡ Some word.Task → (length r.resources == 0) ≡ false → none ≡ (length r.tasks == 0) → r.section ≡ None
+  pub takes_task : (none : Bool) (table : List (List ℕ)) (groups : Option ReadGroups) (closed : ScriptReader) → word_in row ≡ Some word.Task → (length r.resources == 0) ≡ false → none ≡ (length r.tasks == 0) → r.section ≡ None
       → first_of (name_causes RESOURCES r.tasks (field_of row 1)) ≡ None → table ≡ r.tasks ++ field_of row 1 ∷ []
       → groups ≡ Some (record { q = length r.resources; groups = groups_in r.groups }) → Closes none (record r { tasks = table; groups = groups }) closed
       → Takes r (record closed { last = 4 }) row word.Task
@@ -268,7 +268,7 @@ module _ (r : Reading) (row : Row) where
       } in (
         task_free s resources named says,
         subst (λ (t : SoFar). Knows (record closed { last = 4 }) t) (sym (adds_line s word.Task row (HasTask name) is says.means))
-            (subst (λ (c : Reading). Knows (record c { last = 4 }) then) (sym parts.2) knows),
+            (subst (λ (c : ScriptReader). Knows (record c { last = 4 }) then) (sym parts.2) knows),
       )
     where
       is_filled : {X : Type 0} (xs : List X) (x : X) → is_nil (xs ++ x ∷ []) ≡ false
@@ -303,7 +303,7 @@ module _ (r : Reading) (row : Row) where
 
   -- ---- statements
 
-  placed_said : (s : SoFar) (w : Word) → is_statement w ≡ true → first_of (placed_causes s row w) ≡ first_of (said_causes s.resources s.groups (section_of s.latest) row w)
+  placed_said : (s : SoFar) (w : ScriptWord) → is_statement w ≡ true → first_of (placed_causes s row w) ≡ first_of (said_causes s.resources s.groups (section_of s.latest) row w)
   placed_said s (word.Begin kind) h = refl
   placed_said s word.Show h = refl
   placed_said s word.Add h = refl
@@ -314,19 +314,19 @@ module _ (r : Reading) (row : Row) where
   placed_said s word.Finish h = refl
   placed_said s _ h = absurd (true≢false (sym h))
 
-  pub refuses_wrong : (w : Word) (code : Code) → is_statement w ≡ true → IsWrong r.resources w row code → Refuses r row w code
+  pub refuses_wrong : (w : ScriptWord) (code : ScriptCode) → is_statement w ≡ true → IsWrong r.resources w row code → Refuses r row w code
   refuses_wrong w code kind wrong s k = placed_said s w kind ∙ by_known r.resources s row w (sym k.resources) ∙ wrong s.groups (section_of s.latest)
 
-  statement_code : (w : Word) (st : Statement) → is_statement w ≡ true → Tells r.resources w row st → (s : SoFar) → Knows r s
+  statement_code : (w : ScriptWord) (st : Statement) → is_statement w ≡ true → Tells r.resources w row st → (s : SoFar) → Knows r s
       → first_of (placed_causes s row w) ≡ first_of (statement_causes (groups_in r.groups) r.section st)
   statement_code w st kind tells s k =
       placed_said s w kind ∙ by_known r.resources s row w (sym k.resources) ∙ told_causes r.resources w row st tells s.groups (section_of s.latest) ∙ (λ i. first_of (statement_causes (sym k.groups i) (sym k.section i) st))
 
-  pub refuses_statement : (w : Word) (st : Statement) (code : Code) → is_statement w ≡ true → Tells r.resources w row st → first_of (statement_causes (groups_in r.groups) r.section st) ≡ Some code
+  pub refuses_statement : (w : ScriptWord) (st : Statement) (code : ScriptCode) → is_statement w ≡ true → Tells r.resources w row st → first_of (statement_causes (groups_in r.groups) r.section st) ≡ Some code
       → Refuses r row w code
   refuses_statement w st code kind tells bad s k = statement_code w st kind tells s k ∙ bad
 
-  pub takes_statement : (w : Word) (st : Statement) (now : Reading) → word_in row ≡ Some w → is_statement w ≡ true → r.last ≡ 4 → Tells r.resources w row st
+  pub takes_statement : (w : ScriptWord) (st : Statement) (now : ScriptReader) → word_in row ≡ Some w → is_statement w ≡ true → r.last ≡ 4 → Tells r.resources w row st
       → first_of (statement_causes (groups_in r.groups) r.section st) ≡ None → Adds r now st → Takes r now row w
   takes_statement w st now is kind behind tells free adds s k =
       let means : meant_as (names_of s.resources) row (Some w) ≡ Some (Does st) = ap (λ (names : List (List ℕ)). meant_as (names_of names) row (Some w)) (sym k.resources) ∙ tells.means in
@@ -344,10 +344,10 @@ module _ (r : Reading) (row : Row) where
         earlier = k.earlier;
         latest = ap (option_map (followed_by st)) latest ∙ ap (λ (xs : List Statement). Some xs) (sym adds.latest) ∙ ap (λ b. latest_in b now.latest.items) (sym some);
         fresh = λ e. absurd (true≢false (sym e ∙ some));
-        section = adds.section ∙ ap (λ (o : Option Section). section_next o st) (k.section ∙ ap section_of latest) ∙ sym (fold_push section_next None r.latest.items st)
+        section = adds.section ∙ ap (λ (o : Option OpenSection). section_next o st) (k.section ∙ ap section_of latest) ∙ sym (fold_push section_next None r.latest.items st)
             ∙ ap (λ (o : Option (List Statement)). section_of (option_map (followed_by st) o)) (sym latest);
         task = λ _. some;
       } in (
         statement_code w st kind tells s k ∙ free,
-        subst (λ (t : SoFar). Knows now t) (sym (adds_line s w row (Does st) is means)) (subst (λ (c : Reading). Knows c then) (sym adds.others) knows),
+        subst (λ (t : SoFar). Knows now t) (sym (adds_line s w row (Does st) is means)) (subst (λ (c : ScriptReader). Knows c then) (sym adds.others) knows),
       )

@@ -1,10 +1,10 @@
 -- The numbers of codes.
 use Rattle.std.specs.Prelude.{ℕ}
-use Rattle.rscript.specs.declared.code.Code.{Code}
-use Rattle.rscript.specs.declared.code.Code.TheVariants.{BadField, BadOrder, NoResources, NoTask, BadName, Repeated, TooMany, UnknownName, BadNumber, EmptyGroup, EmptyRequest, Undeclared, FirstOutside, NotHeld, NotWritable, NoEnd}
+use Rattle.rscript.specs.declared.code.ScriptCode.{ScriptCode}
+use Rattle.rscript.specs.declared.code.ScriptCode.TheVariants.{BadField, BadOrder, NoResources, NoTask, BadName, Repeated, TooMany, UnknownName, BadNumber, EmptyGroup, EmptyRequest, Undeclared, FirstOutside, NotHeld, NotWritable, NoEnd}
 
 -- the number of a code, as users are told it
-abbrev pub code_number : Code → ℕ
+abbrev pub code_number : ScriptCode → ℕ
 code_number BadName = 1
 code_number Repeated = 2
 code_number TooMany = 3

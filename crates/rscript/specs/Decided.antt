@@ -2,11 +2,11 @@
 use Rattle.std.specs.Prelude.{ℕ, ◌&&◌, List, codes, Option, Some, None, if◌then◌else◌}
 use Rattle.std.specs.Str.{bytes_eq}
 use Rattle.rclaim.specs.declared.request.Kind.TheVariants.{Read, Write, Mixed, Upgrade, Nested}
-use Rattle.rscript.specs.declared.word.Word.{Word}
-use Rattle.rscript.specs.declared.word.Word.TheVariants as word
+use Rattle.rscript.specs.declared.word.ScriptWord.{ScriptWord}
+use Rattle.rscript.specs.declared.word.ScriptWord.TheVariants as word
 
 -- what a record of one field is
-abbrev pub word_of_one : List ℕ → Option Word
+abbrev pub word_of_one : List ℕ → Option ScriptWord
 word_of_one first =
     if bytes_eq first (codes "rise") then Some word.Rise
     else if bytes_eq first (codes "finish") then Some word.Finish
@@ -14,7 +14,7 @@ word_of_one first =
     else None
 
 -- what a record of two fields is
-abbrev pub word_of_two : List ℕ → List ℕ → Option Word
+abbrev pub word_of_two : List ℕ → List ℕ → Option ScriptWord
 word_of_two first second =
     if bytes_eq first (codes "rnlp") && bytes_eq second (codes "1") then Some word.Version
     else if bytes_eq first (codes "resource") then Some word.Resource
@@ -25,7 +25,7 @@ word_of_two first second =
     else None
 
 -- what a record of three fields is
-abbrev pub word_of_three : List ℕ → Option Word
+abbrev pub word_of_three : List ℕ → Option ScriptWord
 word_of_three first =
     if bytes_eq first (codes "read") then Some (word.Begin Read)
     else if bytes_eq first (codes "write") then Some (word.Begin Write)
@@ -35,14 +35,14 @@ word_of_three first =
     else None
 
 -- what a record of four fields is
-abbrev pub word_of_four : List ℕ → Option Word
+abbrev pub word_of_four : List ℕ → Option ScriptWord
 word_of_four first =
     if bytes_eq first (codes "mixed") then Some (word.Begin Mixed)
     else if bytes_eq first (codes "upgrade") then Some (word.Begin Upgrade)
     else None
 
 -- what a record of five fields is
-abbrev pub word_of_five : List ℕ → Option Word
+abbrev pub word_of_five : List ℕ → Option ScriptWord
 word_of_five first =
     if bytes_eq first (codes "nested") then Some (word.Begin Nested)
     else None

@@ -11,8 +11,8 @@ use Rattle.rtrace_form.specs.Fields.{Names, Values, read, write}
 use Rattle.rscript.specs.Words.{fields_of, word_in}
 use Rattle.rscript.specs.declared.statement.Statement.{Statement}
 use Rattle.rscript.specs.declared.statement.Statement.TheVariants as statement
-use Rattle.rscript.specs.declared.word.Word.{Word}
-use Rattle.rscript.specs.declared.word.Word.TheVariants as word
+use Rattle.rscript.specs.declared.word.ScriptWord.{ScriptWord}
+use Rattle.rscript.specs.declared.word.ScriptWord.TheVariants as word
 
 -- what a record says: the text opens, it has this resource, group or task, the task does this, the text ends
 pub data Line : Type 0 where
@@ -32,7 +32,7 @@ abbrev pub begins : Kind → Set → Set → Set → ℕ → ℕ → Line
 begins kind reads writes first len later = Does (statement.Begin (normalised kind reads writes first len later))
 
 -- the line that a record of this word says with these values
-abbrev pub line_by : (w : Word) → Values (fields_of w) → Line
+abbrev pub line_by : (w : ScriptWord) → Values (fields_of w) → Line
 line_by word.Version v = Opens
 line_by word.Resource v = HasResource v.0
 line_by word.Group v = HasGroup v.0
@@ -52,7 +52,7 @@ line_by word.Finish v = Does statement.Finish
 line_by word.End v = Ends
 
 -- the word of the record that tells a statement
-abbrev pub statement_word : Statement → Word
+abbrev pub statement_word : Statement → ScriptWord
 statement_word (statement.Begin r) = word.Begin r.kind
 statement_word (statement.Edit place (edit.Add n)) = word.Add
 statement_word (statement.Edit place (edit.Take n)) = word.Take
@@ -63,7 +63,7 @@ statement_word statement.Rise = word.Rise
 statement_word statement.Finish = word.Finish
 
 -- the word of the record that says a line
-abbrev pub word_of : Line → Word
+abbrev pub word_of : Line → ScriptWord
 word_of Opens = word.Version
 word_of (HasResource name) = word.Resource
 word_of (HasGroup group) = word.Group
@@ -99,7 +99,7 @@ values_of (Does s) = statement_values s
 values_of Ends = tt
 
 -- the line that a record of this word says, if its fields say something
-abbrev pub meant_as : Names → Row → Option Word → Option Line
+abbrev pub meant_as : Names → Row → Option ScriptWord → Option Line
 meant_as names row None = None
 meant_as names row (Some w) = option_map (line_by w) (read names (fields_of w) row)
 

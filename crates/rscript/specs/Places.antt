@@ -2,8 +2,8 @@
 use Rattle.std.specs.Prelude.{ℕ}
 use Rattle.rscript.specs.declared.place.Stand.{Stand}
 use Rattle.rscript.specs.declared.place.Where.TheVariants.{Outside, Inside, InNested, BeforeRise}
-use Rattle.rscript.specs.declared.word.Word.{Word}
-use Rattle.rscript.specs.declared.word.Word.TheVariants as word
+use Rattle.rscript.specs.declared.word.ScriptWord.{ScriptWord}
+use Rattle.rscript.specs.declared.word.ScriptWord.TheVariants as word
 
 abbrev pub at_start : ℕ
 at_start = 0
@@ -25,7 +25,7 @@ abbrev pub at_end : ℕ
 at_end = 5
 
 -- where a record of a word may stand
-abbrev pub stands : Word → Stand
+abbrev pub stands : ScriptWord → Stand
 stands word.Version = record { least = at_start; most = at_start; inside = Outside }
 stands word.Resource = record { least = at_version; most = at_resources; inside = Outside }
 stands word.Group = record { least = at_resources; most = at_groups; inside = Outside }

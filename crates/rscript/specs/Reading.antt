@@ -8,12 +8,12 @@ use Rattle.rtrace_form.specs.Walks.{first_of}
 use Rattle.rscript.specs.Statements.{section_next}
 use Rattle.rscript.specs.Causes.{groups_in}
 use Rattle.rscript.specs.Places.{at_resources, at_tasks}
-use Rattle.rscript.specs.declared.code.Code.{Code}
+use Rattle.rscript.specs.declared.code.ScriptCode.{ScriptCode}
 use Rattle.rscript.specs.declared.statement.Statement.{Statement}
-use Rattle.rscript.specs.declared.word.Word.{Word}
+use Rattle.rscript.specs.declared.word.ScriptWord.{ScriptWord}
 use Rattle.rscript.specs.SoFar.{SoFar, section_of, with_row}
 use Rattle.rscript.specs.Faults.{placed_causes}
-use Rattle.rscript.specs.declared.reading.Reading.{Reading}
+use Rattle.rscript.specs.declared.reading.ScriptReader.{ScriptReader}
 
 -- the statements of each task
 abbrev pub statements_in : List (Vec Statement Global) → List (List Statement)
@@ -25,7 +25,7 @@ latest_in true statements = None
 latest_in false statements = Some statements
 
 -- the reader knows what was said so far
-pub record Knows (reader : Reading) (s : SoFar) : Type 0 where
+pub record Knows (reader : ScriptReader) (s : SoFar) : Type 0 where
   pub last : reader.last ≡ s.last
   pub resources : reader.resources ≡ s.resources
   pub groups : groups_in reader.groups ≡ s.groups
@@ -39,26 +39,26 @@ pub record Knows (reader : Reading) (s : SoFar) : Type 0 where
   pub task : s.last ≡ at_tasks → is_nil s.tasks ≡ false
 
 -- one statement more of the latest task is kept, and the section that is open behind it
-pub record Adds (old new : Reading) (s : Statement) : Type 0 where
+pub record Adds (old new : ScriptReader) (s : Statement) : Type 0 where
   pub latest : new.latest.items ≡ old.latest.items ++ s ∷ []
   pub section : new.section ≡ section_next old.section s
   pub others : new ≡ record old { latest = new.latest; section = new.section }
 
 -- the statements of the latest task are kept with those of the tasks before it
-pub record Keeps (old new : Reading) : Type 0 where
+pub record Keeps (old new : ScriptReader) : Type 0 where
   pub steps : statements_in new.steps.items ≡ statements_in old.steps.items ++ old.latest.items ∷ []
   pub latest : new.latest.items ≡ []
   pub others : new ≡ record old { steps = new.steps; latest = new.latest }
 
 -- they are, unless there is no task
-abbrev pub Closes : Bool → Reading → Reading → Type 0
+abbrev pub Closes : Bool → ScriptReader → ScriptReader → Type 0
 Closes true old new = new ≡ old
 Closes false old new = Keeps old new
 
 -- a record of this word that may stand there has no fault, and the reader knows what it adds
-abbrev pub Takes : Reading → Reading → Row → Word → Type 0
+abbrev pub Takes : ScriptReader → ScriptReader → Row → ScriptWord → Type 0
 Takes old new row w = (s : SoFar) → Knows old s → (first_of (placed_causes s row w) ≡ None) × Knows new (with_row s row)
 
 -- a record of this word that may stand there has this fault
-abbrev pub Refuses : Reading → Row → Word → Code → Type 0
+abbrev pub Refuses : ScriptReader → Row → ScriptWord → ScriptCode → Type 0
 Refuses old row w code = (s : SoFar) → Knows old s → first_of (placed_causes s row w) ≡ Some code

@@ -5,7 +5,7 @@ use Rattle.rtrace_form.specs.Records.{Row}
 use Rattle.rscript.specs.Statements.{section_after}
 use Rattle.rscript.specs.Lines.{Line, Opens, HasResource, HasGroup, HasTask, Does, Ends, names_of, meaning}
 use Rattle.rscript.specs.Places.{at_start, at_version, at_resources, at_groups, at_tasks, at_end}
-use Rattle.rscript.specs.declared.section.Section.{Section}
+use Rattle.rscript.specs.declared.section.OpenSection.{OpenSection}
 use Rattle.rscript.specs.declared.statement.Statement.{Statement}
 use Rattle.rscript.specs.Scripts.{ScriptFields}
 
@@ -29,7 +29,7 @@ abbrev pub steps_in : SoFar → List (List Statement)
 steps_in s = s.earlier ++ option_to_list s.latest
 
 -- the section that is open behind the statements of a task, where there is one
-abbrev pub section_of : Option (List Statement) → Option Section
+abbrev pub section_of : Option (List Statement) → Option OpenSection
 section_of None = None
 section_of (Some statements) = section_after statements
 

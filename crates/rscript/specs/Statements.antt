@@ -14,26 +14,26 @@ use Rattle.rvalue.specs.declared.ledger.Edit.TheVariants as edit
 use Rattle.rtrace_form.specs.Events.{request_refusal}
 use Rattle.rscript.specs.declared.place.Where.{Where}
 use Rattle.rscript.specs.declared.place.Where.TheVariants.{Outside, Inside, InNested, BeforeRise}
-use Rattle.rscript.specs.declared.section.Section.{Section}
+use Rattle.rscript.specs.declared.section.OpenSection.{OpenSection}
 use Rattle.rscript.specs.declared.statement.Statement.{Statement}
 use Rattle.rscript.specs.declared.statement.Statement.TheVariants as statement
 
 -- ---- sections
 
 -- the section that a request begins
-abbrev pub begun : RequestFields → Section
+abbrev pub begun : RequestFields → OpenSection
 begun r = record { request = r; risen = false; asked = r.first }
 
 -- a section that has asked for a part more
-abbrev pub with_asked : Set → Section → Section
+abbrev pub with_asked : Set → OpenSection → OpenSection
 with_asked part s = record s { asked = union s.asked part }
 
 -- a section that has risen
-abbrev pub with_risen : Section → Section
+abbrev pub with_risen : OpenSection → OpenSection
 with_risen s = record s { risen = true }
 
 -- the section that is open behind a statement, if one is
-abbrev pub section_next : Option Section → Statement → Option Section
+abbrev pub section_next : Option OpenSection → Statement → Option OpenSection
 section_next section (statement.Begin r) = Some (begun r)
 section_next section (statement.Edit place edit) = section
 section_next section (statement.Show place) = section
@@ -42,12 +42,12 @@ section_next section statement.Rise = option_map with_risen section
 section_next section statement.Finish = None
 
 -- the section that is open behind the statements of a task, if one is
-abbrev pub section_after : List Statement → Option Section
+abbrev pub section_after : List Statement → Option OpenSection
 section_after statements = fold section_next None statements
 
 -- what a section with a request of this kind holds: an upgrade reads its set until it rises, and then writes it; a nested request
 -- holds what it has asked for, and every other kind all that it is about
-abbrev pub held_as : Kind → Section → Granted
+abbrev pub held_as : Kind → OpenSection → Granted
 held_as Read s = record { reads = s.request.reads; writes = s.request.writes }
 held_as Write s = record { reads = s.request.reads; writes = s.request.writes }
 held_as Mixed s = record { reads = s.request.reads; writes = s.request.writes }
@@ -55,20 +55,20 @@ held_as Upgrade s = if s.risen then record { reads = empty; writes = s.request.r
 held_as Nested s = record { reads = intersection s.asked s.request.reads; writes = intersection s.asked s.request.writes }
 
 -- what is held there; outside a section nothing is
-abbrev pub held_in : Option Section → Granted
+abbrev pub held_in : Option OpenSection → Granted
 held_in None = nothing
 held_in (Some s) = held_as s.request.kind s
 
 -- a resource is held there for writing
-abbrev pub is_writable : Option Section → ℕ → Bool
+abbrev pub is_writable : Option OpenSection → ℕ → Bool
 is_writable section place = contains (held_in section).writes place
 
 -- a resource is held there, for reading or for writing
-abbrev pub is_held : Option Section → ℕ → Bool
+abbrev pub is_held : Option OpenSection → ℕ → Bool
 is_held section place = contains (held_in section).reads place || contains (held_in section).writes place
 
 -- a set is a part, not empty, of what the open section's request is about
-abbrev pub may_ask_for : Option Section → Set → Bool
+abbrev pub may_ask_for : Option OpenSection → Set → Bool
 may_ask_for None part = false
 may_ask_for (Some s) part = is_part part (union s.request.reads s.request.writes)
 
@@ -79,7 +79,7 @@ is_upgrade Upgrade = true
 is_upgrade _ = false
 
 -- it is so there
-abbrev pub is_there : Where → Option Section → Bool
+abbrev pub is_there : Where → Option OpenSection → Bool
 is_there Outside section = is_none section
 is_there Inside section = not (is_none section)
 is_there InNested None = false
@@ -115,7 +115,7 @@ IsWithin q statement.Finish = Unit {0}
 
 -- a statement is right where this section is open: its request is refused by nothing, what it edits is held for writing,
 -- what it shows is held, and what it asks for is a part of the request
-abbrev pub IsRight : List Set → Option Section → Statement → Type 0
+abbrev pub IsRight : List Set → Option OpenSection → Statement → Type 0
 IsRight groups section (statement.Begin r) = request_refusal groups r ≡ None
 IsRight groups section (statement.Edit place edit) = is_writable section place ≡ true
 IsRight groups section (statement.Show place) = is_held section place ≡ true

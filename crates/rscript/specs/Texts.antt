@@ -4,7 +4,7 @@ use Rattle.rtrace_form.specs.Records.{Row, AreRowsOf}
 use Rattle.rtrace_form.specs.declared.errors.TextErr.{TextErr}
 use Rattle.rtrace_form.specs.declared.errors.TextErr.TheVariants as text
 use Rattle.rscript.specs.Lines.{names_of, spelled}
-use Rattle.rscript.specs.declared.code.Code.{Code}
+use Rattle.rscript.specs.declared.code.ScriptCode.{ScriptCode}
 use Rattle.rscript.specs.Scripts.{ScriptFields, lines_of}
 use Rattle.rscript.specs.SoFar.{SoFar}
 use Rattle.rscript.specs.Faults.{code_of, is_ended, first_fault, read_all}
@@ -16,7 +16,7 @@ abbrev pub script_rows : ScriptFields → List Row
 script_rows p = map (spelled (names_of p.resources)) (lines_of p)
 
 -- what is wrong with a record behind others
-abbrev pub script_code : List Row → Row → Option Code
+abbrev pub script_code : List Row → Row → Option ScriptCode
 script_code rows row = code_of (read_all rows) row
 
 -- the text may end behind these records
@@ -28,10 +28,10 @@ abbrev pub KnowsSaid : {T : Type 0} → (T → SoFar → Type 0) → T → List 
 KnowsSaid Knows taker rows = Knows taker (read_all rows)
 
 -- why a text is no script that was not taken
-abbrev pub error_of : TextErr Code → ScriptErr
+abbrev pub error_of : TextErr ScriptCode → ScriptErr
 error_of (text.Bad fault) = script.Bad fault.line fault.code
 error_of text.Memory = script.Memory
 
 -- the first fault of a text, at this line
-abbrev pub IsFirstFault : List ℕ → ℕ → Code → Type 0
+abbrev pub IsFirstFault : List ℕ → ℕ → ScriptCode → Type 0
 IsFirstFault bytes line code = (rows : List Row) × AreRowsOf bytes rows × (first_fault rows ≡ Some (line, code))

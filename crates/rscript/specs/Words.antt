@@ -3,11 +3,11 @@ use Rattle.std.specs.Prelude.{List, [], ◌∷◌, codes, Option, find}
 use Rattle.rclaim.specs.declared.request.Kind.TheVariants.{Read, Write, Mixed, Upgrade, Nested}
 use Rattle.rtrace_form.specs.Records.{Row}
 use Rattle.rtrace_form.specs.Fields.{Field, Said, Fresh, OneResource, Members, Number, Length, has_form}
-use Rattle.rscript.specs.declared.word.Word.{Word}
-use Rattle.rscript.specs.declared.word.Word.TheVariants as word
+use Rattle.rscript.specs.declared.word.ScriptWord.{ScriptWord}
+use Rattle.rscript.specs.declared.word.ScriptWord.TheVariants as word
 
 -- the fields of a record, by what it is
-abbrev pub fields_of : Word → List Field
+abbrev pub fields_of : ScriptWord → List Field
 fields_of word.Version = Said (codes "rnlp") ∷ Said (codes "1") ∷ []
 fields_of word.Resource = Said (codes "resource") ∷ Fresh ∷ []
 fields_of word.Group = Said (codes "group") ∷ Members ∷ []
@@ -27,12 +27,12 @@ fields_of word.Finish = Said (codes "finish") ∷ []
 fields_of word.End = Said (codes "end") ∷ []
 
 -- what the records of a script may be
-abbrev pub words : List Word
+abbrev pub words : List ScriptWord
 words =
     word.Version ∷ word.Resource ∷ word.Group ∷ word.Task
     ∷ word.Begin Read ∷ word.Begin Write ∷ word.Begin Mixed ∷ word.Begin Upgrade ∷ word.Begin Nested
     ∷ word.Show ∷ word.Add ∷ word.Take ∷ word.Put ∷ word.Ask ∷ word.Rise ∷ word.Finish ∷ word.End ∷ []
 
 -- what a record is, if it is one
-unfoldable pub word_in : Row → Option Word
+unfoldable pub word_in : Row → Option ScriptWord
 word_in row = find (λ w. has_form (fields_of w) row) words

@@ -4,7 +4,7 @@ ghost use Rattle.rscript.specs.Codes.{code_number};
 
 /// What is wrong with a record. The first of these, in this order, is told.
 #[derive(Clone, Copy, Debug, PartialEq, Eq)]
-pub enum Code {
+pub enum ScriptCode {
     /// Its first field is no record word, it has another number of fields, or the version is not 1.
     BadField,
     /// It may not stand at this place.
@@ -39,28 +39,28 @@ pub enum Code {
     NoEnd,
 }
 
-impl Code {
+impl ScriptCode {
     /// Its number, as users are told it.
     pub fn number(self) -> u8
         ensures { result ≡ code_number self }
     {
         match self {
-            Code::BadName => 1,
-            Code::Repeated => 2,
-            Code::TooMany => 3,
-            Code::EmptyGroup => 4,
-            Code::EmptyRequest => 5,
-            Code::Undeclared => 6,
-            Code::FirstOutside => 7,
-            Code::UnknownName => 8,
-            Code::BadNumber => 9,
-            Code::BadField => 10,
-            Code::BadOrder => 11,
-            Code::NotHeld => 12,
-            Code::NotWritable => 13,
-            Code::NoEnd => 14,
-            Code::NoResources => 15,
-            Code::NoTask => 16,
+            ScriptCode::BadName => 1,
+            ScriptCode::Repeated => 2,
+            ScriptCode::TooMany => 3,
+            ScriptCode::EmptyGroup => 4,
+            ScriptCode::EmptyRequest => 5,
+            ScriptCode::Undeclared => 6,
+            ScriptCode::FirstOutside => 7,
+            ScriptCode::UnknownName => 8,
+            ScriptCode::BadNumber => 9,
+            ScriptCode::BadField => 10,
+            ScriptCode::BadOrder => 11,
+            ScriptCode::NotHeld => 12,
+            ScriptCode::NotWritable => 13,
+            ScriptCode::NoEnd => 14,
+            ScriptCode::NoResources => 15,
+            ScriptCode::NoTask => 16,
         }
     }
 }

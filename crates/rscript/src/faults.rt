@@ -7,12 +7,12 @@ ghost use Rattle.rmodel.specs.Claims.{is_admitted};
 ghost use Rattle.rtrace_form.specs.Events.{request_refusal};
 ghost use Rattle.rtrace_form.specs.Walks.{first_of, when};
 ghost use Rattle.rscript.specs.Statements.{is_held, is_writable};
-ghost use Rattle.rscript.specs.declared.code.Code.TheVariants.{NotHeld, NotWritable};
+ghost use Rattle.rscript.specs.declared.code.ScriptCode.TheVariants.{NotHeld, NotWritable};
 ghost use Rattle.rscript.specs.Causes.{request_code, statement_causes, groups_in};
 ghost use Rattle.rscript.specs.Told.{HasPlace};
 
-use crate::code::Code;
-use crate::section::{Section, is_held, is_writable, may_ask_for};
+use crate::code::ScriptCode;
+use crate::section::{OpenSection, is_held, is_writable, may_ask_for};
 use crate::statement::Statement;
 use rclaim::{Kind, Request};
 use rexpand::Groups;
@@ -21,9 +21,9 @@ use rset::ResourceSet;
 /// What is wrong with a statement where this section is open, if anything is.
 pub fn fault_of(
     groups: &Option<Groups>,
-    section: &Option<Section>,
+    section: &Option<OpenSection>,
     statement: &Statement,
-) -> Option<Code>
+) -> Option<ScriptCode>
     requires { HasPlace RESOURCES statement.now }
     ensures { result ≡ first_of (statement_causes (groups_in groups.now) section.now statement.now) }
 {
@@ -38,13 +38,13 @@ pub fn fault_of(
 }
 
 // What is wrong with a request under read groups. It is in normal form, so that it can only be undeclared.
-fn begin_fault(groups: &Option<Groups>, request: &Request) -> Option<Code>
+fn begin_fault(groups: &Option<Groups>, request: &Request) -> Option<ScriptCode>
     ensures { result ≡ option_map request_code (request_refusal (groups_in groups.now) request.now) }
 {
     if is_admitted(groups, request) {
         None
     } else {
-        Some(Code::Undeclared)
+        Some(ScriptCode::Undeclared)
     }
 }
 
@@ -70,22 +70,26 @@ fn is_declared(groups: &Option<Groups>, set: ResourceSet) -> bool
 }
 
 // What is wrong with an edit of a resource.
-fn edit_fault(section: &Option<Section>, place: u8) -> Option<Code>
+fn edit_fault(section: &Option<OpenSection>, place: u8) -> Option<ScriptCode>
     requires { place < RESOURCES }
     ensures { result ≡ first_of (when (not (is_held section.now place)) NotHeld ∷ when (not (is_writable section.now place)) NotWritable ∷ []) }
 {
     if !is_held(section, place) {
-        Some(Code::NotHeld)
+        Some(ScriptCode::NotHeld)
     } else if !is_writable(section, place) {
-        Some(Code::NotWritable)
+        Some(ScriptCode::NotWritable)
     } else {
         None
     }
 }
 
 // The fault of what is not held.
-fn unless_held(held: bool) -> Option<Code>
+fn unless_held(held: bool) -> Option<ScriptCode>
     ensures { result ≡ first_of (when (not held) NotHeld ∷ []) }
 {
-    if held { None } else { Some(Code::NotHeld) }
+    if held {
+        None
+    } else {
+        Some(ScriptCode::NotHeld)
+    }
 }

@@ -23,8 +23,8 @@ mod taker;
 mod told;
 mod word;
 
-pub use code::Code;
+pub use code::ScriptCode;
 pub use place::Where;
 pub use script::{Script, ScriptErr, read_script};
-pub use section::Section;
+pub use section::OpenSection;
 pub use statement::Statement;

@@ -3,8 +3,8 @@ ghost use Rattle.std.specs.Prelude.{◌≡◌};
 ghost use Rattle.rscript.specs.Statements.{is_there};
 ghost use Rattle.rscript.specs.Places.{stands};
 
-use crate::section::Section;
-use crate::word::Word;
+use crate::section::OpenSection;
+use crate::word::ScriptWord;
 use rclaim::Kind;
 
 /// Where in a task a record may stand.
@@ -52,20 +52,22 @@ pub const AT_TASKS: u8 = 4;
 pub const AT_END: u8 = 5;
 
 /// Where a record of a word may stand.
-pub fn stand_of(word: Word) -> Stand
+pub fn stand_of(word: ScriptWord) -> Stand
     ensures { result ≡ stands word }
 {
     let (least, most, inside) = match word {
-        Word::Version => (AT_START, AT_START, Where::Outside),
-        Word::Resource => (AT_VERSION, AT_RESOURCES, Where::Outside),
-        Word::Group => (AT_RESOURCES, AT_GROUPS, Where::Outside),
-        Word::Task | Word::End => (AT_VERSION, AT_TASKS, Where::Outside),
-        Word::Begin(_) => (AT_TASKS, AT_TASKS, Where::Outside),
-        Word::Show | Word::Add | Word::Take | Word::Put | Word::Finish => {
-            (AT_TASKS, AT_TASKS, Where::Inside)
-        }
-        Word::Ask => (AT_TASKS, AT_TASKS, Where::InNested),
-        Word::Rise => (AT_TASKS, AT_TASKS, Where::BeforeRise),
+        ScriptWord::Version => (AT_START, AT_START, Where::Outside),
+        ScriptWord::Resource => (AT_VERSION, AT_RESOURCES, Where::Outside),
+        ScriptWord::Group => (AT_RESOURCES, AT_GROUPS, Where::Outside),
+        ScriptWord::Task | ScriptWord::End => (AT_VERSION, AT_TASKS, Where::Outside),
+        ScriptWord::Begin(_) => (AT_TASKS, AT_TASKS, Where::Outside),
+        ScriptWord::Show
+        | ScriptWord::Add
+        | ScriptWord::Take
+        | ScriptWord::Put
+        | ScriptWord::Finish => { (AT_TASKS, AT_TASKS, Where::Inside) }
+        ScriptWord::Ask => (AT_TASKS, AT_TASKS, Where::InNested),
+        ScriptWord::Rise => (AT_TASKS, AT_TASKS, Where::BeforeRise),
     };
     Stand {
         least,
@@ -75,7 +77,7 @@ pub fn stand_of(word: Word) -> Stand
 }
 
 /// Whether it is so where this section is open, if one is.
-pub fn is_there(inside: Where, section: &Option<Section>) -> bool
+pub fn is_there(inside: Where, section: &Option<OpenSection>) -> bool
     ensures { result ≡ is_there inside section.now }
 {
     match section {

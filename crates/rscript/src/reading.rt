@@ -8,16 +8,16 @@ ghost use Rattle.rscript.specs.SoFar.{SoFar, nothing_yet};
 ghost use Rattle.rscript.specs.Faults.{stands_at};
 ghost use Rattle.rscript.specs.Reading.{Knows, Adds, Closes, Takes, Refuses};
 
-use crate::code::Code;
+use crate::code::ScriptCode;
 use crate::faults::fault_of;
 use crate::place::{
     AT_END, AT_GROUPS, AT_RESOURCES, AT_START, AT_TASKS, AT_VERSION, is_there, stand_of,
 };
-use crate::section::{Section, section_after};
+use crate::section::{OpenSection, section_after};
 use crate::statement::Statement;
 use crate::tables::{add_group, declare, has_all_groups, make_groups};
 use crate::told::statement_of;
-use crate::word::Word;
+use crate::word::ScriptWord;
 use csv::ByteRecord;
 use rexpand::Groups;
 use rset::NameTable;
@@ -27,7 +27,7 @@ use std::mem;
 
 /// What the records so far have said.
 #[derive(Drop)]
-pub struct Reading {
+pub struct ScriptReader {
     /// From which the room for statements comes.
     pub alloc: Global,
     /// The place of the last record.
@@ -43,15 +43,15 @@ pub struct Reading {
     /// The statements of the latest task.
     pub latest: Vec<Statement>,
     /// The section that is open.
-    pub section: Option<Section>,
+    pub section: Option<OpenSection>,
 }
 
-impl Reading {
+impl ScriptReader {
     /// Nothing was read.
-    pub fn new(alloc: Global) -> Reading
+    pub fn new(alloc: Global) -> ScriptReader
         ensures { Knows result nothing_yet }
     {
-        Reading {
+        ScriptReader {
             alloc,
             last: AT_START,
             resources: NameTable::new(alloc),
@@ -64,7 +64,7 @@ impl Reading {
     }
 
     /// Whether a record of a word may stand here.
-    pub fn may_stand(&self, word: Word) -> bool
+    pub fn may_stand(&self, word: ScriptWord) -> bool
         ensures { result ≡ stands_at self.now.last self.now.section word }
     {
         let stand = stand_of(word);
@@ -76,31 +76,35 @@ impl Reading {
     /// # Errors
     ///
     /// The first thing that is wrong with it, and then nothing has changed; or want of memory.
-    pub fn take_word(&mut self, word: Word, fields: &ByteRecord) -> Result<(), RowErr<Code>>
+    pub fn take_word(
+        &mut self,
+        word: ScriptWord,
+        fields: &ByteRecord,
+    ) -> Result<(), RowErr<ScriptCode>>
         requires known { (s : SoFar) × Knows self.old s }
         requires form { word_in (fields_of fields.now) ≡ Some word }
         requires stands { stands_at self.old.last self.old.section word ≡ true }
         ensures taken { OnOk result (Takes self.old self.new (fields_of fields.now) word) }
-        ensures bad { (cause : Code) → result ≡ Err (RowErr.Bad cause) → Refuses self.old (fields_of fields.now) word cause }
-        ensures still { (cause : Code) → result ≡ Err (RowErr.Bad cause) → self.new ≡ self.old }
+        ensures bad { (cause : ScriptCode) → result ≡ Err (RowErr.Bad cause) → Refuses self.old (fields_of fields.now) word cause }
+        ensures still { (cause : ScriptCode) → result ≡ Err (RowErr.Bad cause) → self.new ≡ self.old }
     {
         match word {
-            Word::Version => self.take_version(fields),
-            Word::Resource => self.take_resource(fields),
-            Word::Group => self.take_group(fields),
-            Word::Task => self.take_task(fields),
-            Word::End => self.take_end(fields),
+            ScriptWord::Version => self.take_version(fields),
+            ScriptWord::Resource => self.take_resource(fields),
+            ScriptWord::Group => self.take_group(fields),
+            ScriptWord::Task => self.take_task(fields),
+            ScriptWord::End => self.take_end(fields),
             _ => self.take_statement(word, fields),
         }
     }
 
     // Takes the record of the version.
-    fn take_version(&mut self, fields: &ByteRecord) -> Result<(), RowErr<Code>>
-        requires form { word_in (fields_of fields.now) ≡ Some Word.Version }
+    fn take_version(&mut self, fields: &ByteRecord) -> Result<(), RowErr<ScriptCode>>
+        requires form { word_in (fields_of fields.now) ≡ Some ScriptWord.Version }
         requires early { self.old.last ≤ at_resources }
-        ensures taken { OnOk result (Takes self.old self.new (fields_of fields.now) Word.Version) }
-        ensures bad { (cause : Code) → result ≡ Err (RowErr.Bad cause) → Refuses self.old (fields_of fields.now) Word.Version cause }
-        ensures still { (cause : Code) → result ≡ Err (RowErr.Bad cause) → self.new ≡ self.old }
+        ensures taken { OnOk result (Takes self.old self.new (fields_of fields.now) ScriptWord.Version) }
+        ensures bad { (cause : ScriptCode) → result ≡ Err (RowErr.Bad cause) → Refuses self.old (fields_of fields.now) ScriptWord.Version cause }
+        ensures still { (cause : ScriptCode) → result ≡ Err (RowErr.Bad cause) → self.new ≡ self.old }
     {
         // Its fields are its word alone: only the contract speaks of them.
         let _ = fields;
@@ -109,12 +113,12 @@ impl Reading {
     }
 
     // Takes a resource.
-    fn take_resource(&mut self, fields: &ByteRecord) -> Result<(), RowErr<Code>>
-        requires form { word_in (fields_of fields.now) ≡ Some Word.Resource }
+    fn take_resource(&mut self, fields: &ByteRecord) -> Result<(), RowErr<ScriptCode>>
+        requires form { word_in (fields_of fields.now) ≡ Some ScriptWord.Resource }
         requires early { self.old.last ≤ at_resources }
-        ensures taken { OnOk result (Takes self.old self.new (fields_of fields.now) Word.Resource) }
-        ensures bad { (cause : Code) → result ≡ Err (RowErr.Bad cause) → Refuses self.old (fields_of fields.now) Word.Resource cause }
-        ensures still { (cause : Code) → result ≡ Err (RowErr.Bad cause) → self.new ≡ self.old }
+        ensures taken { OnOk result (Takes self.old self.new (fields_of fields.now) ScriptWord.Resource) }
+        ensures bad { (cause : ScriptCode) → result ≡ Err (RowErr.Bad cause) → Refuses self.old (fields_of fields.now) ScriptWord.Resource cause }
+        ensures still { (cause : ScriptCode) → result ≡ Err (RowErr.Bad cause) → self.new ≡ self.old }
     {
         declare(&mut self.resources, field_of(fields, 1))?;
         self.last = AT_RESOURCES;
@@ -122,21 +126,21 @@ impl Reading {
     }
 
     // Takes a read group.
-    fn take_group(&mut self, fields: &ByteRecord) -> Result<(), RowErr<Code>>
+    fn take_group(&mut self, fields: &ByteRecord) -> Result<(), RowErr<ScriptCode>>
         requires known { (s : SoFar) × Knows self.old s }
-        requires form { word_in (fields_of fields.now) ≡ Some Word.Group }
-        ensures taken { OnOk result (Takes self.old self.new (fields_of fields.now) Word.Group) }
-        ensures bad { (cause : Code) → result ≡ Err (RowErr.Bad cause) → Refuses self.old (fields_of fields.now) Word.Group cause }
-        ensures still { (cause : Code) → result ≡ Err (RowErr.Bad cause) → self.new ≡ self.old }
+        requires form { word_in (fields_of fields.now) ≡ Some ScriptWord.Group }
+        ensures taken { OnOk result (Takes self.old self.new (fields_of fields.now) ScriptWord.Group) }
+        ensures bad { (cause : ScriptCode) → result ≡ Err (RowErr.Bad cause) → Refuses self.old (fields_of fields.now) ScriptWord.Group cause }
+        ensures still { (cause : ScriptCode) → result ≡ Err (RowErr.Bad cause) → self.new ≡ self.old }
     {
         if has_all_groups(&self.groups) {
-            return Err(RowErr::Bad(Code::TooMany));
+            return Err(RowErr::Bad(ScriptCode::TooMany));
         }
         let Some(set) = set_of(&self.resources, field_of(fields, 1)) else {
-            return Err(RowErr::Bad(Code::UnknownName));
+            return Err(RowErr::Bad(ScriptCode::UnknownName));
         };
         if set.is_empty() {
-            return Err(RowErr::Bad(Code::EmptyGroup));
+            return Err(RowErr::Bad(ScriptCode::EmptyGroup));
         }
         add_group(self.alloc, &mut self.groups, self.resources.len(), set)?;
         self.last = AT_GROUPS;
@@ -144,17 +148,17 @@ impl Reading {
     }
 
     // Takes a task.
-    fn take_task(&mut self, fields: &ByteRecord) -> Result<(), RowErr<Code>>
+    fn take_task(&mut self, fields: &ByteRecord) -> Result<(), RowErr<ScriptCode>>
         requires known { (s : SoFar) × Knows self.old s }
-        requires form { word_in (fields_of fields.now) ≡ Some Word.Task }
+        requires form { word_in (fields_of fields.now) ≡ Some ScriptWord.Task }
         requires closed { self.old.section ≡ None }
-        ensures taken { OnOk result (Takes self.old self.new (fields_of fields.now) Word.Task) }
-        ensures bad { (cause : Code) → result ≡ Err (RowErr.Bad cause) → Refuses self.old (fields_of fields.now) Word.Task cause }
-        ensures still { (cause : Code) → result ≡ Err (RowErr.Bad cause) → self.new ≡ self.old }
+        ensures taken { OnOk result (Takes self.old self.new (fields_of fields.now) ScriptWord.Task) }
+        ensures bad { (cause : ScriptCode) → result ≡ Err (RowErr.Bad cause) → Refuses self.old (fields_of fields.now) ScriptWord.Task cause }
+        ensures still { (cause : ScriptCode) → result ≡ Err (RowErr.Bad cause) → self.new ≡ self.old }
     {
         let q = self.resources.len();
         if q == 0 {
-            return Err(RowErr::Bad(Code::NoResources));
+            return Err(RowErr::Bad(ScriptCode::NoResources));
         }
         let first = self.tasks.len() == 0;
         declare(&mut self.tasks, field_of(fields, 1))?;
@@ -169,7 +173,7 @@ impl Reading {
     /// # Errors
     ///
     /// Want of memory.
-    pub fn close_task(&mut self, none: bool) -> Result<(), RowErr<Code>>
+    pub fn close_task(&mut self, none: bool) -> Result<(), RowErr<ScriptCode>>
         ensures ok { OnOk result (Closes none self.old self.new) }
         ensures memory { IfErr result (λ e. e ≡ RowErr.Memory) }
     {
@@ -184,32 +188,36 @@ impl Reading {
     }
 
     // Takes the end.
-    fn take_end(&mut self, fields: &ByteRecord) -> Result<(), RowErr<Code>>
-        requires form { word_in (fields_of fields.now) ≡ Some Word.End }
-        ensures taken { OnOk result (Takes self.old self.new (fields_of fields.now) Word.End) }
-        ensures bad { (cause : Code) → result ≡ Err (RowErr.Bad cause) → Refuses self.old (fields_of fields.now) Word.End cause }
-        ensures still { (cause : Code) → result ≡ Err (RowErr.Bad cause) → self.new ≡ self.old }
+    fn take_end(&mut self, fields: &ByteRecord) -> Result<(), RowErr<ScriptCode>>
+        requires form { word_in (fields_of fields.now) ≡ Some ScriptWord.End }
+        ensures taken { OnOk result (Takes self.old self.new (fields_of fields.now) ScriptWord.End) }
+        ensures bad { (cause : ScriptCode) → result ≡ Err (RowErr.Bad cause) → Refuses self.old (fields_of fields.now) ScriptWord.End cause }
+        ensures still { (cause : ScriptCode) → result ≡ Err (RowErr.Bad cause) → self.new ≡ self.old }
     {
         // Its fields are its word alone: only the contract speaks of them.
         let _ = fields;
         if self.resources.len() == 0 {
-            return Err(RowErr::Bad(Code::NoResources));
+            return Err(RowErr::Bad(ScriptCode::NoResources));
         }
         if self.tasks.len() == 0 {
-            return Err(RowErr::Bad(Code::NoTask));
+            return Err(RowErr::Bad(ScriptCode::NoTask));
         }
         self.last = AT_END;
         Ok(())
     }
 
     // Takes a statement of the latest task.
-    fn take_statement(&mut self, word: Word, fields: &ByteRecord) -> Result<(), RowErr<Code>>
+    fn take_statement(
+        &mut self,
+        word: ScriptWord,
+        fields: &ByteRecord,
+    ) -> Result<(), RowErr<ScriptCode>>
         requires form { word_in (fields_of fields.now) ≡ Some word }
         requires kind { is_statement word ≡ true }
         requires behind { self.old.last ≡ at_tasks }
         ensures taken { OnOk result (Takes self.old self.new (fields_of fields.now) word) }
-        ensures bad { (cause : Code) → result ≡ Err (RowErr.Bad cause) → Refuses self.old (fields_of fields.now) word cause }
-        ensures still { (cause : Code) → result ≡ Err (RowErr.Bad cause) → self.new ≡ self.old }
+        ensures bad { (cause : ScriptCode) → result ≡ Err (RowErr.Bad cause) → Refuses self.old (fields_of fields.now) word cause }
+        ensures still { (cause : ScriptCode) → result ≡ Err (RowErr.Bad cause) → self.new ≡ self.old }
     {
         match statement_of(&self.resources, word, fields) {
             Err(code) => Err(RowErr::Bad(code)),
@@ -221,7 +229,7 @@ impl Reading {
     }
 
     // Keeps a statement of the latest task.
-    fn add(&mut self, statement: Statement) -> Result<(), RowErr<Code>>
+    fn add(&mut self, statement: Statement) -> Result<(), RowErr<ScriptCode>>
         ensures ok { OnOk result (Adds self.old self.new statement) }
         ensures memory { IfErr result (λ e. e ≡ RowErr.Memory) }
     {

@@ -5,13 +5,13 @@ ghost use Rattle.csv.specs.Records.{fields_of};
 ghost use Rattle.rscript.specs.Words.{word_in};
 ghost use Rattle.rscript.specs.Decided.{word_of_one, word_of_two, word_of_three, word_of_four, word_of_five};
 
-use crate::word::Word;
+use crate::word::ScriptWord;
 use csv::ByteRecord;
 use rclaim::Kind;
 use rtrace_form::field_of;
 
 /// What a record of a script is; None where it is none.
-pub fn word_in(fields: &ByteRecord) -> Option<Word>
+pub fn word_in(fields: &ByteRecord) -> Option<ScriptWord>
     ensures { result ≡ word_in (fields_of fields.now) }
 {
     match fields.len() {
@@ -25,79 +25,79 @@ pub fn word_in(fields: &ByteRecord) -> Option<Word>
 }
 
 // What a record of one field is.
-fn word_of_one(first: &[u8]) -> Option<Word>
+fn word_of_one(first: &[u8]) -> Option<ScriptWord>
     ensures { result ≡ word_of_one first.now }
 {
     if is(first, b"rise") {
-        Some(Word::Rise)
+        Some(ScriptWord::Rise)
     } else if is(first, b"finish") {
-        Some(Word::Finish)
+        Some(ScriptWord::Finish)
     } else if is(first, b"end") {
-        Some(Word::End)
+        Some(ScriptWord::End)
     } else {
         None
     }
 }
 
 // What a record of two fields is.
-fn word_of_two(first: &[u8], second: &[u8]) -> Option<Word>
+fn word_of_two(first: &[u8], second: &[u8]) -> Option<ScriptWord>
     ensures { result ≡ word_of_two first.now second.now }
 {
     if is(first, b"rnlp") && is(second, b"1") {
-        Some(Word::Version)
+        Some(ScriptWord::Version)
     } else if is(first, b"resource") {
-        Some(Word::Resource)
+        Some(ScriptWord::Resource)
     } else if is(first, b"group") {
-        Some(Word::Group)
+        Some(ScriptWord::Group)
     } else if is(first, b"task") {
-        Some(Word::Task)
+        Some(ScriptWord::Task)
     } else if is(first, b"show") {
-        Some(Word::Show)
+        Some(ScriptWord::Show)
     } else if is(first, b"ask") {
-        Some(Word::Ask)
+        Some(ScriptWord::Ask)
     } else {
         None
     }
 }
 
 // What a record of three fields is.
-fn word_of_three(first: &[u8]) -> Option<Word>
+fn word_of_three(first: &[u8]) -> Option<ScriptWord>
     ensures { result ≡ word_of_three first.now }
 {
     if is(first, b"read") {
-        Some(Word::Begin(Kind::Read))
+        Some(ScriptWord::Begin(Kind::Read))
     } else if is(first, b"write") {
-        Some(Word::Begin(Kind::Write))
+        Some(ScriptWord::Begin(Kind::Write))
     } else if is(first, b"add") {
-        Some(Word::Add)
+        Some(ScriptWord::Add)
     } else if is(first, b"take") {
-        Some(Word::Take)
+        Some(ScriptWord::Take)
     } else if is(first, b"set") {
-        Some(Word::Put)
+        Some(ScriptWord::Put)
     } else {
         None
     }
 }
 
 // What a record of four fields is.
-fn word_of_four(first: &[u8]) -> Option<Word>
+fn word_of_four(first: &[u8]) -> Option<ScriptWord>
     ensures { result ≡ word_of_four first.now }
 {
     if is(first, b"mixed") {
-        Some(Word::Begin(Kind::Mixed))
+        Some(ScriptWord::Begin(Kind::Mixed))
     } else if is(first, b"upgrade") {
-        Some(Word::Begin(Kind::Upgrade))
+        Some(ScriptWord::Begin(Kind::Upgrade))
     } else {
         None
     }
 }
 
 // What a record of five fields is.
-fn word_of_five(first: &[u8]) -> Option<Word>
+fn word_of_five(first: &[u8]) -> Option<ScriptWord>
     ensures { result ≡ word_of_five first.now }
 {
     if is(first, b"nested") {
-        Some(Word::Begin(Kind::Nested))
+        Some(ScriptWord::Begin(Kind::Nested))
     } else {
         None
     }

@@ -5,8 +5,8 @@ ghost use Rattle.rscript.specs.SoFar.{SoFar, nothing_yet, told_in};
 ghost use Rattle.rscript.specs.Texts.{error_of, IsFirstFault};
 ghost use Rattle.rscript.specs.Reading.{Knows};
 
-use crate::code::Code;
-use crate::reading::Reading;
+use crate::code::ScriptCode;
+use crate::reading::ScriptReader;
 use crate::statement::Statement;
 use rexpand::Groups;
 use rset::NameTable;
@@ -19,7 +19,7 @@ use std::mem;
 #[derive(Clone, Copy, Debug, PartialEq, Eq)]
 pub enum ScriptErr {
     /// It spells no script: its first faulty record, counted from 1, has this fault.
-    Bad { line: u64, code: Code },
+    Bad { line: u64, code: ScriptCode },
     /// Memory ran out.
     Memory,
 }
@@ -83,7 +83,7 @@ impl Script {
     }
 
     // The script that a reader has read, which is given away. Its groups are there, as it has a task.
-    fn of(reading: &mut Reading) -> Result<Script, ScriptErr>
+    fn of(reading: &mut ScriptReader) -> Result<Script, ScriptErr>
         requires { (s : SoFar) × Knows reading.old s × IsScript (told_in s) }
         ensures said { IfOk result (λ script. (s : SoFar) → Knows reading.old s → script ≡ told_in s) }
         ensures memory { IfErr result (λ e. e ≡ ScriptErr.Memory) }
@@ -111,16 +111,16 @@ impl Script {
 /// The first faulty record of a text that spells no script, with the first of its codes; or want of memory.
 pub fn read_script(alloc: Global, bytes: &[u8]) -> Result<Script, ScriptErr>
     ensures script { IfOk result (IsTextOf bytes.now) }
-    ensures bad { (line : ℕ) (code : Code) → result ≡ Err (ScriptErr.Bad line code) → IsFirstFault bytes.now line code }
+    ensures bad { (line : ℕ) (code : ScriptCode) → result ≡ Err (ScriptErr.Bad line code) → IsFirstFault bytes.now line code }
 {
-    take_script(alloc, bytes, &mut Reading::new(alloc))
+    take_script(alloc, bytes, &mut ScriptReader::new(alloc))
 }
 
 // The same, by a reader that has read nothing.
-fn take_script(alloc: Global, bytes: &[u8], reading: &mut Reading) -> Result<Script, ScriptErr>
+fn take_script(alloc: Global, bytes: &[u8], reading: &mut ScriptReader) -> Result<Script, ScriptErr>
     requires { Knows reading.old nothing_yet }
     ensures script { IfOk result (IsTextOf bytes.now) }
-    ensures bad { (line : ℕ) (code : Code) → result ≡ Err (ScriptErr.Bad line code) → IsFirstFault bytes.now line code }
+    ensures bad { (line : ℕ) (code : ScriptCode) → result ≡ Err (ScriptErr.Bad line code) → IsFirstFault bytes.now line code }
 {
     match take_text(alloc, bytes, reading) {
         Ok(()) => Script::of(reading),
@@ -129,7 +129,7 @@ fn take_script(alloc: Global, bytes: &[u8], reading: &mut Reading) -> Result<Scr
 }
 
 // Why a text is no script that was not taken.
-fn error_of(e: TextErr<Code>) -> ScriptErr
+fn error_of(e: TextErr<ScriptCode>) -> ScriptErr
     ensures { result ≡ error_of e }
 {
     match e {

@@ -10,7 +10,7 @@ use rset::ResourceSet;
 
 /// A section that is open.
 #[derive(Clone, Copy)]
-pub struct Section {
+pub struct OpenSection {
     /// The request that it began with.
     pub request: Request,
     /// Whether it has risen.
@@ -20,11 +20,11 @@ pub struct Section {
 }
 
 /// The section that is open behind a statement, if one is; `section` is the one that is open before it.
-pub fn section_after(section: Option<Section>, statement: &Statement) -> Option<Section>
+pub fn section_after(section: Option<OpenSection>, statement: &Statement) -> Option<OpenSection>
     ensures { result ≡ section_next section statement.now }
 {
     match statement {
-        Statement::Begin(request) => Some(Section {
+        Statement::Begin(request) => Some(OpenSection {
             request: *request,
             risen: false,
             asked: request.first(),
@@ -37,15 +37,15 @@ pub fn section_after(section: Option<Section>, statement: &Statement) -> Option<
 }
 
 // The section that has asked for a part more.
-fn with_asked(section: Option<Section>, part: ResourceSet) -> Option<Section>
+fn with_asked(section: Option<OpenSection>, part: ResourceSet) -> Option<OpenSection>
     ensures { result ≡ option_map (with_asked part) section }
 {
-    let Section {
+    let OpenSection {
         request,
         risen,
         asked,
     } = section?;
-    Some(Section {
+    Some(OpenSection {
         request,
         risen,
         asked: asked.union(part),
@@ -53,11 +53,11 @@ fn with_asked(section: Option<Section>, part: ResourceSet) -> Option<Section>
 }
 
 // The section that has risen.
-fn with_risen(section: Option<Section>) -> Option<Section>
+fn with_risen(section: Option<OpenSection>) -> Option<OpenSection>
     ensures { result ≡ option_map with_risen section }
 {
-    let Section { request, asked, .. } = section?;
-    Some(Section {
+    let OpenSection { request, asked, .. } = section?;
+    Some(OpenSection {
         request,
         risen: true,
         asked,
@@ -65,7 +65,7 @@ fn with_risen(section: Option<Section>) -> Option<Section>
 }
 
 /// Whether a resource is held for writing where this section is open.
-pub fn is_writable(section: &Option<Section>, place: u8) -> bool
+pub fn is_writable(section: &Option<OpenSection>, place: u8) -> bool
     requires { place < RESOURCES }
     ensures { result ≡ is_writable section.now place }
 {
@@ -73,7 +73,7 @@ pub fn is_writable(section: &Option<Section>, place: u8) -> bool
 }
 
 /// Whether a resource is held where this section is open, for reading or for writing.
-pub fn is_held(section: &Option<Section>, place: u8) -> bool
+pub fn is_held(section: &Option<OpenSection>, place: u8) -> bool
     requires { place < RESOURCES }
     ensures { result ≡ is_held section.now place }
 {
@@ -82,7 +82,7 @@ pub fn is_held(section: &Option<Section>, place: u8) -> bool
 }
 
 /// Whether a set is a part, not empty, of what the request of the open section is about.
-pub fn may_ask_for(section: &Option<Section>, part: ResourceSet) -> bool
+pub fn may_ask_for(section: &Option<OpenSection>, part: ResourceSet) -> bool
     ensures { result ≡ may_ask_for section.now part }
 {
     match section {
@@ -95,7 +95,7 @@ pub fn may_ask_for(section: &Option<Section>, part: ResourceSet) -> bool
 }
 
 // What is held where this section is open; outside a section nothing is.
-fn held_in(section: &Option<Section>) -> Granted
+fn held_in(section: &Option<OpenSection>) -> Granted
     ensures { result ≡ held_in section.now }
 {
     let none = ResourceSet::empty();
@@ -109,7 +109,7 @@ fn held_in(section: &Option<Section>) -> Granted
 }
 
 // What a section holds.
-fn held_by(section: &Section) -> Granted
+fn held_by(section: &OpenSection) -> Granted
     ensures { result ≡ held_as section.now.request.kind section.now }
 {
     let none = ResourceSet::empty();

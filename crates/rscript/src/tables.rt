@@ -7,7 +7,7 @@ ghost use Rattle.rexpand.specs.declared.TheConstants.{GROUPS};
 ghost use Rattle.rtrace_form.specs.Walks.{first_of};
 ghost use Rattle.rscript.specs.Causes.{groups_in, name_causes};
 
-use crate::code::Code;
+use crate::code::ScriptCode;
 use rexpand::{GROUPS, GroupErr, Groups};
 use rset::{NameErr, NameTable, ResourceSet};
 use rtrace_form::RowErr;
@@ -22,16 +22,16 @@ const _: () = prove!(rset::SEATS as u16 == rset::RESOURCES);
 ///
 /// The first that is wrong with it (`BadName`, `Repeated`, or `TooMany` where the table has `RESOURCES` names already, which
 /// are as many as there may be tasks), or want of memory. The table is then as it was.
-pub fn declare(table: &mut NameTable, name: &[u8]) -> Result<(), RowErr<Code>>
+pub fn declare(table: &mut NameTable, name: &[u8]) -> Result<(), RowErr<ScriptCode>>
     ensures ok { OnOk result ((first_of (name_causes RESOURCES table.old name.now) ≡ None) × (table.new ≡ table.old ++ name.now ∷ [])) }
-    ensures bad { (cause : Code) → result ≡ Err (RowErr.Bad cause) → first_of (name_causes RESOURCES table.old name.now) ≡ Some cause }
+    ensures bad { (cause : ScriptCode) → result ≡ Err (RowErr.Bad cause) → first_of (name_causes RESOURCES table.old name.now) ≡ Some cause }
     ensures still { OnErr result (table.new ≡ table.old) }
 {
     match table.add(name) {
         Ok(_) => Ok(()),
-        Err(NameErr::BadName) => Err(RowErr::Bad(Code::BadName)),
-        Err(NameErr::Repeated) => Err(RowErr::Bad(Code::Repeated)),
-        Err(NameErr::TooMany) => Err(RowErr::Bad(Code::TooMany)),
+        Err(NameErr::BadName) => Err(RowErr::Bad(ScriptCode::BadName)),
+        Err(NameErr::Repeated) => Err(RowErr::Bad(ScriptCode::Repeated)),
+        Err(NameErr::TooMany) => Err(RowErr::Bad(ScriptCode::TooMany)),
         Err(NameErr::Memory) => Err(RowErr::Memory),
     }
 }
@@ -51,7 +51,11 @@ pub fn has_all_groups(groups: &Option<Groups>) -> bool
 /// # Errors
 ///
 /// Want of memory.
-pub fn make_groups(alloc: Global, groups: &mut Option<Groups>, q: u8) -> Result<(), RowErr<Code>>
+pub fn make_groups(
+    alloc: Global,
+    groups: &mut Option<Groups>,
+    q: u8,
+) -> Result<(), RowErr<ScriptCode>>
     requires some { 1 ≤ q }
     requires few { q ≤ RESOURCES }
     requires over { IfSome groups.old (λ g. g.q ≡ q) }
@@ -77,7 +81,7 @@ pub fn add_group(
     groups: &mut Option<Groups>,
     q: u8,
     set: ResourceSet,
-) -> Result<(), RowErr<Code>>
+) -> Result<(), RowErr<ScriptCode>>
     requires some { 1 ≤ q }
     requires few { q ≤ RESOURCES }
     requires over { IfSome groups.old (λ g. g.q ≡ q) }

@@ -1,19 +1,19 @@
 // A reader of scripts takes the records of a text one after another.
 ghost use Rattle.std.specs.Prelude.{◌≡◌};
 
-use crate::code::Code;
+use crate::code::ScriptCode;
 use crate::place::AT_END;
-use crate::reading::Reading;
+use crate::reading::ScriptReader;
 use crate::record::word_in;
 use csv::ByteRecord;
 use rtrace_form::{Records, RowErr};
 
-impl Records for Reading {
+impl Records for ScriptReader {
     ghost use Rattle.rscript.specs.Reading.{Knows};
     ghost use Rattle.rscript.specs.Texts.{script_code, is_script_done, KnowsSaid};
-    ghost use Rattle.rscript.specs.declared.code.Code.TheVariants.{NoEnd};
+    ghost use Rattle.rscript.specs.declared.code.ScriptCode.TheVariants.{NoEnd};
 
-    type Code = Code;
+    type Code = ScriptCode;
 
     ghost code = { script_code };
 
@@ -25,12 +25,12 @@ impl Records for Reading {
 
     ghost stays = { λ was now. now ≡ was };
 
-    fn take(&mut self, fields: &ByteRecord) -> Result<(), RowErr<Code>> {
+    fn take(&mut self, fields: &ByteRecord) -> Result<(), RowErr<ScriptCode>> {
         let Some(word) = word_in(fields) else {
-            return Err(RowErr::Bad(Code::BadField));
+            return Err(RowErr::Bad(ScriptCode::BadField));
         };
         if !self.may_stand(word) {
-            return Err(RowErr::Bad(Code::BadOrder));
+            return Err(RowErr::Bad(ScriptCode::BadOrder));
         }
         self.take_word(word, fields)
     }
@@ -39,7 +39,7 @@ impl Records for Reading {
         self.last == AT_END
     }
 
-    fn no_end(&self) -> Code {
-        Code::NoEnd
+    fn no_end(&self) -> ScriptCode {
+        ScriptCode::NoEnd
     }
 }

@@ -6,9 +6,9 @@ ghost use Rattle.rscript.specs.Causes.{request_code};
 ghost use Rattle.rscript.specs.Words.{word_in};
 ghost use Rattle.rscript.specs.Told.{is_edit, is_statement, edit_by, HasPlace, Tells, IsWrong, is_of_fields};
 
-use crate::code::Code;
+use crate::code::ScriptCode;
 use crate::statement::Statement;
-use crate::word::Word;
+use crate::word::ScriptWord;
 use csv::ByteRecord;
 use rclaim::{Kind, RequestErr};
 use rset::NameTable;
@@ -26,9 +26,9 @@ const FIRST_SET: u8 = 1;
 /// above its limit, and what refuses its request whatever read groups there are.
 pub fn statement_of(
     resources: &NameTable,
-    word: Word,
+    word: ScriptWord,
     fields: &ByteRecord,
-) -> Result<Statement, Code>
+) -> Result<Statement, ScriptCode>
     requires form { word_in (fields_of fields.now) ≡ Some word }
     requires kind { is_statement word ≡ true }
     ensures told { IfOk result (λ statement. Tells resources.now word (fields_of fields.now) statement) }
@@ -37,30 +37,30 @@ pub fn statement_of(
     ensures fields { IfErr result (λ code. is_of_fields code ≡ true) }
 {
     match word {
-        Word::Begin(kind) => begin_of(resources, kind, fields),
-        Word::Show => show_of(resources, fields),
-        Word::Add => edit_of(resources, word, fields),
-        Word::Take => edit_of(resources, word, fields),
-        Word::Put => edit_of(resources, word, fields),
-        Word::Ask => ask_of(resources, fields),
-        Word::Rise => Ok(Statement::Rise),
+        ScriptWord::Begin(kind) => begin_of(resources, kind, fields),
+        ScriptWord::Show => show_of(resources, fields),
+        ScriptWord::Add => edit_of(resources, word, fields),
+        ScriptWord::Take => edit_of(resources, word, fields),
+        ScriptWord::Put => edit_of(resources, word, fields),
+        ScriptWord::Ask => ask_of(resources, fields),
+        ScriptWord::Rise => Ok(Statement::Rise),
         _ => Ok(Statement::Finish),
     }
 }
 
 // The beginning of a section of this kind that a record tells.
-fn begin_of(resources: &NameTable, kind: Kind, fields: &ByteRecord) -> Result<Statement, Code>
-    requires { word_in (fields_of fields.now) ≡ Some (Word.Begin kind) }
-    ensures told { IfOk result (λ statement. Tells resources.now (Word.Begin kind) (fields_of fields.now) statement) }
+fn begin_of(resources: &NameTable, kind: Kind, fields: &ByteRecord) -> Result<Statement, ScriptCode>
+    requires { word_in (fields_of fields.now) ≡ Some (ScriptWord.Begin kind) }
+    ensures told { IfOk result (λ statement. Tells resources.now (ScriptWord.Begin kind) (fields_of fields.now) statement) }
     ensures place { IfOk result (HasPlace RESOURCES) }
-    ensures wrong { IfErr result (IsWrong resources.now (Word.Begin kind) (fields_of fields.now)) }
+    ensures wrong { IfErr result (IsWrong resources.now (ScriptWord.Begin kind) (fields_of fields.now)) }
     ensures fields { IfErr result (λ code. is_of_fields code ≡ true) }
 {
     let Some(sets) = sets_of(resources, kind, fields, FIRST_SET) else {
-        return Err(Code::UnknownName);
+        return Err(ScriptCode::UnknownName);
     };
     let Some(lengths) = lengths_of(kind, fields, FIRST_SET) else {
-        return Err(Code::BadNumber);
+        return Err(ScriptCode::BadNumber);
     };
     match request_of(kind, &sets, &lengths) {
         Ok(request) => Ok(Statement::Begin(request)),
@@ -69,32 +69,36 @@ fn begin_of(resources: &NameTable, kind: Kind, fields: &ByteRecord) -> Result<St
 }
 
 /// The code of a request that is refused.
-pub fn request_code(cause: RequestErr) -> Code
+pub fn request_code(cause: RequestErr) -> ScriptCode
     ensures { result ≡ request_code cause }
 {
     match cause {
-        RequestErr::EmptyRequest => Code::EmptyRequest,
-        RequestErr::Undeclared => Code::Undeclared,
-        RequestErr::FirstOutside => Code::FirstOutside,
+        RequestErr::EmptyRequest => ScriptCode::EmptyRequest,
+        RequestErr::Undeclared => ScriptCode::Undeclared,
+        RequestErr::FirstOutside => ScriptCode::FirstOutside,
     }
 }
 
 // The show that a record tells.
-fn show_of(resources: &NameTable, fields: &ByteRecord) -> Result<Statement, Code>
-    requires { word_in (fields_of fields.now) ≡ Some Word.Show }
-    ensures told { IfOk result (λ statement. Tells resources.now Word.Show (fields_of fields.now) statement) }
+fn show_of(resources: &NameTable, fields: &ByteRecord) -> Result<Statement, ScriptCode>
+    requires { word_in (fields_of fields.now) ≡ Some ScriptWord.Show }
+    ensures told { IfOk result (λ statement. Tells resources.now ScriptWord.Show (fields_of fields.now) statement) }
     ensures place { IfOk result (HasPlace RESOURCES) }
-    ensures wrong { IfErr result (IsWrong resources.now Word.Show (fields_of fields.now)) }
+    ensures wrong { IfErr result (IsWrong resources.now ScriptWord.Show (fields_of fields.now)) }
     ensures fields { IfErr result (λ code. is_of_fields code ≡ true) }
 {
     match resources.number_of(field_of(fields, 1)) {
         Some(place) => Ok(Statement::Show { place }),
-        None => Err(Code::UnknownName),
+        None => Err(ScriptCode::UnknownName),
     }
 }
 
 // The edit that a record tells.
-fn edit_of(resources: &NameTable, word: Word, fields: &ByteRecord) -> Result<Statement, Code>
+fn edit_of(
+    resources: &NameTable,
+    word: ScriptWord,
+    fields: &ByteRecord,
+) -> Result<Statement, ScriptCode>
     requires form { word_in (fields_of fields.now) ≡ Some word }
     requires edit { is_edit word ≡ true }
     ensures told { IfOk result (λ statement. Tells resources.now word (fields_of fields.now) statement) }
@@ -103,10 +107,10 @@ fn edit_of(resources: &NameTable, word: Word, fields: &ByteRecord) -> Result<Sta
     ensures fields { IfErr result (λ code. is_of_fields code ≡ true) }
 {
     let Some(place) = resources.number_of(field_of(fields, 1)) else {
-        return Err(Code::UnknownName);
+        return Err(ScriptCode::UnknownName);
     };
     let Some(number) = number_of(field_of(fields, 2)) else {
-        return Err(Code::BadNumber);
+        return Err(ScriptCode::BadNumber);
     };
     Ok(Statement::Edit {
         place,
@@ -115,26 +119,26 @@ fn edit_of(resources: &NameTable, word: Word, fields: &ByteRecord) -> Result<Sta
 }
 
 // The edit of this word with this number.
-fn edit_by(word: Word, number: u64) -> Edit
+fn edit_by(word: ScriptWord, number: u64) -> Edit
     ensures { result ≡ edit_by word number }
 {
     match word {
-        Word::Add => Edit::Add(number),
-        Word::Take => Edit::Take(number),
+        ScriptWord::Add => Edit::Add(number),
+        ScriptWord::Take => Edit::Take(number),
         _ => Edit::Set(number),
     }
 }
 
 // The ask that a record tells.
-fn ask_of(resources: &NameTable, fields: &ByteRecord) -> Result<Statement, Code>
-    requires { word_in (fields_of fields.now) ≡ Some Word.Ask }
-    ensures told { IfOk result (λ statement. Tells resources.now Word.Ask (fields_of fields.now) statement) }
+fn ask_of(resources: &NameTable, fields: &ByteRecord) -> Result<Statement, ScriptCode>
+    requires { word_in (fields_of fields.now) ≡ Some ScriptWord.Ask }
+    ensures told { IfOk result (λ statement. Tells resources.now ScriptWord.Ask (fields_of fields.now) statement) }
     ensures place { IfOk result (HasPlace RESOURCES) }
-    ensures wrong { IfErr result (IsWrong resources.now Word.Ask (fields_of fields.now)) }
+    ensures wrong { IfErr result (IsWrong resources.now ScriptWord.Ask (fields_of fields.now)) }
     ensures fields { IfErr result (λ code. is_of_fields code ≡ true) }
 {
     match set_of(resources, field_of(fields, 1)) {
         Some(set) => Ok(Statement::Ask { set }),
-        None => Err(Code::UnknownName),
+        None => Err(ScriptCode::UnknownName),
     }
 }

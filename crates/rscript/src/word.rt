@@ -3,7 +3,7 @@ use rclaim::Kind;
 
 /// What a record is. Each has its own list of fields.
 #[derive(Clone, Copy)]
-pub enum Word {
+pub enum ScriptWord {
     /// `rnlp,1`
     Version,
     /// `resource,NAME`

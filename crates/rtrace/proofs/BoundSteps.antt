@@ -16,9 +16,9 @@ use Rattle.rtrace_form.proofs.forth.Rows.{HaveTold, have_told}
 use Rattle.rtrace_form.proofs.lists.BlankLines.{blank, lines_blank}
 use Rattle.rtrace_form.proofs.lists.Likes.{told_from, bounds_in, bounds_are_due}
 use Rattle.rtrace_form.proofs.texts.Lists.{read_more, bounds_more, list_faults}
-use Rattle.rtrace_read.specs.declared.reading.Reading.{Reading}
-use Rattle.rtrace_read.specs.declared.taken.Taken.{Taken}
-use Rattle.rtrace_read.specs.declared.taken.Taken.TheVariants as taken
+use Rattle.rtrace_read.specs.declared.reading.ReportReader.{ReportReader}
+use Rattle.rtrace_read.specs.declared.taken.TakenRecord.{TakenRecord}
+use Rattle.rtrace_read.specs.declared.taken.TakenRecord.TheVariants as taken
 use Rattle.rtrace_read.specs.Knows.{Knows}
 use Rattle.rtrace_read.specs.Takes.{Adds, TakesRow, TellsBound, bound_of}
 use Rattle.rtrace.specs.declared.count.Counting.{Counting}
@@ -42,7 +42,7 @@ act_same : (f : Entry → Entry) (o : Option Entry) → length (option_to_list (
 act_same f None = refl
 act_same f (Some x) = refl
 
-entries_more : (what : Taken) (s t : SoFar) → Adds what s t → length (entries_in t) ≡ length (entries_in s) + one_if_event what
+entries_more : (what : TakenRecord) (s t : SoFar) → Adds what s t → length (entries_in t) ≡ length (entries_in s) + one_if_event what
 entries_more (taken.Event e) s t adds =
     (λ i. length (adds.0 i ++ option_to_list (adds.1 i))) ∙ length-append (entries_in s) (bare e ∷ [])
 entries_more (taken.Act act) s t adds =
@@ -61,12 +61,12 @@ module _ (rows : List Row) (row : Row) where
   pub by_rows : {T : Type 0} (L : T → SoFar → Type 0) (new : T) → L new (with_row true (read_all true rows) row) → L new (read_all true (rows ++ row ∷ []))
   by_rows L new h = subst (λ (t : SoFar). L new t) (sym (read_more true rows row)) h
 
-  pub events_more : (what : Taken) → Adds what (read_all true rows) (with_row true (read_all true rows) row)
+  pub events_more : (what : TakenRecord) → Adds what (read_all true rows) (with_row true (read_all true rows) row)
       → length (entries_in (read_all true (rows ++ row ∷ []))) ≡ length (entries_in (read_all true rows)) + one_if_event what
   events_more what adds = ap (λ (t : SoFar). length (entries_in t)) (read_more true rows row) ∙ entries_more what (read_all true rows) (with_row true (read_all true rows) row) adds
 
 -- one record more is counted
-pub count_on : (old new : Counting) (rows : List Row) (row : Row) (what : Taken) → KnowsCount old rows → TakesRow old.reading new.reading row what → TellsBound old.reading row what
+pub count_on : (old new : Counting) (rows : List Row) (row : Row) (what : TakenRecord) → KnowsCount old rows → TakesRow old.reading new.reading row what → TellsBound old.reading row what
     → KnowsBounds new.bounds (rows ++ row ∷ []) → new.events ≡ old.events + one_if_event what → new.waits ≡ old.waits + one_if_told (bound_of what)
     → (list_code true rows row ≡ None) × KnowsCount new (rows ++ row ∷ [])
 count_on old new rows row what h takes tells bounds events waits =
@@ -76,7 +76,7 @@ count_on old new rows row what h takes tells bounds events waits =
     let was = h.events in
     let said = h.waits in (
       took.0,
-      record { knows = by_rows rows row (λ (r : Reading) (t : SoFar). Knows true r t) new.reading took.1; bounds = bounds; events = omega (arith, events, more, was); waits = omega (arith, waits, on, said) },
+      record { knows = by_rows rows row (λ (r : ReportReader) (t : SoFar). Knows true r t) new.reading took.1; bounds = bounds; events = omega (arith, events, more, was); waits = omega (arith, waits, on, said) },
     )
 
 -- records tell no more waits than there are records

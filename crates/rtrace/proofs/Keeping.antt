@@ -6,22 +6,22 @@ use Rattle.rtrace_form.specs.Reports.{Entry}
 use Rattle.rtrace_form.specs.SoFar.{SoFar, with_act, with_row}
 use Rattle.rtrace_form.specs.Faults.{code_of}
 use Rattle.rtrace.specs.declared.collect.Collecting.{Collecting}
-use Rattle.rtrace_read.specs.declared.reading.Reading.{Reading}
-use Rattle.rtrace_read.specs.declared.taken.Taken.{Taken}
-use Rattle.rtrace_read.specs.declared.taken.Taken.TheVariants as taken
+use Rattle.rtrace_read.specs.declared.reading.ReportReader.{ReportReader}
+use Rattle.rtrace_read.specs.declared.taken.TakenRecord.{TakenRecord}
+use Rattle.rtrace_read.specs.declared.taken.TakenRecord.TheVariants as taken
 use Rattle.rtrace_read.specs.Knows.{Knows}
 use Rattle.rtrace_read.specs.Takes.{Adds, TakesRow}
 use Rattle.rtrace.specs.Collects.{KnowsAll, Keeps}
 
-module _ (whole : Bool) (old new : Collecting) (reading : Reading) (s t : SoFar) (h : KnowsAll whole old s) (knows : Knows whole reading t) where
-  keeps_at : (what : Taken) → Adds what s t → Keeps what (record old { reading = reading }) new → KnowsAll whole new t
+module _ (whole : Bool) (old new : Collecting) (reading : ReportReader) (s t : SoFar) (h : KnowsAll whole old s) (knows : Knows whole reading t) where
+  keeps_at : (what : TakenRecord) → Adds what s t → Keeps what (record old { reading = reading }) new → KnowsAll whole new t
   keeps_at (taken.Event e) adds keeps = record {
-    knows = subst (λ (r : Reading). Knows whole r t) (sym keeps.0) knows;
+    knows = subst (λ (r : ReportReader). Knows whole r t) (sym keeps.0) knows;
     earlier = keeps.1 ∙ (λ i. h.earlier i ++ option_to_list (h.latest i)) ∙ sym adds.0;
     latest = keeps.2 ∙ sym adds.1;
   }
   keeps_at (taken.Act act) adds keeps = record {
-    knows = subst (λ (r : Reading). Knows whole r t) (sym keeps.0) knows;
+    knows = subst (λ (r : ReportReader). Knows whole r t) (sym keeps.0) knows;
     earlier = keeps.1 ∙ h.earlier ∙ sym adds.0;
     latest = keeps.2 ∙ ap (λ (l : Option Entry). option_map (with_act act) l) h.latest ∙ sym adds.1;
   }
@@ -37,7 +37,7 @@ module _ (whole : Bool) (old new : Collecting) (reading : Reading) (s t : SoFar)
   }
 
 -- what a reader took is kept
-pub keeps_all : (whole : Bool) (old new : Collecting) (reading : Reading) (s : SoFar) (row : Row) (what : Taken) → KnowsAll whole old s → TakesRow old.reading reading row what → Keeps what (record old { reading = reading }) new
+pub keeps_all : (whole : Bool) (old new : Collecting) (reading : ReportReader) (s : SoFar) (row : Row) (what : TakenRecord) → KnowsAll whole old s → TakesRow old.reading reading row what → Keeps what (record old { reading = reading }) new
     → (code_of whole s row ≡ None) × KnowsAll whole new (with_row whole s row)
 keeps_all whole old new reading s row what h takes keeps =
     let took = takes whole s h.knows in

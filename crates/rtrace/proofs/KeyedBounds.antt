@@ -19,7 +19,7 @@ use Rattle.rtrace.specs.Keys.{same_key}
 use Rattle.rtrace.specs.KeyFacts.{same_key-true}
 use Rattle.rtrace.specs.Kept.{Keyed, told_in, first_kept, more_kept, lesser, wrong_by, least_wrong, IsBelow, Tells}
 use Rattle.rtrace.specs.declared.key.Key.{Key}
-use Rattle.rtrace.specs.declared.kept.Kept.{Kept}
+use Rattle.rtrace.specs.declared.kept_bounds.Kept.{Kept}
 
 -- what is kept of a key with one bound more, where this was kept before
 abbrev pub kept_with : Option Kept → ℕ → Bound → Kept

@@ -20,8 +20,8 @@ use Rattle.rtrace.specs.Told.{Told, said, waits_of, AreBefore}
 use Rattle.rtrace.specs.Kept.{Keyed, told_in, least_wrong, Tells}
 use Rattle.rtrace.specs.Knows.{KnowsTold, AreOfWaits, bound_of_key}
 use Rattle.rtrace.specs.declared.key.Key.{Key}
-use Rattle.rtrace.specs.declared.kept.Kept.{Kept}
-use Rattle.rtrace.specs.declared.told.ToldBounds.{ToldBounds}
+use Rattle.rtrace.specs.declared.kept_bounds.Kept.{Kept}
+use Rattle.rtrace.specs.declared.told_bounds.ToldBounds.{ToldBounds}
 use Rattle.rtrace.proofs.KeyedBounds.{noted, noted_keys, tells_more}
 
 module _ (groups : ReadGroups) (seats cap : ℕ) where

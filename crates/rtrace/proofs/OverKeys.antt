@@ -12,7 +12,7 @@ use Rattle.rbound_history.specs.declared.key.BoundKey.{BoundKey}
 use Rattle.rtrace.specs.Kept.{lesser, wrong_by, least_wrong}
 use Rattle.rtrace.specs.Knows.{AreOfWaits, bound_of_key}
 use Rattle.rtrace.specs.declared.key.Key.{Key}
-use Rattle.rtrace.specs.declared.kept.Kept.{Kept}
+use Rattle.rtrace.specs.declared.kept_bounds.Kept.{Kept}
 use Rattle.rtrace.proofs.KeyedBounds.{lesser_of_three}
 use Rattle.rtrace.proofs.Knowing.{bound_had}
 

@@ -15,7 +15,7 @@ use Rattle.rbound_history.specs.Keys.{IsLastEnded}
 use Rattle.rbound_history.specs.Knows.{bound_by}
 use Rattle.rtrace.specs.Told.{Told, said, waits_of, AreBefore}
 use Rattle.rtrace.specs.Knows.{KnowsTold}
-use Rattle.rtrace.specs.declared.told.ToldBounds.{ToldBounds}
+use Rattle.rtrace.specs.declared.told_bounds.ToldBounds.{ToldBounds}
 use Rattle.rtrace_form.specs.Heads.{Head, is_nil, read_groups}
 use Rattle.rtrace_form.specs.Records.{Row}
 use Rattle.rtrace_form.specs.Waits.{all_ended, bound_in, ended_in, events_of}
@@ -26,10 +26,10 @@ use Rattle.rtrace_form.specs.WrongBounds.{bound_said, bounds_said, bounds_due, o
 use Rattle.rtrace_form.proofs.facts.Choices.{some_is}
 use Rattle.rtrace_form.proofs.texts.Lists.{read_more, bounds_more}
 use Rattle.rtrace.specs.declared.bounds.BoundsKept.{BoundsKept}
-use Rattle.rtrace_read.specs.declared.reading.Reading.{Reading}
+use Rattle.rtrace_read.specs.declared.reading.ReportReader.{ReportReader}
 use Rattle.rtrace_read.specs.declared.taken.BoundTold.{BoundTold}
-use Rattle.rtrace_read.specs.declared.taken.Taken.{Taken}
-use Rattle.rtrace_read.specs.declared.taken.Taken.TheVariants as taken
+use Rattle.rtrace_read.specs.declared.taken.TakenRecord.{TakenRecord}
+use Rattle.rtrace_read.specs.declared.taken.TakenRecord.TheVariants as taken
 use Rattle.rtrace_read.specs.Knows.{Knows, StandBehind, past_in, ended_at, waits_due}
 use Rattle.rtrace_read.specs.Takes.{Adds, bound_of}
 use Rattle.rtrace.specs.ToldBounds.{AreTold, IsMade, KnowsBounds, HasRead}
@@ -59,7 +59,7 @@ past_by head events = record { groups = read_groups head; seats = length head.ta
 
 module _ (s t : SoFar) where
   -- an act is of the latest event
-  same_events : (what : Taken) → Adds what s t → ((e : Event) → what ≡ taken.Event e → ⊥) → events_of (entries_in t) ≡ events_of (entries_in s)
+  same_events : (what : TakenRecord) → Adds what s t → ((e : Event) → what ≡ taken.Event e → ⊥) → events_of (entries_in t) ≡ events_of (entries_in s)
   same_events (taken.Event e) adds other = absurd (other e refl)
   same_events (taken.Act act) adds other = (λ i. events_of (adds.0 i ++ option_to_list (adds.1 i))) ∙ at s.latest
     where
@@ -69,7 +69,7 @@ module _ (s t : SoFar) where
   same_events (taken.Wait told) adds other = λ i. events_of (adds.0 i ++ option_to_list (adds.1 i))
   same_events taken.Other adds other = λ i. events_of (adds.0 i ++ option_to_list (adds.1 i))
 
-  latest_stays : (what : Taken) → Adds what s t → IsSome s.latest → IsSome t.latest
+  latest_stays : (what : TakenRecord) → Adds what s t → IsSome s.latest → IsSome t.latest
   latest_stays (taken.Event e) adds some = subst (λ (l : Option Entry). IsSome l) (sym adds.1) refl
   latest_stays (taken.Act act) adds some = subst (λ (l : Option Entry). IsSome l) (sym adds.1) (at s.latest some)
     where
@@ -86,17 +86,17 @@ module _ (s t : SoFar) where
 
 -- ---- what is no event
 
-abbrev pub tells_event : Taken → Bool
+abbrev pub tells_event : TakenRecord → Bool
 tells_event (taken.Event e) = true
 tells_event _ = false
 
-pub no_event : (what : Taken) → tells_event what ≡ false → (e : Event) → what ≡ taken.Event e → ⊥
+pub no_event : (what : TakenRecord) → tells_event what ≡ false → (e : Event) → what ≡ taken.Event e → ⊥
 no_event what other e is = true≢false (sym (ap tells_event is) ∙ other)
 
 -- ---- waits
 
 -- the first wait that is due was ended by the last event
-pub last_ended_is : (old : Reading) (s : SoFar) (w : WaitEnd) (rest : List WaitEnd) → Knows true old s → waits_due s ≡ w ∷ rest → IsLastEnded (past_in s).groups (past_in s).seats (past_in s).cap (past_in s).events w
+pub last_ended_is : (old : ReportReader) (s : SoFar) (w : WaitEnd) (rest : List WaitEnd) → Knows true old s → waits_due s ≡ w ∷ rest → IsLastEnded (past_in s).groups (past_in s).seats (past_in s).cap (past_in s).events w
 unfolding ended_in
 last_ended_is old s w rest h first = at s.latest refl (among_drop (ended_at (head_in s) s.earlier s.latest) _ w rest first)
   where
@@ -141,7 +141,7 @@ module _ (rows : List Row) (row : Row) where
   said_more : (o : Option Numbers) → bound_said true (names_in (read_all true rows)) row ≡ o → bounds_said true 1 nothing_yet (rows ++ row ∷ []) ≡ bounds_said true 1 nothing_yet rows ++ or_more (length rows + 1) o []
   said_more o is = bounds_more true rows row ∙ ap (λ b. bounds_said true 1 nothing_yet rows ++ or_more (length rows + 1) b []) is
 
-module _ (old new : Reading) (rows : List Row) (row : Row) (what : Taken) (read : HasRead old new rows row what) (kept : BoundsKept) (h : KnowsBounds kept rows) where
+module _ (old new : ReportReader) (rows : List Row) (row : Row) (what : TakenRecord) (read : HasRead old new rows row what) (kept : BoundsKept) (h : KnowsBounds kept rows) where
   abbrev pub s : SoFar
   s = read_all true rows
 
@@ -174,7 +174,7 @@ module _ (old new : Reading) (rows : List Row) (row : Row) (what : Taken) (read 
 
   module _ (e : Event) (is_event : what ≡ taken.Event e) where
     event_adds : (t.earlier ≡ entries_in s) × (t.latest ≡ Some (bare e))
-    event_adds = subst (λ (w : Taken). Adds w s t) is_event took.2
+    event_adds = subst (λ (w : TakenRecord). Adds w s t) is_event took.2
 
     event_past : past_in t ≡ with_event (past_in s) e
     event_past =
@@ -201,7 +201,7 @@ module _ (old new : Reading) (rows : List Row) (row : Row) (what : Taken) (read 
 
   module _ (x : BoundTold) (is_wait : what ≡ taken.Wait x) where
     wait_due : waits_due s ≡ x.wait ∷ waits_due t
-    wait_due = (subst (λ (w : Taken). Adds w s t) is_wait took.2).2
+    wait_due = (subst (λ (w : TakenRecord). Adds w s t) is_wait took.2).2
 
     pub wait_ended : IsLastEnded (past_in s).groups (past_in s).seats (past_in s).cap (past_in s).events x.wait
     wait_ended = last_ended_is old s x.wait (waits_due t) read.knows wait_due
@@ -258,11 +258,11 @@ module _ (kept : BoundsKept) (rows : List Row) (h : KnowsBounds kept rows) (nine
       ap (option_map wrong_bound) (λ i. first_other (sym (h.bounds ∙ ap said items) i) (bounds_due (head_in end) (entries_in end)))
 
 -- the groups of a reader behind the head are those of what was said
-pub groups_are : (reading : Reading) (s : SoFar) (g : ReadGroups) → Knows true reading s → s.last ≡ 9 → reading.groups ≡ Some g → g ≡ read_groups (head_in s)
+pub groups_are : (reading : ReportReader) (s : SoFar) (g : ReadGroups) → Knows true reading s → s.last ≡ 9 → reading.groups ≡ Some g → g ≡ read_groups (head_in s)
 groups_are reading s g h nine is = some_is (sym is ∙ h.groups ∙ ap (λ n. cond (nat_lt n at_groups) None (Some (read_groups (head_in s)))) nine)
 
 -- what judges bounds names the first wrong one, by the groups and the cap of a reader behind the end
-pub named_first : {E : Type 0} (kept : BoundsKept) (reading : Reading) (told : ToldBounds) (groups : ReadGroups) (cap : ℕ) (made : Result (Option ℕ) E) → kept.told ≡ Some told → reading.groups ≡ Some groups → cap ≡ unwrap_or reading.cap (length reading.tasks)
+pub named_first : {E : Type 0} (kept : BoundsKept) (reading : ReportReader) (told : ToldBounds) (groups : ReadGroups) (cap : ℕ) (made : Result (Option ℕ) E) → kept.told ≡ Some told → reading.groups ≡ Some groups → cap ≡ unwrap_or reading.cap (length reading.tasks)
     → IfOk made (λ first. (seats : ℕ) (events : List Event) (items : List Told) → KnowsTold told groups seats cap events items → first ≡ first_other (said items) (map (bound_by groups seats cap events) (waits_of items)))
     → IfOk made (λ number. (rows : List Row) → KnowsBounds kept rows → Knows true reading (read_all true rows) → (read_all true rows).last ≡ 9 → option_map wrong_bound number ≡ first_wrong_bound true rows)
 named_first kept reading told groups cap (Err e) is there capped h = tt

@@ -31,7 +31,7 @@ use Rattle.rtrace_form.proofs.facts.Said.{clean, IsClean}
 use Rattle.rtrace_form.proofs.facts.Tests.{not_false}
 use Rattle.rtrace_form.proofs.lists.Places.{no_change, none_due, placed}
 use Rattle.rtrace_form.proofs.lists.ToldWaits.{all_ended_push}
-use Rattle.rtrace_read.specs.declared.reading.Reading.{Reading}
+use Rattle.rtrace_read.specs.declared.reading.ReportReader.{ReportReader}
 use Rattle.rtrace_read.specs.Knows.{Knows, ended_at, last_ended, waits_due}
 use Rattle.rtrace.specs.ToldBounds.{waits_left}
 use Rattle.rtrace_read.proofs.DueWaits.{waits_in, all_due}
@@ -78,7 +78,7 @@ early_on told s t first never then still all =
 
 -- ---- events
 
-event_left : (new : Reading) (s : SoFar) (e : Event) → Knows true new (with_line true s (Happens e)) → waits_left (with_line true s (Happens e)) ≡ ended_in (head_in s) (entries_in s) e
+event_left : (new : ReportReader) (s : SoFar) (e : Event) → Knows true new (with_line true s (Happens e)) → waits_left (with_line true s (Happens e)) ≡ ended_in (head_in s) (entries_in s) e
 event_left new s e h =
     let t = with_line true s (Happens e) in
     let ws = ended_in (head_in s) (entries_in s) e in
@@ -88,7 +88,7 @@ event_left new s e h =
     let none : length ws - waits_in t.due ≡ 0 = omega (arith, due) in
     due_left_is t (lt-ltb (event_place e) 8 (omega (arith, high))) ∙ ap (λ n. drop n ws) none
 
-event_on : (told : List WaitEnd) (new : Reading) (s : SoFar) (e : Event) → Knows true new (with_line true s (Happens e)) → is_change_due s ≡ false → AreAll told s → AreAll told (with_line true s (Happens e))
+event_on : (told : List WaitEnd) (new : ReportReader) (s : SoFar) (e : Event) → Knows true new (with_line true s (Happens e)) → is_change_due s ≡ false → AreAll told s → AreAll told (with_line true s (Happens e))
 event_on told new s e h none all =
     let ws = ended_in (head_in s) (entries_in s) e in
     ap (λ (left : List WaitEnd). told ++ left) (event_left new s e h)
@@ -164,7 +164,7 @@ all_at_end told s nine all = sym (append-nil told) ∙ ap (λ (ws : List WaitEnd
 
 -- ---- one line more
 
-line_on : (told : List WaitEnd) (new : Reading) (s : SoFar) (line : Line) → Knows true new (with_line true s line) → IsFine true s line → bound_told line ≡ None → AreAll told s → AreAll told (with_line true s line)
+line_on : (told : List WaitEnd) (new : ReportReader) (s : SoFar) (line : Line) → Knows true new (with_line true s line) → IsFine true s line → bound_told line ≡ None → AreAll told s → AreAll told (with_line true s line)
 line_on told new s Opens h fine none all = let idle = h.idle (omega arith) in early_on told s (with_line true s Opens) idle.1 idle.2 idle.1 idle.2 all
 line_on told new s (HasResource name) h fine none all = let idle = h.idle (omega arith) in early_on told s (with_line true s (HasResource name)) idle.1 idle.2 idle.1 idle.2 all
 line_on told new s (HasGroup set) h fine none all = let idle = h.idle (omega arith) in early_on told s (with_line true s (HasGroup set)) idle.1 idle.2 idle.1 idle.2 all
@@ -184,7 +184,7 @@ line_wait told s w (Waits seat which cover b) bound fine is first all = wait_on 
 line_wait told s w _ bound fine is first all = absurd (some_none is)
 
 -- the head is declared by the first event
-line_head : (new : Reading) (s : SoFar) (line : Line) → Knows true new (with_line true s line) → IsSome (with_line true s line).latest → head_in (with_line true s line) ≡ head_in s
+line_head : (new : ReportReader) (s : SoFar) (line : Line) → Knows true new (with_line true s line) → IsSome (with_line true s line).latest → head_in (with_line true s line) ≡ head_in s
 line_head new s Opens h some = absurd (some_not (h.idle (omega arith)).2 some)
 line_head new s (HasResource name) h some = absurd (some_not (h.idle (omega arith)).2 some)
 line_head new s (HasGroup set) h some = absurd (some_not (h.idle (omega arith)).2 some)
@@ -194,7 +194,7 @@ line_head new s _ h some = refl
 
 -- ---- one record more
 
-module _ (new : Reading) (s : SoFar) (row : Row) (h : Knows true new (with_row true s row)) (right : code_of true s row ≡ None) where
+module _ (new : ReportReader) (s : SoFar) (row : Row) (h : Knows true new (with_row true s row)) (right : code_of true s row ≡ None) where
   c : IsClean true s row
   c = clean true s row right
 

@@ -14,7 +14,7 @@ use Rattle.rtrace_form.specs.Faults.{code_of, is_ended, first_record_fault, read
 use Rattle.rtrace_form.specs.Reports.{Report, Spells, ledger_after}
 use Rattle.rtrace_form.specs.SoFar.{SoFar, nothing_yet, at_groups, head_in, entries_in, told_in, with_row}
 use Rattle.rtrace_form.proofs.facts.Choices.{some_is, some_none}
-use Rattle.rtrace_read.specs.declared.reading.Reading.{Reading}
+use Rattle.rtrace_read.specs.declared.reading.ReportReader.{ReportReader}
 use Rattle.rtrace.specs.declared.collect.Collecting.{Collecting}
 use Rattle.rtrace_write.specs.Report.{ReportFields, told_by, IsOverResources, HasItsLedgers}
 use Rattle.rtrace_form.specs.Takers.{HasTaken, IsFaultOf, IsFirstFault, list_code, is_list_done}
@@ -46,14 +46,14 @@ known_is false g h e = sym (some_is e)
 pub finished_is : (whole : Bool) (old new : Collecting) (s : SoFar) → KnowsAll whole old s → new.reading ≡ old.reading → new.history.entries ≡ old.history.entries ++ option_to_list old.latest
     → (r : ReportFields) → IsFinished new r → (told_by r ≡ told_in s) × IsOverResources r × HasItsLedgers r
 finished_is whole old new s h same kept r made =
-    let resources : r.resources ≡ s.resources = made.resources ∙ ap (λ (x : Reading). x.resources) same ∙ h.knows.resources in
-    let tasks : r.tasks ≡ s.tasks = made.tasks ∙ ap (λ (x : Reading). x.tasks) same ∙ h.knows.tasks in
-    let cap = made.cap ∙ ap (λ (x : Reading). unwrap_or x.cap (length x.tasks)) same ∙ (λ i. unwrap_or (h.knows.cap i) (length (h.knows.tasks i))) in
+    let resources : r.resources ≡ s.resources = made.resources ∙ ap (λ (x : ReportReader). x.resources) same ∙ h.knows.resources in
+    let tasks : r.tasks ≡ s.tasks = made.tasks ∙ ap (λ (x : ReportReader). x.tasks) same ∙ h.knows.tasks in
+    let cap = made.cap ∙ ap (λ (x : ReportReader). unwrap_or x.cap (length x.tasks)) same ∙ (λ i. unwrap_or (h.knows.cap i) (length (h.knows.tasks i))) in
     let groups : r.groups ≡ read_groups (head_in s) =
-    known_is (nat_lt s.last at_groups) (read_groups (head_in s)) r.groups (sym (ap (λ (x : Reading). x.groups) same ∙ h.knows.groups) ∙ made.groups) in
+    known_is (nat_lt s.last at_groups) (read_groups (head_in s)) r.groups (sym (ap (λ (x : ReportReader). x.groups) same ∙ h.knows.groups) ∙ made.groups) in
     let entries : r.entries ≡ entries_in s = made.entries ∙ kept ∙ (λ i. h.earlier i ++ option_to_list (h.latest i)) in
     let many : length r.resources ≡ length s.resources = ap (λ xs. length xs) resources in
-    let ledgers : r.ledgers ≡ old.reading.ledgers.items = made.ledgers ∙ ap (λ (x : Reading). x.ledgers.items) same in (
+    let ledgers : r.ledgers ≡ old.reading.ledgers.items = made.ledgers ∙ ap (λ (x : ReportReader). x.ledgers.items) same in (
       (λ i. record { head = record { resources = resources i; groups = (groups i).groups; tasks = tasks i; cap = cap i }; entries = entries i }),
       ap (λ (g : ReadGroups). g.q) groups ∙ sym many,
       ledgers

@@ -13,8 +13,8 @@ use Rattle.rtrace.specs.declared.collect.Collecting.{Collecting}
 use Rattle.rtrace.specs.declared.lists.ReportTaker.{ReportTaker}
 use Rattle.rtrace.specs.declared.count.Counting.{Counting}
 use Rattle.rtrace_read.specs.Takes.{OneMoreAtMost}
-use Rattle.rtrace_read.specs.declared.taken.Taken.{Taken}
-use Rattle.rtrace_read.specs.declared.taken.Taken.TheVariants as taken
+use Rattle.rtrace_read.specs.declared.taken.TakenRecord.{TakenRecord}
+use Rattle.rtrace_read.specs.declared.taken.TakenRecord.TheVariants as taken
 
 -- all that was said so far is kept
 pub record KnowsAll (whole : Bool) (taker : Collecting) (s : SoFar) : Type 0 where
@@ -31,7 +31,7 @@ one_if_told None = 0
 one_if_told (Some bound) = 1
 
 -- 1 for an event
-abbrev pub one_if_event : Taken → ℕ
+abbrev pub one_if_event : TakenRecord → ℕ
 one_if_event (taken.Event e) = 1
 one_if_event (taken.Act act) = 0
 one_if_event (taken.Wait told) = 0
@@ -42,7 +42,7 @@ abbrev pub waits_told : List Row → ℕ
 waits_told rows = length (bounds_said true 1 nothing_yet rows)
 
 -- what was taken is kept, where the reader has taken it
-abbrev pub Keeps : Taken → Collecting → Collecting → Type 0
+abbrev pub Keeps : TakenRecord → Collecting → Collecting → Type 0
 Keeps (taken.Event e) old new = (new.reading ≡ old.reading) × (new.history.entries ≡ old.history.entries ++ option_to_list old.latest) × (new.latest ≡ Some (bare e))
 Keeps (taken.Act act) old new = (new.reading ≡ old.reading) × (new.history.entries ≡ old.history.entries) × (new.latest ≡ option_map (with_act act) old.latest)
 Keeps (taken.Wait told) old new = new ≡ old

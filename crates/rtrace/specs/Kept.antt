@@ -9,7 +9,7 @@ use Rattle.rtrace_form.specs.WrongBounds.{first_other}
 use Rattle.rbound_history.specs.declared.key.BoundKey.{BoundKey}
 use Rattle.rtrace.specs.Told.{Told, said, AreBefore}
 use Rattle.rtrace.specs.declared.key.Key.{Key}
-use Rattle.rtrace.specs.declared.kept.Kept.{Kept}
+use Rattle.rtrace.specs.declared.kept_bounds.Kept.{Kept}
 
 -- what was told of a wait, and the key by which its bound is found
 pub record Keyed : Type 0 where

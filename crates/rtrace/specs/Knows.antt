@@ -17,8 +17,8 @@ use Rattle.rbound_history.specs.Knows.{Knows}
 use Rattle.rtrace.specs.Told.{Told}
 use Rattle.rtrace.specs.Kept.{Keyed, told_in, Tells}
 use Rattle.rtrace.specs.declared.key.Key.{Key}
-use Rattle.rtrace.specs.declared.kept.Kept.{Kept}
-use Rattle.rtrace.specs.declared.told.ToldBounds.{ToldBounds}
+use Rattle.rtrace.specs.declared.kept_bounds.Kept.{Kept}
+use Rattle.rtrace.specs.declared.told_bounds.ToldBounds.{ToldBounds}
 
 -- the bound of the waits that have a key, by what a whole history needs
 abbrev pub bound_of_key : ReadGroups → ℕ → ℕ → List Event → BoundKey → Numbers

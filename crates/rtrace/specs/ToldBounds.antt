@@ -11,12 +11,12 @@ use Rattle.rtrace_form.specs.Faults.{read_all}
 use Rattle.rtrace_form.specs.WrongBounds.{bounds_said}
 use Rattle.rtrace.specs.Told.{Told, said, waits_of, AreBefore}
 use Rattle.rtrace.specs.Knows.{KnowsTold}
-use Rattle.rtrace.specs.declared.told.ToldBounds.{ToldBounds}
+use Rattle.rtrace.specs.declared.told_bounds.ToldBounds.{ToldBounds}
 use Rattle.rtrace_read.specs.Knows.{Knows, past_in, waits_due}
 use Rattle.rtrace_read.specs.Takes.{TakesRow, TellsBound}
 use Rattle.rtrace.specs.declared.bounds.BoundsKept.{BoundsKept}
-use Rattle.rtrace_read.specs.declared.reading.Reading.{Reading}
-use Rattle.rtrace_read.specs.declared.taken.Taken.{Taken}
+use Rattle.rtrace_read.specs.declared.reading.ReportReader.{ReportReader}
+use Rattle.rtrace_read.specs.declared.taken.TakenRecord.{TakenRecord}
 
 -- what judges bounds was told these events, and these bounds of waits that they ended; before the first event there is nothing
 abbrev pub AreTold : Option ToldBounds → Past → List Told → Type 0
@@ -43,7 +43,7 @@ pub record KnowsBounds (kept : BoundsKept) (rows : List Row) : Type 0 where
   pub told : AreTold kept.told (past_in (read_all true rows)) items
 
 -- a reader took one record more of a report, which told this
-pub record HasRead (old new : Reading) (rows : List Row) (row : Row) (what : Taken) : Type 0 where
+pub record HasRead (old new : ReportReader) (rows : List Row) (row : Row) (what : TakenRecord) : Type 0 where
   pub knows : Knows true old (read_all true rows)
   pub takes : TakesRow old new row what
   pub tells : TellsBound old row what

@@ -11,11 +11,11 @@ ghost use Rattle.rtrace_form.specs.SoFar.{at_end};
 ghost use Rattle.rtrace_form.specs.WrongBounds.{first_wrong_bound, wrong_bound};
 ghost use Rattle.rtrace_read.specs.Knows.{Knows};
 ghost use Rattle.rtrace.specs.ToldBounds.{AreTold, IsMade, KnowsBounds, HasRead};
-ghost use Rattle.rtrace_read.specs.declared.reading.Reading.{Reading};
+ghost use Rattle.rtrace_read.specs.declared.reading.ReportReader.{ReportReader};
 
-use crate::told::ToldBounds;
+use crate::told_bounds::ToldBounds;
 use rclaim::Event;
-use rtrace_read::{BoundTold, Reading, Taken};
+use rtrace_read::{BoundTold, ReportReader, TakenRecord};
 use std::alloc::{AllocError, Global};
 
 /// What a taker of a report keeps of the bounds that it tells. It grows with the shapes of requests, and not with waits or
@@ -47,18 +47,18 @@ impl BoundsKept {
     pub fn take(
         &mut self,
         alloc: Global,
-        reading: &Reading,
-        taken: &Taken,
+        reading: &ReportReader,
+        taken: &TakenRecord,
     ) -> Result<(), AllocError>
-        requires { (old : Reading) × (rows : List Row) × (row : Row) × KnowsBounds self.old rows × HasRead old reading.now rows row taken.now × (length rows < 2 ^ 62) }
-        ensures { OnOk result ((old : Reading) (rows : List Row) (row : Row) → KnowsBounds self.old rows → HasRead old reading.now rows row taken.now → KnowsBounds self.new (rows ++ row ∷ [])) }
+        requires { (old : ReportReader) × (rows : List Row) × (row : Row) × KnowsBounds self.old rows × HasRead old reading.now rows row taken.now × (length rows < 2 ^ 62) }
+        ensures { OnOk result ((old : ReportReader) (rows : List Row) (row : Row) → KnowsBounds self.old rows → HasRead old reading.now rows row taken.now → KnowsBounds self.new (rows ++ row ∷ [])) }
     {
         self.records += 1;
         match taken {
-            Taken::Event(event) => self.happen(alloc, reading.tasks.len(), event),
-            Taken::Wait(told) => self.tell(told),
-            Taken::Act(_) => Ok(()),
-            Taken::Other => Ok(()),
+            TakenRecord::Event(event) => self.happen(alloc, reading.tasks.len(), event),
+            TakenRecord::Wait(told) => self.tell(told),
+            TakenRecord::Act(_) => Ok(()),
+            TakenRecord::Other => Ok(()),
         }
     }
 
@@ -117,7 +117,11 @@ impl BoundsKept {
     /// # Errors
     ///
     /// Want of memory.
-    pub fn first_wrong(&self, alloc: Global, reading: &Reading) -> Result<Option<u64>, AllocError>
+    pub fn first_wrong(
+        &self,
+        alloc: Global,
+        reading: &ReportReader,
+    ) -> Result<Option<u64>, AllocError>
         requires { (rows : List Row) × KnowsBounds self.now rows × Knows true reading.now (read_all true rows) × ((read_all true rows).last ≡ at_end) }
         ensures { IfOk result (λ number. (rows : List Row) → KnowsBounds self.now rows → Knows true reading.now (read_all true rows) → (read_all true rows).last ≡ at_end → option_map wrong_bound number ≡ first_wrong_bound true rows) }
     {

@@ -10,7 +10,7 @@ use csv::ByteRecord;
 use rclaim::Event;
 use rset::NameTable;
 use rtrace_form::{Code, Records, RowErr, TextErr};
-use rtrace_read::{Reading, Taken, take};
+use rtrace_read::{ReportReader, TakenRecord, take};
 use rtrace_write::Report;
 use rvalue::{Act, Edit, Entry, History};
 use std::alloc::{AllocError, Global};
@@ -22,7 +22,7 @@ pub struct Collecting {
     /// From which the room for what is kept comes.
     pub alloc: Global,
     /// The reader of the records so far.
-    pub reading: Reading,
+    pub reading: ReportReader,
     /// All entries but the latest.
     pub history: History<Edit>,
     /// The latest entry, to which acts may be added.
@@ -44,7 +44,7 @@ impl Records for Collecting {
     ghost knows = { KnowsSaid false KnowsList };
 
     fn take(&mut self, fields: &ByteRecord) -> Result<(), RowErr> {
-        let mut taken = Taken::Other;
+        let mut taken = TakenRecord::Other;
         if let Err(e) = take(&mut self.reading, self.alloc, fields, &mut taken) {
             return Err(e);
         }
@@ -73,7 +73,7 @@ impl Collecting {
     {
         Collecting {
             alloc,
-            reading: Reading::new(alloc, whole),
+            reading: ReportReader::new(alloc, whole),
             history: History::new(alloc),
             latest: None,
         }
@@ -84,15 +84,15 @@ impl Collecting {
     /// # Errors
     ///
     /// Want of memory. Nothing changes then.
-    pub fn keep_taken(&mut self, taken: Taken) -> Result<(), AllocError>
+    pub fn keep_taken(&mut self, taken: TakenRecord) -> Result<(), AllocError>
         ensures ok { OnOk result (Keeps taken self.old self.new) }
         ensures still { OnErr result (self.new ≡ self.old) }
     {
         match taken {
-            Taken::Event(event) => self.begin(event),
-            Taken::Act(act) => self.add(act),
-            Taken::Wait(_) => Ok(()),
-            Taken::Other => Ok(()),
+            TakenRecord::Event(event) => self.begin(event),
+            TakenRecord::Act(act) => self.add(act),
+            TakenRecord::Wait(_) => Ok(()),
+            TakenRecord::Other => Ok(()),
         }
     }
 

@@ -20,7 +20,7 @@ use crate::owned::let_go;
 use csv::ByteRecord;
 use io_ends::Source;
 use rtrace_form::{Code, Fault, Records, RowErr};
-use rtrace_read::{Reading, Taken, take};
+use rtrace_read::{ReportReader, TakenRecord, take};
 use std::alloc::Global;
 
 /// Takes the records of a report, counts its events and its waits, and keeps what it tells of bounds.
@@ -29,7 +29,7 @@ pub struct Counting {
     /// Where the memory comes from that it takes.
     pub alloc: Global,
     /// What the records said, line by line.
-    pub reading: Reading,
+    pub reading: ReportReader,
     /// What they told of bounds.
     pub bounds: BoundsKept,
     /// How many events they told.
@@ -37,7 +37,7 @@ pub struct Counting {
     /// How many waits they told.
     pub waits: u64,
     // What the latest record told.
-    taken: Taken,
+    taken: TakenRecord,
 }
 
 impl Records for Counting {
@@ -93,42 +93,42 @@ impl Counting {
     /// Nothing was read, and no record told anything. No memory is taken.
     pub fn new(alloc: Global) -> Counting
         ensures knows { KnowsCount result [] }
-        ensures nothing { result.taken ≡ Taken.Other }
+        ensures nothing { result.taken ≡ TakenRecord.Other }
     {
         Counting {
             alloc,
-            reading: Reading::new(alloc, true),
+            reading: ReportReader::new(alloc, true),
             bounds: BoundsKept::new(),
             events: 0,
             waits: 0,
-            taken: Taken::Other,
+            taken: TakenRecord::Other,
         }
     }
 }
 
 // 1 for an event.
-fn one_if_event(taken: &Taken) -> u64
+fn one_if_event(taken: &TakenRecord) -> u64
     ensures value { result ≡ one_if_event taken.now }
     ensures few { result ≤ 1 }
 {
     match taken {
-        Taken::Event(_) => 1,
-        Taken::Act(_) => 0,
-        Taken::Wait(_) => 0,
-        Taken::Other => 0,
+        TakenRecord::Event(_) => 1,
+        TakenRecord::Act(_) => 0,
+        TakenRecord::Wait(_) => 0,
+        TakenRecord::Other => 0,
     }
 }
 
 // 1 for a wait.
-fn one_if_wait(taken: &Taken) -> u64
+fn one_if_wait(taken: &TakenRecord) -> u64
     ensures value { result ≡ one_if_told (bound_of taken.now) }
     ensures few { result ≤ 1 }
 {
     match taken {
-        Taken::Event(_) => 0,
-        Taken::Act(_) => 0,
-        Taken::Wait(_) => 1,
-        Taken::Other => 0,
+        TakenRecord::Event(_) => 0,
+        TakenRecord::Act(_) => 0,
+        TakenRecord::Wait(_) => 1,
+        TakenRecord::Other => 0,
     }
 }
 

@@ -5,7 +5,7 @@ ghost use Rattle.rtrace_form.specs.Takers.{IsFirstFault, HasTaken, list_code, is
 ghost use Rattle.rtrace_form.specs.SoFar.{nothing_yet};
 ghost use Rattle.rtrace.specs.Collects.{Keeps, KnowsList, KnowsReport};
 ghost use Rattle.rtrace.specs.ToldBounds.{KnowsBounds, HasRead};
-ghost use Rattle.rtrace_read.specs.declared.reading.Reading.{Reading};
+ghost use Rattle.rtrace_read.specs.declared.reading.ReportReader.{ReportReader};
 ghost use Rattle.rtrace_form.specs.Texts.{IsTextOf};
 ghost use Rattle.rtrace_form.specs.Written.{MayBeWritten};
 ghost use Rattle.rtrace_form.specs.declared.fault.Code.{Code};
@@ -18,7 +18,7 @@ use crate::collect::Collecting;
 use crate::owned::let_go;
 use csv::ByteRecord;
 use rtrace_form::{Code, Fault, Records, RowErr, TextErr, take_text};
-use rtrace_read::{Taken, take};
+use rtrace_read::{TakenRecord, take};
 use rtrace_write::Report;
 use std::alloc::{AllocError, Global};
 
@@ -46,7 +46,7 @@ impl Records for ReportTaker {
     ghost knows = { KnowsReport };
 
     fn take(&mut self, fields: &ByteRecord) -> Result<(), RowErr> {
-        let mut taken = Taken::Other;
+        let mut taken = TakenRecord::Other;
         if let Err(e) = take(
             &mut self.inner.reading,
             self.inner.alloc,
@@ -72,10 +72,10 @@ impl Records for ReportTaker {
 
 impl ReportTaker {
     // Keeps what a record told that the reader took.
-    fn keep(&mut self, taken: Taken) -> Result<(), AllocError>
-        requires { (old : Reading) × (rows : List Row) × (row : Row) × KnowsBounds self.old.bounds rows × HasRead old self.old.inner.reading rows row taken × (length rows < 2 ^ 62) }
+    fn keep(&mut self, taken: TakenRecord) -> Result<(), AllocError>
+        requires { (old : ReportReader) × (rows : List Row) × (row : Row) × KnowsBounds self.old.bounds rows × HasRead old self.old.inner.reading rows row taken × (length rows < 2 ^ 62) }
         ensures kept { OnOk result (Keeps taken self.old.inner self.new.inner) }
-        ensures bounds { OnOk result ((old : Reading) (rows : List Row) (row : Row) → KnowsBounds self.old.bounds rows → HasRead old self.old.inner.reading rows row taken → KnowsBounds self.new.bounds (rows ++ row ∷ [])) }
+        ensures bounds { OnOk result ((old : ReportReader) (rows : List Row) (row : Row) → KnowsBounds self.old.bounds rows → HasRead old self.old.inner.reading rows row taken → KnowsBounds self.new.bounds (rows ++ row ∷ [])) }
     {
         self.bounds
             .take(self.inner.alloc, &self.inner.reading, &taken)?;

@@ -30,7 +30,7 @@ use Rattle.rtrace_form.specs.SoFar.{SoFar, head_in, entries_in, with_act, with_l
 use Rattle.rtrace_form.specs.Faults.{line_code, is_right_in, is_answered, same_answer}
 use Rattle.rtrace_form.specs.declared.fault.Code.TheVariants.{WrongShow}
 use Rattle.rtrace_form.proofs.facts.Choices.{some_is, some_none}
-use Rattle.rtrace_read.specs.declared.reading.Reading.{Reading}
+use Rattle.rtrace_read.specs.declared.reading.ReportReader.{ReportReader}
 use Rattle.rtrace_read.specs.Due.{due_list}
 use Rattle.rtrace_read.specs.Knows.{Knows, IsOpen, may_do, due_left, changes_in, ended_at, past_in, StandBehind}
 use Rattle.rtrace_read.proofs.Codes.{act_judged}
@@ -107,7 +107,7 @@ lock_same : (head : Head) (earlier : List Entry) (x y : Entry) → x.event ≡ y
 lock_same head earlier x y same =
     ap (fold next (opening_of head)) (map-append (λ (z : Entry). z.event) earlier (x ∷ []) ∙ ap (λ e. map (λ (z : Entry). z.event) earlier ++ e ∷ []) same ∙ sym (map-append (λ (z : Entry). z.event) earlier (y ∷ [])))
 
-module _ (whole : Bool) (old : Reading) (s : SoFar) (h : Knows whole old s) (is : whole ≡ true) (six : s.last ≡ 6) (act : Act Edit) (below : place_of act < length old.ledgers.items) where
+module _ (whole : Bool) (old : ReportReader) (s : SoFar) (h : Knows whole old s) (is : whole ≡ true) (six : s.last ≡ 6) (act : Act Edit) (below : place_of act < length old.ledgers.items) where
   o : IsOpen old s
   o = h.acts is six
 
@@ -137,7 +137,7 @@ module _ (whole : Bool) (old : Reading) (s : SoFar) (h : Knows whole old s) (is 
       → line_code whole s (Does act) ≡ Some WrongShow
   act_wrong ledger right at answered wrong = act_judged whole s act false six (right_is ledger right at answered ∙ wrong)
 
-  pub act_taken : (ledger : Ledger) (new : Reading) → ledger ≡ get_or old.ledgers.items (place_of act) ledger → is_answered ledger act ≡ true → may_do old.shown old.edited act ≡ true
+  pub act_taken : (ledger : Ledger) (new : ReportReader) → ledger ≡ get_or old.ledgers.items (place_of act) ledger → is_answered ledger act ≡ true → may_do old.shown old.edited act ≡ true
       → record old { ledgers = new.ledgers } ≡ new → new.ledgers.items ≡ set old.ledgers.items (place_of act) (value_after_act value_after ledger act)
       → (line_code whole s (Does act) ≡ None) × Knows whole new (with_line whole s (Does act))
   act_taken ledger new at answered may made are =
@@ -182,7 +182,7 @@ module _ (whole : Bool) (old : Reading) (s : SoFar) (h : Knows whole old s) (is 
         left = λ e. absurd (omega (arith, e));
       } in (
         act_judged whole s act true six (right_is ledger true at answered ∙ ap (λ b. b && true) may),
-        subst (λ (l : Option Entry). Knows whole new (record s { last = 6; latest = l })) (sym (ap (option_map (with_act act)) o.is)) (subst (λ (r : Reading). Knows whole r t) made knows),
+        subst (λ (l : Option Entry). Knows whole new (record s { last = 6; latest = l })) (sym (ap (option_map (with_act act)) o.is)) (subst (λ (r : ReportReader). Knows whole r t) made knows),
       )
     where
       set_is : (l : ℕ) (ledger : Ledger) → l < length s.resources → ledger ≡ get_or old.ledgers.items (place_of act) ledger

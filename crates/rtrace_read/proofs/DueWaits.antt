@@ -22,7 +22,7 @@ use Rattle.rtrace_form.specs.SoFar.{SoFar}
 use Rattle.rtrace_form.specs.ToldWaits.{tells_wait}
 use Rattle.rtrace_form.specs.declared.word.Stage.{Stage}
 use Rattle.rtrace_form.proofs.facts.Choices.{some_is, some_none}
-use Rattle.rtrace_read.specs.declared.reading.Reading.{Reading}
+use Rattle.rtrace_read.specs.declared.reading.ReportReader.{ReportReader}
 use Rattle.rtrace_read.specs.Due.{change_list, due_list}
 use Rattle.rtrace_read.specs.Knows.{last_ended, waits_due}
 use Rattle.rtrace_read.specs.LineTakes.{IsFirstDue}
@@ -99,7 +99,7 @@ wait_first s k w due is =
     ap (λ n. drop n ws) here ∙ at.0 ∙ ap (λ n. w ∷ drop n ws) (sym next)
 
 -- the wait that a follower has at the place behind the changes is the first that is due
-pub follower_first : (old : Reading) (machine : Standing) (f : Following) (ends : List WaitEnd) (changes : ChangeLists) → old.machine ≡ Some machine → old.following ≡ Some f → old.whole ≡ true → old.last < 8 → ((p : Past) → Follows f p → AreLastEnded p ends)
+pub follower_first : (old : ReportReader) (machine : Standing) (f : Following) (ends : List WaitEnd) (changes : ChangeLists) → old.machine ≡ Some machine → old.following ≡ Some f → old.whole ≡ true → old.last < 8 → ((p : Past) → Follows f p → AreLastEnded p ends)
     → changes ≡ machine.last → (seat : ℕ) (stage : Stage) (cover bound : Numbers) (o : Option WaitEnd)
     → IfSome o (λ due. (length (change_list changes) ≤ old.told) × (slice_get ends (old.told - length (change_list changes)) ≡ Some due)) → IfSome o (λ due. IsFirstDue old (Waits seat stage cover bound) due)
 follower_first old machine f ends changes is follower report low answers same seat stage cover bound None h = tt

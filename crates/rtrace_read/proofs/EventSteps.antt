@@ -43,7 +43,7 @@ use Rattle.rtrace_form.specs.declared.fault.Refusal.TheVariants.{Request, Step}
 use Rattle.rtrace_form.proofs.facts.Choices.{some_is}
 use Rattle.rtrace_form.proofs.facts.Coming.{some_set, fitting_first}
 use Rattle.rtrace_form.proofs.written.Reaching.{lock-push, after_is}
-use Rattle.rtrace_read.specs.declared.reading.Reading.{Reading}
+use Rattle.rtrace_read.specs.declared.reading.ReportReader.{ReportReader}
 use Rattle.rtrace_read.specs.Due.{due_list}
 use Rattle.rtrace_read.specs.Knows.{Knows, may_do, due_left, past_in}
 use Rattle.rtrace_read.specs.LineTakes.{place_code, FitsTold, event_admitted, stepped, shown_by, edited_by, Allows, noted}
@@ -116,7 +116,7 @@ event_high (event.Finish seat) = omega arith
 event_high (event.Rise seat) = omega arith
 event_high (event.Ask seat part) = omega arith
 
-module _ (whole : Bool) (old : Reading) (s : SoFar) (h : Knows whole old s) (e : Event) (here : place_code s 4 7 ≡ None) where
+module _ (whole : Bool) (old : ReportReader) (s : SoFar) (h : Knows whole old s) (e : Event) (here : place_code s 4 7 ≡ None) where
   at : (is_change_due s ≡ false) × ((nat_le 4 s.last && nat_le s.last 7) ≡ true)
   at = placed (is_change_due s) (nat_le 4 s.last && nat_le s.last 7) here
 

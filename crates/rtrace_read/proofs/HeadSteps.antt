@@ -20,7 +20,7 @@ use Rattle.rtrace_form.specs.SoFar.{SoFar, at_groups, head_in, entries_in, with_
 use Rattle.rtrace_form.specs.Faults.{line_code, is_change_due}
 use Rattle.rtrace_form.specs.declared.fault.Code.{Code}
 use Rattle.rtrace_form.proofs.facts.Choices.{some_none}
-use Rattle.rtrace_read.specs.declared.reading.Reading.{Reading}
+use Rattle.rtrace_read.specs.declared.reading.ReportReader.{ReportReader}
 use Rattle.rtrace_read.specs.Due.{due_list}
 use Rattle.rtrace_read.specs.Knows.{Knows, known_groups, state_in, due_left, changes_in, ended_at, past_in, StandBehind}
 use Rattle.rtrace_read.proofs.Steps.{none_behind}
@@ -30,10 +30,10 @@ use Rattle.rtrace_read.proofs.Codes.{plain_causes, place_code_is, placed, no_pla
 
 -- ---- what stands behind the head
 
-pub behind_head : (whole : Bool) (old : Reading) (s : SoFar) → Knows whole old s → place_code s 4 7 ≡ None → 4 ≤ s.last
+pub behind_head : (whole : Bool) (old : ReportReader) (s : SoFar) → Knows whole old s → place_code s 4 7 ≡ None → 4 ≤ s.last
 behind_head whole old s h here = (follows_both 4 s.last 7 (placed (is_change_due s) (nat_le 4 s.last && nat_le s.last 7) here).1).0
 
-pub groups_there : (whole : Bool) (old : Reading) (s : SoFar) → Knows whole old s → 4 ≤ s.last → old.groups ≡ None → ⊥
+pub groups_there : (whole : Bool) (old : ReportReader) (s : SoFar) → Knows whole old s → 4 ≤ s.last → old.groups ≡ None → ⊥
 groups_there whole old s h low none =
     some_none (sym none ∙ h.groups ∙ ap (λ b. cond b None (Some (read_groups (head_in s)))) (le-ltb s.last at_groups (omega (arith, low))))
 
@@ -42,7 +42,7 @@ cap_fits None n h low high = (low, high)
 cap_fits (Some m) n h low high = h
 
 -- the groups that are there, or that are made over all resources
-pub groups_made : (whole : Bool) (old : Reading) (s : SoFar) (q : ℕ) (new : Option ReadGroups) → Knows whole old s → 2 ≤ s.last → q ≡ length s.resources → AreMade q old.groups new → new ≡ Some (read_groups (head_in s))
+pub groups_made : (whole : Bool) (old : ReportReader) (s : SoFar) (q : ℕ) (new : Option ReadGroups) → Knows whole old s → 2 ≤ s.last → q ≡ length s.resources → AreMade q old.groups new → new ≡ Some (read_groups (head_in s))
 groups_made whole old s q new h low same made = at (nat_lt s.last at_groups) refl (subst (λ (o : Option ReadGroups). AreMade q o new) h.groups made)
   where
     at : (b : Bool) → nat_lt s.last at_groups ≡ b → AreMade q (cond b None (Some (read_groups (head_in s)))) new → new ≡ Some (read_groups (head_in s))
@@ -59,7 +59,7 @@ over_made q None = λ _. refl
 
 -- ---- inside the head nothing has happened
 
-pub record Begins (whole : Bool) (reading : Reading) (s : SoFar) : Type 0 where
+pub record Begins (whole : Bool) (reading : ReportReader) (s : SoFar) : Type 0 where
   pub kind : reading.whole ≡ whole
   pub last : reading.last ≡ s.last
   pub most : s.last ≤ 5
@@ -86,7 +86,7 @@ none_due : (whole : Bool) (head : Head) (earlier : List Entry) → due_left whol
 none_due true head earlier = refl
 none_due false head earlier = refl
 
-pub begun : (whole : Bool) (reading : Reading) (s : SoFar) → Begins whole reading s → Knows whole reading s
+pub begun : (whole : Bool) (reading : ReportReader) (s : SoFar) → Begins whole reading s → Knows whole reading s
 begun whole reading s b =
     let none : entries_in s ≡ [] = λ i. b.earlier i ++ option_to_list (b.latest i) in
     let most = b.most in
@@ -115,7 +115,7 @@ begun whole reading s b =
       left = λ eight. absurd (omega (arith, eight, most));
     }
 
-pub begins : (whole : Bool) (reading : Reading) (s : SoFar) → Knows whole reading s → s.last ≤ 5 → Begins whole reading s
+pub begins : (whole : Bool) (reading : ReportReader) (s : SoFar) → Knows whole reading s → s.last ≤ 5 → Begins whole reading s
 begins whole reading s h low =
     let idle = h.idle low in
     let none : entries_in s ≡ [] = λ i. idle.1 i ++ option_to_list (idle.2 i) in
@@ -191,7 +191,7 @@ opening_push [] n (suc l) size all h = absurd (omega (arith, size, h))
 opening_push (x ∷ xs) n zero size all h = all 0 (omega (arith, size))
 opening_push (x ∷ xs) n (suc l) size all h = opening_push xs (length xs) l refl (λ k small. all (suc k) (omega (arith, size, small))) (omega (arith, size, h))
 
-module _ (whole : Bool) (old : Reading) (s : SoFar) (h : Knows whole old s) where
+module _ (whole : Bool) (old : ReportReader) (s : SoFar) (h : Knows whole old s) where
   pub opens_taken : place_code s 0 0 ≡ None → (line_code whole s Opens ≡ None) × Knows whole (record old { last = 1 }) (with_line whole s Opens)
   opens_taken here =
       let there = stands whole s 0 0 here in
@@ -222,7 +222,7 @@ module _ (whole : Bool) (old : Reading) (s : SoFar) (h : Knows whole old s) wher
         }),
       )
 
-  pub resource_taken : (name : List ℕ) (new : Reading) → place_code s 1 2 ≡ None → is_bad_name RESOURCES old.resources name ≡ false
+  pub resource_taken : (name : List ℕ) (new : ReportReader) → place_code s 1 2 ≡ None → is_bad_name RESOURCES old.resources name ≡ false
       → record old { last = 2; resources = old.resources ++ name ∷ []; ledgers = new.ledgers } ≡ new → new.ledgers.items ≡ old.ledgers.items ++ opening_ledger ∷ []
       → (line_code whole s (HasResource name) ≡ None) × Knows whole new (with_line whole s (HasResource name))
   resource_taken name new here good made are =
@@ -233,7 +233,7 @@ module _ (whole : Bool) (old : Reading) (s : SoFar) (h : Knows whole old s) wher
       let same = ap length are in
       let many = b.many in (
         head_right whole s 1 2 (HasResource name) (resource_is whole s name false (ap (λ xs. is_bad_name RESOURCES xs name) (sym b.resources) ∙ good)) here,
-        begun whole new (with_line whole s (HasResource name)) (subst (λ (r : Reading). Begins whole r (with_line whole s (HasResource name))) made (record {
+        begun whole new (with_line whole s (HasResource name)) (subst (λ (r : ReportReader). Begins whole r (with_line whole s (HasResource name))) made (record {
           kind = b.kind;
           last = refl;
           most = omega arith;
@@ -258,14 +258,14 @@ module _ (whole : Bool) (old : Reading) (s : SoFar) (h : Knows whole old s) wher
         })),
       )
 
-  pub task_taken : (name : List ℕ) (new : Reading) → place_code s 2 4 ≡ None → is_bad_name SEATS old.tasks name ≡ false
+  pub task_taken : (name : List ℕ) (new : ReportReader) → place_code s 2 4 ≡ None → is_bad_name SEATS old.tasks name ≡ false
       → record old { last = 4; tasks = old.tasks ++ name ∷ []; groups = new.groups } ≡ new → new.groups ≡ Some (read_groups (head_in s))
       → (line_code whole s (HasTask name) ≡ None) × Knows whole new (with_line whole s (HasTask name))
   task_taken name new here good made are =
       let there = stands whole s 2 4 here in
       let b = begins whole old s h (omega (arith, there.1)) in (
         head_right whole s 2 4 (HasTask name) (task_is whole s name false (ap (λ xs. is_bad_name SEATS xs name) (sym b.tasks) ∙ good)) here,
-        begun whole new (with_line whole s (HasTask name)) (subst (λ (r : Reading). Begins whole r (with_line whole s (HasTask name))) made (record {
+        begun whole new (with_line whole s (HasTask name)) (subst (λ (r : ReportReader). Begins whole r (with_line whole s (HasTask name))) made (record {
           kind = b.kind;
           last = refl;
           most = omega arith;
@@ -290,14 +290,14 @@ module _ (whole : Bool) (old : Reading) (s : SoFar) (h : Knows whole old s) wher
         })),
       )
 
-  pub group_taken : (group : Set) (new : Reading) → place_code s 2 3 ≡ None → (len group == 0) ≡ false
+  pub group_taken : (group : Set) (new : ReportReader) → place_code s 2 3 ≡ None → (len group == 0) ≡ false
       → record old { last = 3; groups = new.groups } ≡ new → new.groups ≡ Some (record { q = length s.resources; groups = s.groups ++ group ∷ [] })
       → (line_code whole s (HasGroup group) ≡ None) × Knows whole new (with_line whole s (HasGroup group))
   group_taken group new here some made are =
       let there = stands whole s 2 3 here in
       let b = begins whole old s h (omega (arith, there.1)) in (
         head_right whole s 2 3 (HasGroup group) (group_is whole s group false some) here,
-        begun whole new (with_line whole s (HasGroup group)) (subst (λ (r : Reading). Begins whole r (with_line whole s (HasGroup group))) made (record {
+        begun whole new (with_line whole s (HasGroup group)) (subst (λ (r : ReportReader). Begins whole r (with_line whole s (HasGroup group))) made (record {
           kind = b.kind;
           last = refl;
           most = omega arith;

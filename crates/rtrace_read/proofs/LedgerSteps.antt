@@ -19,7 +19,7 @@ use Rattle.rtrace_form.specs.Faults.{line_code, is_change_due, is_first, is_same
 use Rattle.rtrace_form.specs.declared.fault.Code.{Code}
 use Rattle.rtrace_form.specs.declared.fault.Code.TheVariants.{BadOrder, WrongLedger}
 use Rattle.rtrace_form.proofs.facts.Choices.{some_is}
-use Rattle.rtrace_read.specs.declared.reading.Reading.{Reading}
+use Rattle.rtrace_read.specs.declared.reading.ReportReader.{ReportReader}
 use Rattle.rtrace_read.specs.Knows.{Knows}
 use Rattle.rtrace_read.specs.LineTakes.{place_code, ledgers_told}
 use Rattle.rtrace_read.proofs.DueLines.{drop_one}
@@ -50,7 +50,7 @@ up_to_seven n = at (nat_le n 7) refl
     at true e = inl (leb-true n 7 e)
     at false e = let more = leb-false n 7 e in inr (omega arith)
 
-module _ (whole : Bool) (old : Reading) (s : SoFar) (h : Knows whole old s) where
+module _ (whole : Bool) (old : ReportReader) (s : SoFar) (h : Knows whole old s) where
   not_eight : s.last ≤ 7 → ledgers_told old ≡ 0
   not_eight low = let last = h.last in let no : (old.last == 8) ≡ false = grind (arith, nat_tests) in ap (λ b. cond b old.told 0) no
 

@@ -11,8 +11,8 @@ use Rattle.rtrace_form.specs.WrongBounds.{bound_told, bound_said}
 use Rattle.rtrace_form.specs.declared.word.Word.{Word}
 use Rattle.rtrace_form.specs.declared.word.Word.TheVariants as word
 use Rattle.rtrace_form.specs.Told.{is_event, is_act, is_wait}
-use Rattle.rtrace_read.specs.declared.reading.Reading.{Reading}
-use Rattle.rtrace_read.specs.declared.taken.Taken.{Taken}
+use Rattle.rtrace_read.specs.declared.reading.ReportReader.{ReportReader}
+use Rattle.rtrace_read.specs.declared.taken.TakenRecord.{TakenRecord}
 use Rattle.rtrace_read.specs.Takes.{TellsBound, bound_of}
 
 line_none : (w : Word) (v : Values (fields_of w)) → is_wait w ≡ false → bound_told (line_by w v) ≡ None
@@ -51,7 +51,7 @@ none_said whole names row w is other =
     ap (λ (o : Option Word). option_and_then bound_told (meant_as names row o)) is ∙ none_by w (read names (fields_of w) row) other
 
 -- so it tells none whatever was said before it
-pub tells_none : (old : Reading) (row : Row) (w : Word) (what : Taken) → word_in old.whole row ≡ Some w → is_wait w ≡ false → bound_of what ≡ None → TellsBound old row what
+pub tells_none : (old : ReportReader) (row : Row) (w : Word) (what : TakenRecord) → word_in old.whole row ≡ Some w → is_wait w ≡ false → bound_of what ≡ None → TellsBound old row what
 tells_none old row w what is other none = λ whole s h. none_said whole (names_in s) row w (ap (λ b. word_in b row) (sym h.kind) ∙ is) other ∙ sym none
 
 pub event_no_wait : (w : Word) → is_event w ≡ true → is_wait w ≡ false

@@ -5,7 +5,7 @@ use Rattle.rclaim.specs.declared.event.Event.{Event}
 use Rattle.rtrace_form.specs.declared.fault.Code.{Code}
 use Rattle.rtrace_form.specs.declared.errors.RowErr.{RowErr}
 use Rattle.rtrace_form.specs.declared.errors.RowErr.TheVariants.{Bad}
-use Rattle.rtrace_read.specs.declared.taken.Taken.TheVariants as taken
+use Rattle.rtrace_read.specs.declared.taken.TakenRecord.TheVariants as taken
 
 -- an error is the same, whatever is answered beside it
 pub same_err : {T U : Type 0} {e : RowErr Code} {code : Code} → ◌≡◌ {A = Result T (RowErr Code)} (Err e) (Err (Bad code)) → ◌≡◌ {A = Result U (RowErr Code)} (Err e) (Err (Bad code))

@@ -43,9 +43,9 @@ use Rattle.rtrace_form.proofs.lists.Histories.{lock-resources, lock-tasks, lock-
 use Rattle.rtrace_form.specs.Told.{names_by, IsOf, Says, IsWrong, is_event, is_act, is_status, IsTold}
 use Rattle.rtrace_form.specs.declared.event.EventTold.TheVariants as told
 use Rattle.rtrace_form.proofs.Places.{says_at, uncounted_at}
-use Rattle.rtrace_read.specs.declared.reading.Reading.{Reading}
-use Rattle.rtrace_read.specs.declared.taken.Taken.{Taken}
-use Rattle.rtrace_read.specs.declared.taken.Taken.TheVariants as taken
+use Rattle.rtrace_read.specs.declared.reading.ReportReader.{ReportReader}
+use Rattle.rtrace_read.specs.declared.taken.TakenRecord.{TakenRecord}
+use Rattle.rtrace_read.specs.declared.taken.TakenRecord.TheVariants as taken
 use Rattle.rtrace_read.specs.Knows.{Knows}
 use Rattle.rtrace_read.specs.Takes.{Adds}
 use Rattle.rtrace_read.specs.LineTakes.{FitsTold}
@@ -128,7 +128,7 @@ or-none : {X : Type 0} (o : Option X) → or_else o None ≡ o
 or-none None = refl
 or-none (Some x) = refl
 
-module _ (whole : Bool) (old : Reading) (s : SoFar) (h : Knows whole old s) (row : Row) (w : Word) (is : word_in old.whole row ≡ Some w) where
+module _ (whole : Bool) (old : ReportReader) (s : SoFar) (h : Knows whole old s) (row : Row) (w : Word) (is : word_in old.whole row ≡ Some w) where
   here : word_in whole row ≡ Some w
   here = ap (λ b. word_in b row) (sym h.kind) ∙ is
 
@@ -171,7 +171,7 @@ module _ (whole : Bool) (old : Reading) (s : SoFar) (h : Knows whole old s) (row
       ∙ more_by (not (all_counted (fields_of w) row)) (code_of_meaning whole s (meant_as (names_in s) row (Some w)))
 
   -- a line that was taken is a record that was taken
-  pub row_taken : is_group_more s w ≡ false → (line : Line) → Says (names_by old.resources old.tasks) w row line → (new : Reading) (what : Taken)
+  pub row_taken : is_group_more s w ≡ false → (line : Line) → Says (names_by old.resources old.tasks) w row line → (new : ReportReader) (what : TakenRecord)
       → (line_code whole s line ≡ None) × Knows whole new (with_line whole s line) → Adds what s (with_line whole s line)
       → (code_of whole s row ≡ None) × Knows whole new (with_row whole s row) × Adds what s (with_row whole s row)
   row_taken more line said new what took adds = (
@@ -180,7 +180,7 @@ module _ (whole : Bool) (old : Reading) (s : SoFar) (h : Knows whole old s) (row
     subst (λ (t : SoFar). Adds what s t) (sym (row_adds line said)) adds,
   )
 
-pub row_unknown : (whole : Bool) (old : Reading) (s : SoFar) → Knows whole old s → (row : Row) → word_in old.whole row ≡ None → code_of whole s row ≡ Some BadField
+pub row_unknown : (whole : Bool) (old : ReportReader) (s : SoFar) → Knows whole old s → (row : Row) → word_in old.whole row ≡ None → code_of whole s row ≡ Some BadField
 unfolding code_of
 row_unknown whole old s h row none = ap (code_by whole s row) (ap (λ b. word_in b row) (sym h.kind) ∙ none)
 
@@ -262,7 +262,7 @@ module _ (s : LockState) (names : Names) (resources : s.groups.q ≡ length name
   fits_line word.Ledger v good = tt
   fits_line word.End v good = tt
 
-pub event_fits : (whole : Bool) (old : Reading) (s : SoFar) → Knows whole old s → length (entries_in s) < 2 ^ 62 → (w : Word) (row : Row) (x e : Event)
+pub event_fits : (whole : Bool) (old : ReportReader) (s : SoFar) → Knows whole old s → length (entries_in s) < 2 ^ 62 → (w : Word) (row : Row) (x e : Event)
     → Says (names_by old.resources old.tasks) w row (Happens x) → IsTold (told.Event e) x → FitsTold (lock_in s) e
 event_fits whole old s h few w row x e said is =
     let names : Names = names_by old.resources old.tasks in
@@ -274,7 +274,7 @@ event_fits whole old s h few w row x e said is =
 
 -- ---- acts
 
-pub latest_there : (whole : Bool) (old : Reading) (s : SoFar) → Knows whole old s → whole ≡ true → old.last ≡ 6 → IsSome s.latest
+pub latest_there : (whole : Bool) (old : ReportReader) (s : SoFar) → Knows whole old s → whole ≡ true → old.last ≡ 6 → IsSome s.latest
 latest_there whole old s h is six = let o = h.acts is (sym h.last ∙ six) in subst (λ (l : Option Entry). IsSome l) (sym o.is) refl
 
 -- ---- groups
@@ -290,7 +290,7 @@ below_limit : (n : ℕ) → n ≤ GROUPS → (n == GROUPS) ≡ false → n < GRO
 below_limit n few free = grind (arith, nat_tests)
 
 -- there is room for one more group, where there are not all that there may be
-pub groups_room : (whole : Bool) (old : Reading) (s : SoFar) → Knows whole old s → (g : ReadGroups) → old.groups ≡ Some g → IsTrue (are_groups g) → (length g.groups == GROUPS) ≡ false → length s.groups < GROUPS
+pub groups_room : (whole : Bool) (old : ReportReader) (s : SoFar) → Knows whole old s → (g : ReadGroups) → old.groups ≡ Some g → IsTrue (are_groups g) → (length g.groups == GROUPS) ≡ false → length s.groups < GROUPS
 groups_room whole old s h g is right free = at (nat_lt s.last at_groups) (sym h.groups ∙ is) (below_limit (length g.groups) (few_groups g right) free)
   where
     at : (b : Bool) → cond b None (Some (read_groups (head_in s))) ≡ Some g → length g.groups < GROUPS → length s.groups < GROUPS

@@ -19,18 +19,18 @@ use Rattle.rtrace_form.specs.Faults.{line_code, is_change, is_change_due, is_fir
 use Rattle.std.proofs.Math.Seq.{drop-nil}
 use Rattle.rtrace_form.proofs.facts.Choices.{some_is, some_none}
 use Rattle.rtrace_form.proofs.lists.Places.{up_to_five}
-use Rattle.rtrace_read.specs.declared.reading.Reading.{Reading}
+use Rattle.rtrace_read.specs.declared.reading.ReportReader.{ReportReader}
 use Rattle.rtrace_read.specs.Due.{change_list, due_list}
 use Rattle.rtrace_read.specs.Knows.{Knows, known_groups, due_left, changes_in, ended_at, last_ended, past_in, StandBehind}
 use Rattle.rtrace_read.proofs.DueLines.{drop_one, status_before_waits, grant_before_waits}
 use Rattle.rtrace_read.proofs.Codes.{change_right, with_change}
 
 -- the place behind the head, where the groups are known
-pub groups_on : (whole : Bool) (old : Reading) (s : SoFar) → Knows whole old s → 4 ≤ s.last → (place : ℕ) → 4 ≤ place → (known_groups s ≡ known_groups (record s { last = place }))
+pub groups_on : (whole : Bool) (old : ReportReader) (s : SoFar) → Knows whole old s → 4 ≤ s.last → (place : ℕ) → 4 ≤ place → (known_groups s ≡ known_groups (record s { last = place }))
 groups_on whole old s h low place high = ap (λ b. cond b None (Some (read_groups (head_in s)))) (le-ltb s.last at_groups (omega (arith, low)) ∙ sym (le-ltb place at_groups (omega (arith, high))))
 
 -- a line behind the head that adds nothing to the entries
-pub still : (whole : Bool) (old : Reading) (s : SoFar) (place told : ℕ) (due : List Line) → Knows whole old s → 4 ≤ s.last → 7 ≤ place → place ≤ 9
+pub still : (whole : Bool) (old : ReportReader) (s : SoFar) (place told : ℕ) (due : List Line) → Knows whole old s → 4 ≤ s.last → 7 ≤ place → place ≤ 9
     → (whole ≡ false → told ≡ 0)
     → (place ≤ 7 → due ≡ due_left whole told (due_list (changes_in old.machine) (last_ended s)))
     → (place ≡ 8 → due ≡ drop told (ledger_lines whole (head_in s) (entries_in s)))
@@ -65,7 +65,7 @@ none_early : (whole : Bool) (told : ℕ) (machine : Option Standing) (head : Hea
 none_early true told machine head earlier latest none never zero = λ i. drop (zero i) (due_list (changes_in (none i)) (ended_at head earlier (never i)))
 none_early false told machine head earlier latest none never zero = refl
 
-pub due_late : (whole : Bool) (old : Reading) (s : SoFar) → Knows whole old s → is_change_due s ≡ true → (6 ≤ s.last) × (s.last ≤ 7)
+pub due_late : (whole : Bool) (old : ReportReader) (s : SoFar) → Knows whole old s → is_change_due s ≡ true → (6 ≤ s.last) × (s.last ≤ 7)
 due_late whole old s h due = at (up_to_five s.last)
   where
     parts : (nat_lt s.last at_ledgers ≡ true) × (not (is_nil s.due) ≡ true)
@@ -81,7 +81,7 @@ due_late whole old s h due = at (up_to_five s.last)
     at (inr high) = (high, early)
 
 -- an event list has no line that is due
-list_undue : (whole : Bool) (old : Reading) (s : SoFar) → Knows whole old s → is_change_due s ≡ true → whole ≡ false → ⊥
+list_undue : (whole : Bool) (old : ReportReader) (s : SoFar) → Knows whole old s → is_change_due s ≡ true → whole ≡ false → ⊥
 list_undue whole old s h due list =
     let parts = and_parts (nat_lt s.last at_ledgers) (not (is_nil s.due)) due in
     true≢false (sym parts.1 ∙ ap (λ (xs : List Line). not (is_nil xs)) (h.due (due_late whole old s h due).1 ∙ ap (λ w. due_left w old.told (due_list (changes_in old.machine) (last_ended s))) list))
@@ -91,7 +91,7 @@ due_more true told lines = drop_one lines told ∙ ap (λ n. drop n lines) (sym 
 due_more false told lines = refl
 
 -- the change that is due was told
-pub change_taken : (whole : Bool) (old : Reading) (s : SoFar) (line : Line) → Knows whole old s → is_change line ≡ true → (is_change_due s && is_first s.due line) ≡ true
+pub change_taken : (whole : Bool) (old : ReportReader) (s : SoFar) (line : Line) → Knows whole old s → is_change line ≡ true → (is_change_due s && is_first s.due line) ≡ true
     → (line_code whole s line ≡ None) × Knows whole (record old { told = old.told + 1; last = 7 }) (with_line whole s line)
 change_taken whole old s line h change right =
     let due = (and_parts (is_change_due s) (is_first s.due line) right).0 in
@@ -121,7 +121,7 @@ none_behind None (Some g) latest p h none = absurd h
 pub events_push : (earlier : List Entry) (x : Entry) → events_of (earlier ++ x ∷ []) ≡ events_of earlier ++ x.event ∷ []
 events_push earlier x = map-append (λ (z : Entry). z.event) earlier (x ∷ [])
 
-module _ (whole : Bool) (old : Reading) (s : SoFar) (h : Knows whole old s) where
+module _ (whole : Bool) (old : ReportReader) (s : SoFar) (h : Knows whole old s) where
   -- the waits that a follower answers are those that the latest event ended
   pub ended_is : (f : Following) (ends : List WaitEnd) → old.following ≡ Some f → ((p : Past) → Follows f p → AreLastEnded p ends) → ends ≡ last_ended s
   unfolding ended_in

@@ -7,7 +7,7 @@ use Rattle.rcover.specs.Follows.{Follows}
 use Rattle.rcover.specs.Past.{Past}
 use Rattle.rcover.specs.declared.following.Following.{Following}
 use Rattle.rtrace_form.specs.Reports.{Entry}
-use Rattle.rtrace_read.specs.declared.reading.Reading.{Reading}
+use Rattle.rtrace_read.specs.declared.reading.ReportReader.{ReportReader}
 use Rattle.rtrace_read.specs.Knows.{state_in, changes_in, past_in, StandBehind}
 use Rattle.rtrace_read.specs.LineTakes.{StillDue, AreFirstOf}
 
@@ -22,7 +22,7 @@ follows_if (Some m) None latest p h = absurd h
 pub first_same : (names all : List (List ℕ)) → all ≡ names → AreFirstOf names all
 first_same names all same = ([], same ∙ sym (append-nil names))
 
-module _ (old new : Reading) where
+module _ (old new : ReportReader) where
   -- what else may have changed has nothing to do with what is due
   pub due_still : new.whole ≡ old.whole → AreFirstOf old.resources new.resources → AreFirstOf old.tasks new.tasks → new.cap ≡ old.cap → new.groups ≡ old.groups → new.last ≡ old.last → new.told ≡ old.told
       → new.machine ≡ old.machine → new.following ≡ old.following → new.ledgers.items ≡ old.ledgers.items → new.shown ≡ old.shown → new.edited ≡ old.edited → StillDue old new
@@ -45,6 +45,6 @@ module _ (old new : Reading) where
 
   pub same_still : new ≡ old → StillDue old new
   same_still same =
-      due_still (ap (λ (r : Reading). r.whole) same) (first_same old.resources new.resources (ap (λ (r : Reading). r.resources) same)) (first_same old.tasks new.tasks (ap (λ (r : Reading). r.tasks) same))
-      (ap (λ (r : Reading). r.cap) same) (ap (λ (r : Reading). r.groups) same) (ap (λ (r : Reading). r.last) same) (ap (λ (r : Reading). r.told) same) (ap (λ (r : Reading). r.machine) same) (ap (λ (r : Reading). r.following) same) (ap (λ (r : Reading). r.ledgers.items) same)
-      (ap (λ (r : Reading). r.shown) same) (ap (λ (r : Reading). r.edited) same)
+      due_still (ap (λ (r : ReportReader). r.whole) same) (first_same old.resources new.resources (ap (λ (r : ReportReader). r.resources) same)) (first_same old.tasks new.tasks (ap (λ (r : ReportReader). r.tasks) same))
+      (ap (λ (r : ReportReader). r.cap) same) (ap (λ (r : ReportReader). r.groups) same) (ap (λ (r : ReportReader). r.last) same) (ap (λ (r : ReportReader). r.told) same) (ap (λ (r : ReportReader). r.machine) same) (ap (λ (r : ReportReader). r.following) same) (ap (λ (r : ReportReader). r.ledgers.items) same)
+      (ap (λ (r : ReportReader). r.shown) same) (ap (λ (r : ReportReader). r.edited) same)

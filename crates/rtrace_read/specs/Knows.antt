@@ -27,7 +27,7 @@ use Rattle.rtrace_form.specs.Reports.{Entry, lock_after, ledger_after, reads_of,
 use Rattle.rtrace_form.specs.ToldWaits.{tells_wait}
 use Rattle.rtrace_form.specs.Waits.{events_of, ended_in}
 use Rattle.rtrace_form.specs.SoFar.{SoFar, at_resources, at_groups, at_tasks, at_cap, at_acts, at_changes, at_ledgers, at_end, head_in, lock_in, entries_in}
-use Rattle.rtrace_read.specs.declared.reading.Reading.{Reading}
+use Rattle.rtrace_read.specs.declared.reading.ReportReader.{ReportReader}
 
 -- the groups that are known, once no resource can follow
 abbrev pub known_groups : SoFar → Option ReadGroups
@@ -77,7 +77,7 @@ may_do shown edited (Edited place edit done) = contains edited place
 may_do shown edited (Shown place number) = contains shown place
 
 -- the latest entry, which may have acts: the reader knows of which resources, and what its acts make of each ledger
-pub record IsOpen (reading : Reading) (s : SoFar) : Type 0 where
+pub record IsOpen (reading : ReportReader) (s : SoFar) : Type 0 where
   pub entry : Entry
   pub is : s.latest ≡ Some entry
   pub allowed : (act : Act Edit) → may_do reading.shown reading.edited act
@@ -85,12 +85,12 @@ pub record IsOpen (reading : Reading) (s : SoFar) : Type 0 where
   pub within : (l : ℕ) → value_within value_after (ledger_after s.earlier l) entry.acts l ≡ ledger_after (entries_in s) l
 
 -- the reader knows the ledger of each resource
-pub record KnowsLedgers (reading : Reading) (s : SoFar) : Type 0 where
+pub record KnowsLedgers (reading : ReportReader) (s : SoFar) : Type 0 where
   pub many : length reading.ledgers.items ≡ length s.resources
   pub each : (l : ℕ) → l < length s.resources → slice_get reading.ledgers.items l ≡ Some (ledger_after (entries_in s) l)
 
 -- the reader knows what the lines so far have said, as far as it needs to judge the next one
-pub record Knows (whole : Bool) (reading : Reading) (s : SoFar) : Type 0 where
+pub record Knows (whole : Bool) (reading : ReportReader) (s : SoFar) : Type 0 where
   pub kind : reading.whole ≡ whole
   pub last : reading.last ≡ s.last
   pub most : s.last ≤ at_end

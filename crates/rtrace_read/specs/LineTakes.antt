@@ -21,7 +21,7 @@ use Rattle.rtrace_form.specs.SoFar.{SoFar, at_tasks, at_changes, at_ledgers, loc
 use Rattle.rtrace_form.specs.Faults.{line_code, is_change_due}
 use Rattle.rtrace_form.specs.declared.fault.Code.{Code}
 use Rattle.rtrace_form.specs.declared.fault.Code.TheVariants.{BadOrder, WrongChange}
-use Rattle.rtrace_read.specs.declared.reading.Reading.{Reading}
+use Rattle.rtrace_read.specs.declared.reading.ReportReader.{ReportReader}
 use Rattle.rtrace_read.specs.Knows.{Knows, state_in, changes_in, past_in, waits_due}
 
 -- what is wrong with the place of a line that tells no change and is no act, and that may come behind these places
@@ -32,15 +32,15 @@ place_code s least most =
     else Some BadOrder
 
 -- whatever was said, nothing is wrong with this line behind it, and the reader knows then what it adds
-abbrev pub Takes : Reading → Reading → Line → Type 0
+abbrev pub Takes : ReportReader → ReportReader → Line → Type 0
 Takes old new line = (whole : Bool) (s : SoFar) → Knows whole old s → (line_code whole s line ≡ None) × Knows whole new (with_line whole s line)
 
 -- whatever was said, this is wrong with the line behind it
-abbrev pub Refuses : Reading → Line → Code → Type 0
+abbrev pub Refuses : ReportReader → Line → Code → Type 0
 Refuses old line code = (whole : Bool) (s : SoFar) → Knows whole old s → line_code whole s line ≡ Some code
 
 -- whatever was said, this wait is the first of those that are due, and the line tells it
-abbrev pub IsFirstDue : Reading → Line → WaitEnd → Type 0
+abbrev pub IsFirstDue : ReportReader → Line → WaitEnd → Type 0
 IsFirstDue old line due = (whole : Bool) (s : SoFar) → Knows whole old s → waits_due s ≡ due ∷ waits_due (with_line whole s line)
 
 -- these names are the first of all, and so keep their numbers
@@ -48,7 +48,7 @@ abbrev pub AreFirstOf : List (List ℕ) → List (List ℕ) → Type 0
 AreFirstOf names all = (more : List (List ℕ)) × (all ≡ names ++ more)
 
 -- what is due is due still: nothing more was told, the cap, the groups, the changes, the ledgers and which acts may follow are as they were, the names keep their numbers, and whatever was said, the lock stands as its events left it, and they are still followed
-pub record StillDue (old new : Reading) : Type 0 where
+pub record StillDue (old new : ReportReader) : Type 0 where
   pub kind : new.whole ≡ old.whole
   pub resources : AreFirstOf old.resources new.resources
   pub tasks : AreFirstOf old.tasks new.tasks
@@ -65,7 +65,7 @@ pub record StillDue (old new : Reading) : Type 0 where
   pub followed : (whole : Bool) (s : SoFar) → Knows whole old s → IfSome new.following (λ f. Follows f (past_in s))
 
 -- a reader is as it was, but for the room for ledgers
-abbrev pub IsAsBefore : Reading → Reading → Type 0
+abbrev pub IsAsBefore : ReportReader → ReportReader → Type 0
 IsAsBefore old new = (new ≡ record old { ledgers = new.ledgers }) × (new.ledgers.items ≡ old.ledgers.items)
 
 -- a refused name may stand behind the others all the same, and no other name came in
@@ -73,7 +73,7 @@ abbrev pub MayStand : List (List ℕ) → List (List ℕ) → List ℕ → Type 
 MayStand old new name = (new ≡ old) ⊎ (new ≡ old ++ name ∷ [])
 
 -- a reader knows what was said, and stamps are left
-abbrev pub IsReady : Reading → Type 0
+abbrev pub IsReady : ReportReader → Type 0
 IsReady reading = (whole : Bool) × (s : SoFar) × Knows whole reading s × (length (entries_in s) < 2 ^ 62)
 
 -- ---- events
@@ -104,7 +104,7 @@ event_admitted groups (Issue seat r) = is_admitted groups r
 event_admitted groups _ = true
 
 -- an event may stand here, and no change is due
-abbrev pub IsPlaced : Reading → Type 0
+abbrev pub IsPlaced : ReportReader → Type 0
 IsPlaced reading = (whole : Bool) (s : SoFar) → Knows whole reading s → place_code s at_tasks at_changes ≡ None
 
 -- acts behind an event, whose seat held this before, may show these and edit those
@@ -112,21 +112,21 @@ abbrev pub Allows : Set → Set → Event → Granted → Type 0
 Allows shown edited e held = (shown ≡ shown_by held) × (edited ≡ edited_by held e)
 
 -- whatever was said, acts behind this event may show and edit what its seat, by what it held before, may
-abbrev pub AllowsBehind : Reading → Reading → Event → Type 0
+abbrev pub AllowsBehind : ReportReader → ReportReader → Event → Type 0
 AllowsBehind old new e = (whole : Bool) (s : SoFar) → Knows whole old s → Allows new.shown new.edited e (holds_of (lock_in s).claims (seat_of e))
 
 -- the reader behind an accepted event, of which nothing was told yet
-abbrev pub noted : Reading → Event → Reading
+abbrev pub noted : ReportReader → Event → ReportReader
 noted reading e = record reading { last = event_place e; told = 0 }
 
 -- behind an event that was taken nothing was told of it yet, and what no event changes is as it was
-abbrev pub NotesEvent : Reading → Reading → Event → Type 0
+abbrev pub NotesEvent : ReportReader → ReportReader → Event → Type 0
 NotesEvent old new e = new ≡ noted (record old { machine = new.machine; following = new.following; shown = new.shown; edited = new.edited }) e
 
 -- ---- ledgers
 
 -- how many ledgers were told, where the last line is one of them; elsewhere none
-abbrev pub ledgers_told : Reading → ℕ
+abbrev pub ledgers_told : ReportReader → ℕ
 ledgers_told reading = if reading.last == at_ledgers then reading.told else 0
 
 -- ---- groups

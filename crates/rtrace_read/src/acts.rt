@@ -8,12 +8,12 @@ ghost use Rattle.rtrace_read.specs.Knows.{may_do};
 ghost use Rattle.rtrace_read.specs.LineTakes.{Takes, Refuses};
 
 use crate::place::AT_ACTS;
-use crate::reading::Reading;
+use crate::reading::ReportReader;
 use rset::ResourceSet;
 use rtrace_form::Code;
 use rvalue::{Act, Edit};
 
-impl Reading {
+impl ReportReader {
     /// Takes an act.
     ///
     /// # Errors

@@ -10,14 +10,14 @@ ghost use Rattle.rtrace_read.specs.LineTakes.{Takes, Refuses, IsFirstDue};
 
 use crate::due::{is_grant_at, is_status_at, wait_at};
 use crate::place::{AT_CHANGES, AT_END, AT_LEDGERS};
-use crate::reading::Reading;
+use crate::reading::ReportReader;
 use rclaim::StatusChange;
 use rcover_laws::WaitEnd;
 use rmodel::Machine;
 use rset::ResourceSet;
 use rtrace_form::{Code, WaitTold};
 
-impl Reading {
+impl ReportReader {
     /// Takes a line that tells a change of a status.
     ///
     /// # Errors

@@ -13,7 +13,7 @@ ghost use Rattle.rtrace_read.specs.Knows.{Knows, state_in, changes_in, past_in};
 ghost use Rattle.rtrace_read.specs.LineTakes.{Takes, Refuses, StillDue, IsReady, IsPlaced, FitsTold, Allows, AllowsBehind, NotesEvent, event_admitted, edited_by, stepped};
 
 use crate::place::{AT_ACTS, AT_CHANGES};
-use crate::reading::Reading;
+use crate::reading::ReportReader;
 use rclaim::{Event, RequestErr};
 use rcover::Following;
 use rexpand::Groups;
@@ -55,7 +55,7 @@ fn is_admitted(groups: &Groups, event: &Event) -> bool
     }
 }
 
-impl Reading {
+impl ReportReader {
     /// Takes an event in its place, whose request is right by itself.
     ///
     /// # Errors

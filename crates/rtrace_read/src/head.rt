@@ -12,14 +12,14 @@ ghost use Rattle.rtrace_read.specs.Knows.{Knows};
 ghost use Rattle.rtrace_read.specs.LineTakes.{Takes, Refuses, StillDue, IsAsBefore, MayStand, AreMade, groups_over, with_group};
 
 use crate::place::{AT_CAP, AT_GROUPS, AT_RESOURCES, AT_START, AT_TASKS, AT_VERSION};
-use crate::reading::Reading;
+use crate::reading::ReportReader;
 use rexpand::{GroupErr, Groups};
 use rset::{NameErr, NameTable, ResourceSet};
 use rtrace_form::{Code, RowErr};
 use rvalue::Ledger;
 use std::alloc::{AllocError, Global};
 
-impl Reading {
+impl ReportReader {
     /// Takes the version.
     ///
     /// # Errors

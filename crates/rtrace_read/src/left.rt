@@ -6,11 +6,11 @@ ghost use Rattle.rtrace_form.specs.SoFar.{at_end, at_ledgers};
 ghost use Rattle.rtrace_read.specs.LineTakes.{Takes, Refuses, ledgers_told};
 
 use crate::place::{AT_END, AT_LEDGERS, AT_TASKS};
-use crate::reading::Reading;
+use crate::reading::ReportReader;
 use rtrace_form::Code;
 use rvalue::Ledger;
 
-impl Reading {
+impl ReportReader {
     /// Takes the ledger of a resource.
     ///
     /// # Errors

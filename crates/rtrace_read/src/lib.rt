@@ -14,6 +14,6 @@ mod rows;
 mod taken;
 
 pub use place::AT_LEDGERS;
-pub use reading::Reading;
+pub use reading::ReportReader;
 pub use rows::take;
-pub use taken::{BoundTold, Taken};
+pub use taken::{BoundTold, TakenRecord};

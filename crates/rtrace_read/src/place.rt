@@ -6,7 +6,7 @@ ghost use Rattle.rtrace_read.specs.Knows.{Knows};
 ghost use Rattle.rtrace_read.specs.LineTakes.{place_code};
 
 use crate::due::has_more;
-use crate::reading::Reading;
+use crate::reading::ReportReader;
 use rmodel::Machine;
 use rtrace_form::Code;
 
@@ -42,7 +42,7 @@ pub const AT_LEDGERS: u8 = 8;
 /// The end was read.
 pub const AT_END: u8 = 9;
 
-impl Reading {
+impl ReportReader {
     /// What is wrong with the place of a line that tells no change and is no act, and may come behind these places.
     pub fn misplaced(&self, least: u8, most: u8) -> Option<Code>
         ensures { (whole : Bool) (s : SoFar) → Knows whole self.now s → result ≡ place_code s least most }

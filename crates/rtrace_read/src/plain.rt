@@ -10,8 +10,8 @@ ghost use Rattle.rtrace_read.specs.Knows.{Knows};
 ghost use Rattle.rtrace_read.specs.Takes.{TakesRow, RefusesRow, TellsBound, NamesStay, CountsRow, AllowsActs};
 ghost use Rattle.rtrace_read.specs.LineTakes.{StillDue, IsReady, IsAsBefore};
 
-use crate::reading::Reading;
-use crate::taken::Taken;
+use crate::reading::ReportReader;
+use crate::taken::TakenRecord;
 use csv::ByteRecord;
 use rexpand::GROUPS;
 use rtrace_form::{
@@ -27,11 +27,11 @@ use std::alloc::Global;
 /// what was due is due still, and no name but its own was declared. Where memory is wanting, nothing changes in the reader but
 /// the room for ledgers.
 pub fn take_plain(
-    reading: &mut Reading,
+    reading: &mut ReportReader,
     alloc: Global,
     word: Word,
     fields: &ByteRecord,
-    taken: &mut Taken,
+    taken: &mut TakenRecord,
 ) -> Result<(), RowErr>
     requires ready { IsReady reading.old }
     requires word { word_in reading.old.whole (fields_of fields.now) ≡ Some word }
@@ -49,7 +49,7 @@ pub fn take_plain(
 {
     match take_other(reading, alloc, word, fields) {
         Ok(()) => {
-            *taken = Taken::Other;
+            *taken = TakenRecord::Other;
             Ok(())
         }
         Err(e) => Err(e),
@@ -58,7 +58,7 @@ pub fn take_plain(
 
 // Takes a record that tells nothing of the history.
 fn take_other(
-    reading: &mut Reading,
+    reading: &mut ReportReader,
     alloc: Global,
     word: Word,
     fields: &ByteRecord,
@@ -68,8 +68,8 @@ fn take_other(
     requires event { is_event word ≡ false }
     requires act { is_act word ≡ false }
     requires wait { is_wait word ≡ false }
-    ensures taken { OnOk result (TakesRow reading.old reading.new (fields_of fields.now) Taken.Other) }
-    ensures counted { OnOk result (CountsRow reading.old reading.new (fields_of fields.now) Taken.Other) }
+    ensures taken { OnOk result (TakesRow reading.old reading.new (fields_of fields.now) TakenRecord.Other) }
+    ensures counted { OnOk result (CountsRow reading.old reading.new (fields_of fields.now) TakenRecord.Other) }
     ensures bad { (code : Code) → result ≡ Err (RowErr.Bad code) → RefusesRow reading.old (fields_of fields.now) code }
     ensures still { (code : Code) → result ≡ Err (RowErr.Bad code) → StillDue reading.old reading.new }
     ensures names { (code : Code) → result ≡ Err (RowErr.Bad code) → NamesStay reading.old reading.new (fields_of fields.now) }
@@ -92,11 +92,11 @@ fn take_other(
 }
 
 // Takes the record of a change of a status.
-fn take_status(reading: &mut Reading, word: Word, fields: &ByteRecord) -> Result<(), RowErr>
+fn take_status(reading: &mut ReportReader, word: Word, fields: &ByteRecord) -> Result<(), RowErr>
     requires word { word_in reading.old.whole (fields_of fields.now) ≡ Some word }
     requires change { is_status word ≡ true }
-    ensures taken { OnOk result (TakesRow reading.old reading.new (fields_of fields.now) Taken.Other) }
-    ensures counted { OnOk result (CountsRow reading.old reading.new (fields_of fields.now) Taken.Other) }
+    ensures taken { OnOk result (TakesRow reading.old reading.new (fields_of fields.now) TakenRecord.Other) }
+    ensures counted { OnOk result (CountsRow reading.old reading.new (fields_of fields.now) TakenRecord.Other) }
     ensures bad { (code : Code) → result ≡ Err (RowErr.Bad code) → RefusesRow reading.old (fields_of fields.now) code }
     ensures still { (code : Code) → result ≡ Err (RowErr.Bad code) → StillDue reading.old reading.new }
     ensures unchanged { OnErr result (reading.new ≡ reading.old) }
@@ -111,10 +111,10 @@ fn take_status(reading: &mut Reading, word: Word, fields: &ByteRecord) -> Result
 }
 
 // Takes the record of a grant.
-fn take_grant(reading: &mut Reading, fields: &ByteRecord) -> Result<(), RowErr>
+fn take_grant(reading: &mut ReportReader, fields: &ByteRecord) -> Result<(), RowErr>
     requires { word_in reading.old.whole (fields_of fields.now) ≡ Some Word.Grant }
-    ensures taken { OnOk result (TakesRow reading.old reading.new (fields_of fields.now) Taken.Other) }
-    ensures counted { OnOk result (CountsRow reading.old reading.new (fields_of fields.now) Taken.Other) }
+    ensures taken { OnOk result (TakesRow reading.old reading.new (fields_of fields.now) TakenRecord.Other) }
+    ensures counted { OnOk result (CountsRow reading.old reading.new (fields_of fields.now) TakenRecord.Other) }
     ensures bad { (code : Code) → result ≡ Err (RowErr.Bad code) → RefusesRow reading.old (fields_of fields.now) code }
     ensures still { (code : Code) → result ≡ Err (RowErr.Bad code) → StillDue reading.old reading.new }
     ensures unchanged { OnErr result (reading.new ≡ reading.old) }
@@ -129,10 +129,10 @@ fn take_grant(reading: &mut Reading, fields: &ByteRecord) -> Result<(), RowErr>
 }
 
 // Takes the record of a ledger.
-fn take_ledger(reading: &mut Reading, fields: &ByteRecord) -> Result<(), RowErr>
+fn take_ledger(reading: &mut ReportReader, fields: &ByteRecord) -> Result<(), RowErr>
     requires { word_in reading.old.whole (fields_of fields.now) ≡ Some Word.Ledger }
-    ensures taken { OnOk result (TakesRow reading.old reading.new (fields_of fields.now) Taken.Other) }
-    ensures counted { OnOk result (CountsRow reading.old reading.new (fields_of fields.now) Taken.Other) }
+    ensures taken { OnOk result (TakesRow reading.old reading.new (fields_of fields.now) TakenRecord.Other) }
+    ensures counted { OnOk result (CountsRow reading.old reading.new (fields_of fields.now) TakenRecord.Other) }
     ensures bad { (code : Code) → result ≡ Err (RowErr.Bad code) → RefusesRow reading.old (fields_of fields.now) code }
     ensures still { (code : Code) → result ≡ Err (RowErr.Bad code) → StillDue reading.old reading.new }
     ensures unchanged { OnErr result (reading.new ≡ reading.old) }
@@ -147,11 +147,11 @@ fn take_ledger(reading: &mut Reading, fields: &ByteRecord) -> Result<(), RowErr>
 }
 
 // Takes the record of a group.
-fn take_group(reading: &mut Reading, alloc: Global, fields: &ByteRecord) -> Result<(), RowErr>
+fn take_group(reading: &mut ReportReader, alloc: Global, fields: &ByteRecord) -> Result<(), RowErr>
     requires ready { IsReady reading.old }
     requires word { word_in reading.old.whole (fields_of fields.now) ≡ Some Word.Group }
-    ensures taken { OnOk result (TakesRow reading.old reading.new (fields_of fields.now) Taken.Other) }
-    ensures counted { OnOk result (CountsRow reading.old reading.new (fields_of fields.now) Taken.Other) }
+    ensures taken { OnOk result (TakesRow reading.old reading.new (fields_of fields.now) TakenRecord.Other) }
+    ensures counted { OnOk result (CountsRow reading.old reading.new (fields_of fields.now) TakenRecord.Other) }
     ensures bad { (code : Code) → result ≡ Err (RowErr.Bad code) → RefusesRow reading.old (fields_of fields.now) code }
     ensures still { (code : Code) → result ≡ Err (RowErr.Bad code) → StillDue reading.old reading.new }
     ensures unchanged { OnErr result (reading.new ≡ reading.old) }
@@ -169,10 +169,10 @@ fn take_group(reading: &mut Reading, alloc: Global, fields: &ByteRecord) -> Resu
 }
 
 // Takes the record of the version.
-fn take_version(reading: &mut Reading, fields: &ByteRecord) -> Result<(), RowErr>
+fn take_version(reading: &mut ReportReader, fields: &ByteRecord) -> Result<(), RowErr>
     requires { word_in reading.old.whole (fields_of fields.now) ≡ Some Word.Version }
-    ensures taken { OnOk result (TakesRow reading.old reading.new (fields_of fields.now) Taken.Other) }
-    ensures counted { OnOk result (CountsRow reading.old reading.new (fields_of fields.now) Taken.Other) }
+    ensures taken { OnOk result (TakesRow reading.old reading.new (fields_of fields.now) TakenRecord.Other) }
+    ensures counted { OnOk result (CountsRow reading.old reading.new (fields_of fields.now) TakenRecord.Other) }
     ensures bad { (code : Code) → result ≡ Err (RowErr.Bad code) → RefusesRow reading.old (fields_of fields.now) code }
     ensures still { (code : Code) → result ≡ Err (RowErr.Bad code) → StillDue reading.old reading.new }
     ensures unchanged { OnErr result (reading.new ≡ reading.old) }
@@ -184,10 +184,10 @@ fn take_version(reading: &mut Reading, fields: &ByteRecord) -> Result<(), RowErr
 }
 
 // Takes the record of a resource.
-fn take_resource(reading: &mut Reading, fields: &ByteRecord) -> Result<(), RowErr>
+fn take_resource(reading: &mut ReportReader, fields: &ByteRecord) -> Result<(), RowErr>
     requires { word_in reading.old.whole (fields_of fields.now) ≡ Some Word.Resource }
-    ensures taken { OnOk result (TakesRow reading.old reading.new (fields_of fields.now) Taken.Other) }
-    ensures counted { OnOk result (CountsRow reading.old reading.new (fields_of fields.now) Taken.Other) }
+    ensures taken { OnOk result (TakesRow reading.old reading.new (fields_of fields.now) TakenRecord.Other) }
+    ensures counted { OnOk result (CountsRow reading.old reading.new (fields_of fields.now) TakenRecord.Other) }
     ensures bad { (code : Code) → result ≡ Err (RowErr.Bad code) → RefusesRow reading.old (fields_of fields.now) code }
     ensures still { (code : Code) → result ≡ Err (RowErr.Bad code) → StillDue reading.old reading.new }
     ensures names { (code : Code) → result ≡ Err (RowErr.Bad code) → NamesStay reading.old reading.new (fields_of fields.now) }
@@ -200,10 +200,10 @@ fn take_resource(reading: &mut Reading, fields: &ByteRecord) -> Result<(), RowEr
 }
 
 // Takes the record of a task.
-fn take_task(reading: &mut Reading, alloc: Global, fields: &ByteRecord) -> Result<(), RowErr>
+fn take_task(reading: &mut ReportReader, alloc: Global, fields: &ByteRecord) -> Result<(), RowErr>
     requires { word_in reading.old.whole (fields_of fields.now) ≡ Some Word.Task }
-    ensures taken { OnOk result (TakesRow reading.old reading.new (fields_of fields.now) Taken.Other) }
-    ensures counted { OnOk result (CountsRow reading.old reading.new (fields_of fields.now) Taken.Other) }
+    ensures taken { OnOk result (TakesRow reading.old reading.new (fields_of fields.now) TakenRecord.Other) }
+    ensures counted { OnOk result (CountsRow reading.old reading.new (fields_of fields.now) TakenRecord.Other) }
     ensures bad { (code : Code) → result ≡ Err (RowErr.Bad code) → RefusesRow reading.old (fields_of fields.now) code }
     ensures still { (code : Code) → result ≡ Err (RowErr.Bad code) → StillDue reading.old reading.new }
     ensures names { (code : Code) → result ≡ Err (RowErr.Bad code) → NamesStay reading.old reading.new (fields_of fields.now) }
@@ -216,10 +216,10 @@ fn take_task(reading: &mut Reading, alloc: Global, fields: &ByteRecord) -> Resul
 }
 
 // Takes the record of the cap.
-fn take_cap(reading: &mut Reading, fields: &ByteRecord) -> Result<(), RowErr>
+fn take_cap(reading: &mut ReportReader, fields: &ByteRecord) -> Result<(), RowErr>
     requires { word_in reading.old.whole (fields_of fields.now) ≡ Some Word.Cap }
-    ensures taken { OnOk result (TakesRow reading.old reading.new (fields_of fields.now) Taken.Other) }
-    ensures counted { OnOk result (CountsRow reading.old reading.new (fields_of fields.now) Taken.Other) }
+    ensures taken { OnOk result (TakesRow reading.old reading.new (fields_of fields.now) TakenRecord.Other) }
+    ensures counted { OnOk result (CountsRow reading.old reading.new (fields_of fields.now) TakenRecord.Other) }
     ensures bad { (code : Code) → result ≡ Err (RowErr.Bad code) → RefusesRow reading.old (fields_of fields.now) code }
     ensures still { (code : Code) → result ≡ Err (RowErr.Bad code) → StillDue reading.old reading.new }
     ensures unchanged { OnErr result (reading.new ≡ reading.old) }
@@ -234,10 +234,10 @@ fn take_cap(reading: &mut Reading, fields: &ByteRecord) -> Result<(), RowErr>
 }
 
 // Takes the record of the end.
-fn take_end(reading: &mut Reading, fields: &ByteRecord) -> Result<(), RowErr>
+fn take_end(reading: &mut ReportReader, fields: &ByteRecord) -> Result<(), RowErr>
     requires { word_in reading.old.whole (fields_of fields.now) ≡ Some Word.End }
-    ensures taken { OnOk result (TakesRow reading.old reading.new (fields_of fields.now) Taken.Other) }
-    ensures counted { OnOk result (CountsRow reading.old reading.new (fields_of fields.now) Taken.Other) }
+    ensures taken { OnOk result (TakesRow reading.old reading.new (fields_of fields.now) TakenRecord.Other) }
+    ensures counted { OnOk result (CountsRow reading.old reading.new (fields_of fields.now) TakenRecord.Other) }
     ensures bad { (code : Code) → result ≡ Err (RowErr.Bad code) → RefusesRow reading.old (fields_of fields.now) code }
     ensures still { (code : Code) → result ≡ Err (RowErr.Bad code) → StillDue reading.old reading.new }
     ensures unchanged { OnErr result (reading.new ≡ reading.old) }
@@ -249,7 +249,7 @@ fn take_end(reading: &mut Reading, fields: &ByteRecord) -> Result<(), RowErr>
 }
 
 // Whether there are as many read groups as there may be.
-fn has_all_groups(reading: &Reading) -> bool
+fn has_all_groups(reading: &ReportReader) -> bool
     ensures all { (whole : Bool) (s : SoFar) → Knows whole reading.now s → result ≡ (length s.groups == GROUPS) }
     ensures room { (whole : Bool) (s : SoFar) → Knows whole reading.now s → result ≡ false → length s.groups < GROUPS }
 {

@@ -14,7 +14,7 @@ use std::alloc::Global;
 
 /// What the lines so far have declared, and where their events lead: as much as is needed to judge the next one.
 #[derive(Drop)]
-pub struct Reading {
+pub struct ReportReader {
     /// Whether the text is a report, and else an event list.
     pub whole: bool,
     /// The place of the last line, as `rforms` numbers them.
@@ -42,12 +42,12 @@ pub struct Reading {
     pub told: usize,
 }
 
-impl Reading {
+impl ReportReader {
     /// Nothing was read, of a report or else of an event list. No memory is taken.
-    pub fn new(alloc: Global, whole: bool) -> Reading
+    pub fn new(alloc: Global, whole: bool) -> ReportReader
         ensures { Knows whole result nothing_yet }
     {
-        Reading {
+        ReportReader {
             whole,
             last: AT_START,
             resources: NameTable::new(alloc),

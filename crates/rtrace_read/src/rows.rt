@@ -11,8 +11,8 @@ ghost use Rattle.rtrace_read.specs.LineTakes.{StillDue, IsReady, IsAsBefore};
 
 use crate::place::{AT_CHANGES, AT_TASKS};
 use crate::plain::take_plain;
-use crate::reading::Reading;
-use crate::taken::{BoundTold, Taken};
+use crate::reading::ReportReader;
+use crate::taken::{BoundTold, TakenRecord};
 use csv::ByteRecord;
 use rclaim::{Event, RequestErr};
 use rtrace_form::{
@@ -28,10 +28,10 @@ use std::alloc::Global;
 /// is said then of `taken`. Where a record is wrong, what was due is due still, and no name but its own was declared. Where
 /// memory is wanting, nothing changes in the reader but the room for ledgers.
 pub fn take(
-    reading: &mut Reading,
+    reading: &mut ReportReader,
     alloc: Global,
     fields: &ByteRecord,
-    taken: &mut Taken,
+    taken: &mut TakenRecord,
 ) -> Result<(), RowErr>
     requires { IsReady reading.old }
     ensures taken { OnOk result (TakesRow reading.old reading.new (fields_of fields.now) taken.new) }
@@ -69,11 +69,11 @@ pub fn take(
 
 // Takes the record of an event.
 fn take_event(
-    reading: &mut Reading,
+    reading: &mut ReportReader,
     alloc: Global,
     word: Word,
     fields: &ByteRecord,
-    taken: &mut Taken,
+    taken: &mut TakenRecord,
 ) -> Result<(), RowErr>
     requires ready { IsReady reading.old }
     requires word { word_in reading.old.whole (fields_of fields.now) ≡ Some word }
@@ -98,7 +98,7 @@ fn take_event(
         return Err(RowErr::Bad(Code::Refused(Refusal::Request(cause))));
     }
     match &*taken {
-        Taken::Event(event) => reading.happen(alloc, event),
+        TakenRecord::Event(event) => reading.happen(alloc, event),
         _ => unreachable!(),
     }
 }
@@ -106,10 +106,10 @@ fn take_event(
 // Keeps the event that a record tells, or answers what refuses its request whatever read groups there are. A finish, which
 // has a seat alone, is kept by itself: else each finish would pay for what a request has.
 fn keep_event(
-    reading: &Reading,
+    reading: &ReportReader,
     word: Word,
     fields: &ByteRecord,
-    taken: &mut Taken,
+    taken: &mut TakenRecord,
 ) -> Result<Option<RequestErr>, Code>
     requires form { IsOf word (fields_of fields.now) }
     requires event { is_event word ≡ true }
@@ -139,10 +139,10 @@ fn keep_event(
 
 // Takes the record of an act.
 fn take_act(
-    reading: &mut Reading,
+    reading: &mut ReportReader,
     word: Word,
     fields: &ByteRecord,
-    taken: &mut Taken,
+    taken: &mut TakenRecord,
 ) -> Result<(), RowErr>
     requires ready { IsReady reading.old }
     requires word { word_in reading.old.whole (fields_of fields.now) ≡ Some word }
@@ -158,7 +158,7 @@ fn take_act(
     match act_of(&reading.resources, &reading.tasks, word, fields) {
         Ok(act) => match reading.act(&act) {
             Ok(()) => {
-                *taken = Taken::Act(act);
+                *taken = TakenRecord::Act(act);
                 Ok(())
             }
             Err(code) => Err(RowErr::Bad(code)),
@@ -169,10 +169,10 @@ fn take_act(
 
 // Takes the record of a wait of this stage.
 fn take_wait(
-    reading: &mut Reading,
+    reading: &mut ReportReader,
     stage: Stage,
     fields: &ByteRecord,
-    taken: &mut Taken,
+    taken: &mut TakenRecord,
 ) -> Result<(), RowErr>
     requires { word_in reading.old.whole (fields_of fields.now) ≡ Some (Word.Wait stage) }
     ensures taken { OnOk result (TakesRow reading.old reading.new (fields_of fields.now) taken.new) }
@@ -187,7 +187,7 @@ fn take_wait(
         Ok(told) => match reading.wait(&told) {
             Ok(wait) => {
                 let bound = told.bound;
-                *taken = Taken::Wait(BoundTold { wait, bound });
+                *taken = TakenRecord::Wait(BoundTold { wait, bound });
                 Ok(())
             }
             Err(code) => Err(RowErr::Bad(code)),
@@ -198,11 +198,11 @@ fn take_wait(
 
 // Keeps an event as what was taken. Where another one is kept it is written over, and nothing else is moved.
 #[inline]
-fn keep(taken: &mut Taken, event: Event)
-    ensures { taken.new ≡ Taken.Event event }
+fn keep(taken: &mut TakenRecord, event: Event)
+    ensures { taken.new ≡ TakenRecord.Event event }
 {
     match taken {
-        Taken::Event(place) => *place = event,
-        _ => *taken = Taken::Event(event),
+        TakenRecord::Event(place) => *place = event,
+        _ => *taken = TakenRecord::Event(event),
     }
 }

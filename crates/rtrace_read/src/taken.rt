@@ -15,7 +15,7 @@ pub struct BoundTold {
 
 /// What a record that was taken tells of the history.
 #[derive(Drop)]
-pub enum Taken {
+pub enum TakenRecord {
     /// This event happened.
     Event(Event),
     /// The section of the latest event did this.

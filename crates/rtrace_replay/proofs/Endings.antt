@@ -27,7 +27,7 @@ use Rattle.rtrace_write.specs.Told.{told, leaves_from}
 use Rattle.rtrace_write.proofs.Parts.{parts_are, ledgers_are as told_ledgers}
 use Rattle.rtrace_read.specs.Past.{begun}
 use Rattle.rtrace_read.specs.Knows.{Knows}
-use Rattle.rtrace_read.specs.declared.reading.Reading.{Reading}
+use Rattle.rtrace_read.specs.declared.reading.ReportReader.{ReportReader}
 use Rattle.rtrace_replay.specs.Names.{names_read}
 use Rattle.rtrace_replay.specs.Parts.{ArePartsOf}
 use Rattle.rtrace_replay.specs.Replaying.{KnowsTelling, IsToldToEnd}
@@ -46,7 +46,7 @@ taken_spells Know bytes taker h = right_bounds false h.rows (list_told false Kno
 one_some : {X : Type 0} {x y : X} → Some x ≡ Some y → x ≡ y
 one_some e = cc
 
-module _ (whole : Bool) (reading : Reading) (s : SoFar) (k : Knows whole reading s) where
+module _ (whole : Bool) (reading : ReportReader) (s : SoFar) (k : Knows whole reading s) where
   -- its ledgers are those of the history
   pub ledgers_are : reading.ledgers.items ≡ map (ledger_after (entries_in s)) (range_with_len 0 (length s.resources))
   ledgers_are =
@@ -69,7 +69,7 @@ module _ (whole : Bool) (reading : Reading) (s : SoFar) (k : Knows whole reading
     some_groups = ap is_some groups_are
 
 -- what was made behind a list without events was told all of it
-pub told_none : (t : Telling) (reading : Reading) (s : SoFar) → Knows false reading s → is_ended s ≡ true → t.names ≡ names_read reading
+pub told_none : (t : Telling) (reading : ReportReader) (s : SoFar) → Knows false reading s → is_ended s ≡ true → t.names ≡ names_read reading
     → ((groups : ReadGroups) (cap : ℕ) → KnowsGathered t.gathered (begun groups (length reading.tasks) cap) []) → entries_in s ≡ [] → KnowsTelling t s
 unfolding ended_from
 told_none t reading s k ended named told none =
@@ -82,18 +82,18 @@ told_none t reading s k ended named told none =
     }
 
 -- the history of what was read to its end was told whole, also when its text is given away
-pub told_whole : (text given : List (Option ℕ)) (telling : Telling) (reading : Reading) (s : SoFar) → given ≡ text → IsToldToEnd text telling reading s → IsToldWhole given telling.gathered (names_in s) (head_in s) (entries_in s)
+pub told_whole : (text given : List (Option ℕ)) (telling : Telling) (reading : ReportReader) (s : SoFar) → given ≡ text → IsToldToEnd text telling reading s → IsToldWhole given telling.gathered (names_in s) (head_in s) (entries_in s)
 told_whole text given telling reading s same h = record { told = same ∙ h.history; known = h.told.gathered }
 
 -- its cap is that of the head, and at least 1
-pub cap_is : (reading : Reading) (s : SoFar) → Knows false reading s → cap_or reading.tasks reading.cap ≡ (head_in s).cap
+pub cap_is : (reading : ReportReader) (s : SoFar) → Knows false reading s → cap_or reading.tasks reading.cap ≡ (head_in s).cap
 cap_is reading s k = λ i. cap_or (k.tasks i) (k.cap i)
 
 low_cap : (told : Option ℕ) (n : ℕ) → IfSome told (λ m. (1 ≤ m) × (m ≤ SEATS)) → 0 < n → 1 ≤ unwrap_or told n
 low_cap None n fits some = some
 low_cap (Some m) n fits some = fits.0
 
-pub some_cap : (reading : Reading) (s : SoFar) → Knows false reading s → is_ended s ≡ true → 1 ≤ (head_in s).cap
+pub some_cap : (reading : ReportReader) (s : SoFar) → Knows false reading s → is_ended s ≡ true → 1 ≤ (head_in s).cap
 some_cap reading s k ended = let last = eqb-true s.last 9 ended in low_cap s.cap (length s.tasks) k.capped (k.some_task (omega (arith, last)))
 
 -- what is made of a value is so in a weaker way too
@@ -102,7 +102,7 @@ if_ok_weaker (Ok x) f h = f x h
 if_ok_weaker (Err e) f h = tt
 
 -- the parts that were made are the text of the report
-pub made_are : (reading : Reading) (s : SoFar) (names : Names) (head history ending : List ℕ) (groups : ReadGroups) → Knows false reading s → is_ended s ≡ true → names ≡ names_in s
+pub made_are : (reading : ReportReader) (s : SoFar) (names : Names) (head history ending : List ℕ) (groups : ReadGroups) → Knows false reading s → is_ended s ≡ true → names ≡ names_in s
     → reading.groups ≡ Some groups → head ≡ told names (declared_lines names.resources groups.groups names.tasks (Some (cap_or reading.tasks reading.cap)))
     → history ≡ told (names_in s) (history_lines true (bound_in (head_in s) (entries_in s)) (head_in s) [] (entries_in s)) → ending ≡ told names (leaves_from 0 reading.ledgers.items ++ Ends ∷ [])
     → head ++ (history ++ ending) ≡ report_text (told_in s)
@@ -113,7 +113,7 @@ made_are reading s names head history ending groups k ended own there e f g =
     (f ∙ ap (λ n. told n (history_lines true (bound_in (head_in s) (entries_in s)) (head_in s) [] (entries_in s))) (sym own)) g
 
 -- and each of them is its part of that text
-pub made_parts : (reading : Reading) (s : SoFar) (names : Names) (head history ending : List ℕ) (groups : ReadGroups) → Knows false reading s → is_ended s ≡ true → names ≡ names_in s
+pub made_parts : (reading : ReportReader) (s : SoFar) (names : Names) (head history ending : List ℕ) (groups : ReadGroups) → Knows false reading s → is_ended s ≡ true → names ≡ names_in s
     → reading.groups ≡ Some groups → head ≡ told names (declared_lines names.resources groups.groups names.tasks (Some (cap_or reading.tasks reading.cap)))
     → history ≡ told (names_in s) (history_lines true (bound_in (head_in s) (entries_in s)) (head_in s) [] (entries_in s)) → ending ≡ told names (leaves_from 0 reading.ledgers.items ++ Ends ∷ [])
     → ArePartsOf (told_in s) head history ending

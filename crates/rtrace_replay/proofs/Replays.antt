@@ -27,7 +27,7 @@ use Rattle.rtrace_write.specs.Gathered.{KnowsGathered}
 use Rattle.rtrace_write.specs.Open.{open_told}
 use Rattle.rtrace_write.specs.Told.{step_told}
 use Rattle.rtrace_read.specs.Knows.{Knows, StandBehind, changes_in}
-use Rattle.rtrace_read.specs.declared.reading.Reading.{Reading}
+use Rattle.rtrace_read.specs.declared.reading.ReportReader.{ReportReader}
 use Rattle.rtrace_replay.specs.Names.{names_read}
 use Rattle.rtrace_replay.specs.Followed.{AreFollowed, IsTold}
 use Rattle.rtrace_replay.specs.Replaying.{history_text, KnowsTelling}
@@ -41,16 +41,16 @@ if_some_weaker (Some x) f h = f x h
 pub one_err : {T E : Type 0} {a b : E} → ◌≡◌ {A = Result T E} (Err a) (Err b) → a ≡ b
 one_err e = cc
 
-pub names_are : (reading : Reading) (s : SoFar) → Knows false reading s → names_read reading ≡ names_in s
+pub names_are : (reading : ReportReader) (s : SoFar) → Knows false reading s → names_read reading ≡ names_in s
 names_are reading s k = λ i. record { resources = k.resources i; tasks = k.tasks i }
 
 none_some : {X : Type 0} (o : Option X) (x : X) → o ≡ None → o ≡ Some x → ⊥
 none_some o x a b = cc
 
-no_entries : (reading : Reading) (s : SoFar) → Knows false reading s → s.last ≤ 5 → entries_in s ≡ []
+no_entries : (reading : ReportReader) (s : SoFar) → Knows false reading s → s.last ≤ 5 → entries_in s ≡ []
 no_entries reading s k near = let idle = k.idle near in λ i. idle.1 i ++ option_to_list (idle.2 i)
 
-pub event_far : (reading : Reading) (t : SoFar) (x : Entry) → Knows false reading t → t.latest ≡ Some x → 6 ≤ t.last
+pub event_far : (reading : ReportReader) (t : SoFar) (x : Entry) → Knows false reading t → t.latest ≡ Some x → 6 ≤ t.last
 event_far reading t x k latest = at (up_to_five t.last)
   where
     at : (t.last ≤ 5) ⊎ (6 ≤ t.last) → 6 ≤ t.last
@@ -65,7 +65,7 @@ both_there (Some m) (Some f) latest p x h is = (refl, refl, h.1)
 both_there None (Some f) latest p x h is = absurd h
 both_there (Some m) None latest p x h is = absurd h
 
-module _ (s : SoFar) (row : Row) (right : code_of false s row ≡ None) (before reading : Reading) (was : Knows false before s) (now : Knows false reading (with_row false s row)) where
+module _ (s : SoFar) (row : Row) (right : code_of false s row ≡ None) (before reading : ReportReader) (was : Knows false before s) (now : Knows false reading (with_row false s row)) where
   abbrev past : Past
   past = past_in (head_in s) (entries_in s)
 
@@ -160,7 +160,7 @@ coming_next following p e ended follows has = record {
 }
 
 -- what was made at the first event was told none before it
-pub first_told : (t : Telling) (reading : Reading) (p : Past) (ws : List WaitEnd) → ((groups : ReadGroups) (cap : ℕ) → KnowsGathered t.gathered (begun groups (length reading.tasks) cap) []) → IsTold None reading p ws
+pub first_told : (t : Telling) (reading : ReportReader) (p : Past) (ws : List WaitEnd) → ((groups : ReadGroups) (cap : ℕ) → KnowsGathered t.gathered (begun groups (length reading.tasks) cap) []) → IsTold None reading p ws
     → KnowsGathered t.gathered p ws
 first_told t reading p ws told none =
     subst (λ (q : Past). KnowsGathered t.gathered q ws) (sym none.0) (subst (λ (vs : List WaitEnd). KnowsGathered t.gathered (begun p.groups (length reading.tasks) p.cap) vs) (sym none.1) (told p.groups p.cap))

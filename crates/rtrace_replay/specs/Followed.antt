@@ -5,7 +5,7 @@ use Rattle.rtrace_read.specs.Follows.{Follows}
 use Rattle.rtrace_read.specs.Past.{Past, begun}
 use Rattle.rtrace_read.specs.Following.{Following}
 use Rattle.rtrace_write.specs.Gathered.{KnowsGathered}
-use Rattle.rtrace_read.specs.declared.reading.Reading.{Reading}
+use Rattle.rtrace_read.specs.declared.reading.ReportReader.{ReportReader}
 use Rattle.rtrace_replay.specs.Names.{names_read}
 use Rattle.rtrace_replay.specs.declared.replaying.Telling.{Telling}
 
@@ -14,6 +14,6 @@ abbrev pub AreFollowed : Option Following → Past → Type 0
 AreFollowed following p = IfSome following (λ f. Follows f p)
 
 -- what tells events has the names that were read, and was told these events and the waits that they ended; before it is made there is none
-abbrev pub IsTold : Option Telling → Reading → Past → List WaitEnd → Type 0
+abbrev pub IsTold : Option Telling → ReportReader → Past → List WaitEnd → Type 0
 IsTold None reading p ws = (p ≡ begun p.groups (length reading.tasks) p.cap) × (ws ≡ [])
 IsTold (Some telling) reading p ws = (telling.names ≡ names_read reading) × KnowsGathered telling.gathered p ws

@@ -1,6 +1,6 @@
 pub use Rattle.rtrace_read.specs.Knows
 pub use Rattle.rtrace_read.specs.LineTakes
-pub use Rattle.rtrace_read.specs.declared.reading.Reading
+pub use Rattle.rtrace_read.specs.declared.reading.ReportReader
 pub use Rattle.rtrace_read.specs.Follows
 pub use Rattle.rtrace_read.specs.Past
 pub use Rattle.rtrace_read.specs.Following

@@ -10,10 +10,10 @@ use Rattle.rtrace_write.specs.Gathered.{KnowsGathered}
 use Rattle.rtrace_write.specs.Open.{open_told}
 use Rattle.rtrace_read.specs.Knows.{Knows}
 use Rattle.rtrace_read.specs.LineTakes.{StillDue, IsAsBefore}
-use Rattle.rtrace_read.specs.declared.reading.Reading.{Reading}
+use Rattle.rtrace_read.specs.declared.reading.ReportReader.{ReportReader}
 use Rattle.rtrace_read.specs.Takes.{TakesRow, OneMoreAtMost}
-use Rattle.rtrace_read.specs.declared.taken.Taken.{Taken}
-use Rattle.rtrace_read.specs.declared.taken.Taken.TheVariants as taken
+use Rattle.rtrace_read.specs.declared.taken.TakenRecord.{TakenRecord}
+use Rattle.rtrace_read.specs.declared.taken.TakenRecord.TheVariants as taken
 use Rattle.rtrace_replay.specs.declared.replaying.Replaying.{Replaying}
 use Rattle.rtrace_replay.specs.declared.replaying.Telling.{Telling}
 
@@ -35,7 +35,7 @@ pub record KnowsReplay (replaying : Replaying) (s : SoFar) : Type 0 where
   pub untold : replaying.telling ≡ None → entries_in s ≡ []
 
 -- the list was read to its end, the text is that of its history, and what tells events is there
-pub record IsToldToEnd (text : List (Option ℕ)) (telling : Telling) (reading : Reading) (s : SoFar) : Type 0 where
+pub record IsToldToEnd (text : List (Option ℕ)) (telling : Telling) (reading : ReportReader) (s : SoFar) : Type 0 where
   pub knows : Knows false reading s
   pub ended : is_ended s ≡ true
   pub history : text ≡ history_text s
@@ -47,5 +47,5 @@ ReplayStays was taker =
     (taker ≡ record was { reading = taker.reading; taken = taker.taken }) × (taker.taken ≡ taken.Other) × StillDue was.reading taker.reading × OneMoreAtMost was.reading taker.reading
 
 -- where memory is wanting: a reader is as before but for the room for ledgers, or it has taken the record
-abbrev pub StandsOrTook : Reading → Reading → Row → Type 0
-StandsOrTook old new row = IsAsBefore old new ⊎ ((what : Taken) × TakesRow old new row what)
+abbrev pub StandsOrTook : ReportReader → ReportReader → Row → Type 0
+StandsOrTook old new row = IsAsBefore old new ⊎ ((what : TakenRecord) × TakesRow old new row what)

@@ -7,5 +7,5 @@ mod steps;
 
 pub use recording::{Recorded, recorded_replay_of};
 pub use replaying::{Replayed, replay_of};
-pub use rtrace_read::{AT_LEDGERS, Reading};
+pub use rtrace_read::{AT_LEDGERS, ReportReader};
 pub use steps::Steps;

@@ -21,7 +21,7 @@ use rclaim::Event;
 use rmodel::Machine;
 use rplain::Plain;
 use rtrace_form::{Code, Records, RowErr, TextErr, take_text};
-use rtrace_read::{Reading, Taken};
+use rtrace_read::{ReportReader, TakenRecord};
 use std::alloc::{AllocError, Global};
 use std::mem;
 
@@ -69,13 +69,13 @@ impl Recording {
             return Err(e);
         }
         match &self.replaying.taken {
-            Taken::Event(event) => match self.events.push(*event) {
+            TakenRecord::Event(event) => match self.events.push(*event) {
                 Ok(()) => Ok(()),
                 Err(_) => Err(RowErr::Memory),
             },
-            Taken::Act(_) => Ok(()),
-            Taken::Wait(_) => Ok(()),
-            Taken::Other => Ok(()),
+            TakenRecord::Act(_) => Ok(()),
+            TakenRecord::Wait(_) => Ok(()),
+            TakenRecord::Other => Ok(()),
         }
     }
 
@@ -126,7 +126,7 @@ impl Records for Recording {
 }
 
 // A machine as it stands before the first event of what was read to its end.
-fn machine_of(alloc: Global, reading: &Reading) -> Result<Plain, AllocError>
+fn machine_of(alloc: Global, reading: &ReportReader) -> Result<Plain, AllocError>
     requires { (s : SoFar) × Knows false reading.now s × (is_ended s ≡ true) }
     ensures { IfOk result (λ machine. (s : SoFar) → Knows false reading.now s → is_ended s ≡ true → machine.state ≡ opening_of (head_in s)) }
 {

@@ -32,7 +32,7 @@ use csv::ByteRecord;
 use rclaim::Event;
 use rmodel::Machine;
 use rtrace_form::{Code, Records, RowErr, TextErr, take_text};
-use rtrace_read::{Reading, Taken, take};
+use rtrace_read::{ReportReader, TakenRecord, take};
 use rtrace_write::{
     Gathered, NameRows, OpenText, Page, close_history, ending_of, head_of, push_step,
 };
@@ -63,11 +63,11 @@ struct Telling {
 pub struct Replaying {
     alloc: Global,
     /// What the records so far have said.
-    pub reading: Reading,
+    pub reading: ReportReader,
     telling: Option<Telling>,
     history: OpenText,
     /// What the latest record told: nothing, where it was refused or memory was wanting.
-    pub taken: Taken,
+    pub taken: TakenRecord,
 }
 
 impl Replaying {
@@ -78,14 +78,14 @@ impl Replaying {
     /// Nothing was taken, and no record told anything.
     pub fn new(alloc: Global) -> Replaying
         ensures knows { KnowsReplay result nothing_yet }
-        ensures nothing { result.taken ≡ Taken.Other }
+        ensures nothing { result.taken ≡ TakenRecord.Other }
     {
         Replaying {
             alloc,
-            reading: Reading::new(alloc, false),
+            reading: ReportReader::new(alloc, false),
             telling: None,
             history: OpenText::new(alloc),
-            taken: Taken::Other,
+            taken: TakenRecord::Other,
         }
     }
 
@@ -105,15 +105,15 @@ impl Replaying {
         ensures still { (code : Code) → result ≡ Err (RowErr.Bad code)
             → (self.new ≡ record self.old { reading = self.new.reading; taken = self.new.taken }) × StillDue self.old.reading self.new.reading }
         ensures names { (code : Code) → result ≡ Err (RowErr.Bad code) → NamesStay self.old.reading self.new.reading (fields_of fields.now) }
-        ensures untaken { OnErr result (self.new.taken ≡ Taken.Other) }
+        ensures untaken { OnErr result (self.new.taken ≡ TakenRecord.Other) }
         ensures memory { result ≡ Err RowErr.Memory → StandsOrTook self.old.reading self.new.reading (fields_of fields.now) }
     {
         if let Err(e) = take(&mut self.reading, self.alloc, fields, &mut self.taken) {
-            self.taken = Taken::Other;
+            self.taken = TakenRecord::Other;
             return Err(e);
         }
         match &self.taken {
-            Taken::Event(event) => {
+            TakenRecord::Event(event) => {
                 let told = tell(
                     self.alloc,
                     &self.reading,
@@ -124,14 +124,14 @@ impl Replaying {
                 match told {
                     Ok(()) => Ok(()),
                     Err(_) => {
-                        self.taken = Taken::Other;
+                        self.taken = TakenRecord::Other;
                         Err(RowErr::Memory)
                     }
                 }
             }
-            Taken::Act(_) => Ok(()),
-            Taken::Wait(_) => Ok(()),
-            Taken::Other => Ok(()),
+            TakenRecord::Act(_) => Ok(()),
+            TakenRecord::Wait(_) => Ok(()),
+            TakenRecord::Other => Ok(()),
         }
     }
 
@@ -160,7 +160,7 @@ impl Replaying {
 // Appends an event to the text with what it changed and the waits that it ended, and keeps by what their bounds are found.
 fn tell(
     alloc: Global,
-    reading: &Reading,
+    reading: &ReportReader,
     telling: &mut Option<Telling>,
     history: &mut OpenText,
     event: &Event,
@@ -184,7 +184,7 @@ fn tell(
 #[inline(never)]
 fn tell_first(
     alloc: Global,
-    reading: &Reading,
+    reading: &ReportReader,
     telling: &mut Option<Telling>,
     history: &mut OpenText,
     event: &Event,
@@ -205,7 +205,7 @@ fn tell_first(
 }
 
 // What tells events, made at the first one.
-fn telling_of(alloc: Global, reading: &Reading) -> Result<Telling, AllocError>
+fn telling_of(alloc: Global, reading: &ReportReader) -> Result<Telling, AllocError>
     ensures names { IfOk result (λ made. made.names ≡ names_read reading.now) }
     ensures gathered { IfOk result (λ made. (groups : ReadGroups) (cap : ℕ) → KnowsGathered made.gathered (begun groups (length reading.now.tasks) cap) []) }
 {
@@ -219,7 +219,7 @@ fn telling_of(alloc: Global, reading: &Reading) -> Result<Telling, AllocError>
 fn push(
     history: &mut OpenText,
     telling: &mut Telling,
-    reading: &Reading,
+    reading: &ReportReader,
     event: &Event,
 ) -> Result<(), AllocError>
     requires there { IsSome reading.now.machine × IsSome reading.now.following }
@@ -243,7 +243,7 @@ fn made_of(
     alloc: Global,
     text: &mut OpenText,
     telling: &Telling,
-    reading: &Reading,
+    reading: &ReportReader,
 ) -> Result<Replayed, AllocError>
     requires { (s : SoFar) × IsToldToEnd text.old telling.now reading.now s }
     ensures text { IfOk result (λ made. (s : SoFar) → IsToldToEnd text.old telling.now reading.now s
@@ -305,7 +305,7 @@ impl Records for Replaying {
 }
 
 // The head of the report of what was read to its end.
-fn head_with(alloc: Global, names: &NameRows, reading: &Reading) -> Result<Page, AllocError>
+fn head_with(alloc: Global, names: &NameRows, reading: &ReportReader) -> Result<Page, AllocError>
     requires { IsSome reading.now.groups }
     ensures { (groups : ReadGroups) → reading.now.groups ≡ Some groups
         → IfOk result (λ page. page ≡ told names.now (declared_lines names.now.resources groups.groups names.now.tasks (Some (cap_or reading.now.tasks reading.now.cap)))) }
@@ -324,7 +324,7 @@ fn history_with(
     alloc: Global,
     text: OpenText,
     gathered: &Gathered,
-    reading: &Reading,
+    reading: &ReportReader,
 ) -> Result<Page, AllocError>
     requires { (names : Names) × (head : Head) × (entries : List Entry) × IsToldWhole text gathered.now names head entries
         × (reading.now.groups ≡ Some (read_groups head)) × (cap_or reading.now.tasks reading.now.cap ≡ head.cap) × (1 ≤ head.cap) }
@@ -341,7 +341,7 @@ fn history_with(
 }
 
 // The ledgers, and the end.
-fn ending_with(alloc: Global, names: &NameRows, reading: &Reading) -> Result<Page, AllocError>
+fn ending_with(alloc: Global, names: &NameRows, reading: &ReportReader) -> Result<Page, AllocError>
     requires { length reading.now.ledgers.items ≡ length reading.now.resources }
     ensures { IfOk result (λ page. page ≡ told names.now (leaves_from 0 reading.now.ledgers.items ++ Ends ∷ [])) }
 {

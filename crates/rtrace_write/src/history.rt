@@ -17,10 +17,10 @@ ghost use Rattle.rtrace_write.specs.Open.{open_told};
 ghost use Rattle.rtrace_write.specs.Report.{told_by, IsOverResources};
 ghost use Rattle.rtrace_write.specs.Stepped.{AreBehind, TookNext};
 
-use crate::close::close_history;
+use crate::closed::close_history;
 use crate::gathered::Gathered;
 use crate::names::NameRows;
-use crate::open::OpenText;
+use crate::open_text::OpenText;
 use crate::page::Page;
 use crate::report::Report;
 use crate::step::push_entry;

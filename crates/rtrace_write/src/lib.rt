@@ -3,16 +3,16 @@
 
 mod act;
 mod change;
-mod close;
+mod closed;
 mod ending;
 mod event;
+mod fault_line;
 mod frame;
 mod gathered;
 mod head;
 mod history;
-mod line;
 mod names;
-mod open;
+mod open_text;
 mod page;
 mod pieces;
 mod report;
@@ -20,13 +20,13 @@ mod step;
 mod wait;
 mod write;
 
-pub use close::close_history;
+pub use closed::close_history;
 pub use ending::ending_of;
+pub use fault_line::error_line;
 pub use gathered::Gathered;
 pub use head::head_of;
-pub use line::error_line;
 pub use names::NameRows;
-pub use open::OpenText;
+pub use open_text::OpenText;
 pub use page::Page;
 pub use report::Report;
 pub use step::push_step;

@@ -8,7 +8,7 @@ ghost use Rattle.rtrace_write.specs.Open.{open_told, GrewBySome};
 ghost use Rattle.rtrace_write.specs.Told.{entry_told, step_told};
 
 use crate::names::NameRows;
-use crate::open::OpenText;
+use crate::open_text::OpenText;
 use rclaim::{Changes, Event, GrantChange, StatusChange};
 use rcover_laws::WaitEnd;
 use rvalue::{Act, Edit, Entry};

@@ -16,7 +16,7 @@ use Rattle.rvalue.specs.Entries.{EntryFields}
 use Rattle.rvalue.specs.declared.act.Act.{Act}
 use Rattle.rstate.specs.Histories.{lock_after}
 use Rattle.rscript.specs.Statements.{begun, with_asked, with_risen}
-use Rattle.rscript.specs.declared.section.Section.{Section}
+use Rattle.rscript.specs.declared.section.OpenSection.{OpenSection}
 use Rattle.rguard.specs.declared.guard.Guard.{Guard}
 use Rattle.rguard.specs.declared.guard.Guard.TheVariants.{Nest}
 use Rattle.rguard.specs.declared.guard.Guard.TheVariants as guards
@@ -57,7 +57,7 @@ other_is_part one other =
 module _ {V E : Type 0} where
   -- one own entry more
   made_by : (before later : SeatOf V E) (entry : EntryFields E) → Goes before (entry ∷ []) later → section_made later.mine ≡ section_told (section_made before.mine) entry.event
-  made_by before later entry goes = ap section_made goes.mine ∙ fold-append (λ (x : Option Section) (e : EntryFields E). section_told x e.event) None before.mine (entry ∷ [])
+  made_by before later entry goes = ap section_made goes.mine ∙ fold-append (λ (x : Option OpenSection) (e : EntryFields E). section_told x e.event) None before.mine (entry ∷ [])
 
   pub begun_by : (before later : SeatOf V E) (r : RequestFields) → Goes before (bare (Issue before.number r) ∷ []) later → HasBegunLast r later
   begun_by before later r goes = made_by before later (bare (Issue before.number r)) goes
@@ -113,7 +113,7 @@ module _ {V E : Type 0} (after : V → E → V) (taken : V → E → Bool) (numb
   asked_writes seat later one other goes lawful own ready made =
       let both = union (single one) (single other) in
       (may_do after taken number later (with_asked (single other) (begun (nesting one other))) lawful own ready
-      (made_by seat later (bare (Ask seat.number (single other))) goes ∙ ap (λ (o : Option Section). section_told o (Ask seat.number (single other))) made)).writes other (contains_both both both other (contains_other one other) (contains_other one other))
+      (made_by seat later (bare (Ask seat.number (single other))) goes ∙ ap (λ (o : Option OpenSection). section_told o (Ask seat.number (single other))) made)).writes other (contains_both both both other (contains_other one other) (contains_other one other))
 
   -- the seat of an upgrade reads its set
   pub raise_reads : (seat : SeatOf V E) (set : Set) → HasSeenLawful after taken number seat → HasSeenOwn seat → IsReady seat true → HasBegunLast (raising set) seat → HoldsAll set seat
@@ -124,4 +124,4 @@ module _ {V E : Type 0} (after : V → E → V) (taken : V → E → Bool) (numb
       → HasBegunLast (raising set) seat → MayWriteAll set later
   risen_writes seat later set acts goes lawful own ready made l there =
       (may_do after taken number later (with_risen (begun (raising set))) lawful own ready
-      (made_by seat later (record { event = Rise seat.number; acts = acts }) goes ∙ ap (λ (o : Option Section). section_told o (Rise seat.number)) made)).writes l there
+      (made_by seat later (record { event = Rise seat.number; acts = acts }) goes ∙ ap (λ (o : Option OpenSection). section_told o (Rise seat.number)) made)).writes l there

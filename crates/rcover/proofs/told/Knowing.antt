@@ -32,7 +32,7 @@ use Rattle.rcover_laws.proofs.lists.Pushed.{same_ends}
 use Rattle.rcover_laws.proofs.runs.Push.{append_none}
 use Rattle.rcover.specs.declared.following.Following.{Following}
 use Rattle.rcover.specs.declared.run.Run.{Run}
-use Rattle.rcover.specs.declared.section.Section.{Section}
+use Rattle.rcover.specs.declared.section.CoverSection.{CoverSection}
 use Rattle.rcover.specs.Kept.{claims_of, kept_in, length_by, HasRoom, AreLong, AreOf, may_wait, WaitApart, kept_of}
 use Rattle.rcover.specs.Follow.{table_of}
 use Rattle.rcover.specs.Follows.{IsEmpty, HaveRoom, Follows}
@@ -326,7 +326,7 @@ module _ (a : Following) (p : Past) (k : Follows a p) where
 
 -- ---- before the first event
 
-empty_claims : (len : Claim → ℕ) (ss : List Section) → claims_of ss ≡ [] → AllByRecursion (λ s. s.len ≡ len s.claim) ss
+empty_claims : (len : Claim → ℕ) (ss : List CoverSection) → claims_of ss ≡ [] → AllByRecursion (λ s. s.len ≡ len s.claim) ss
 empty_claims len [] none = tt
 empty_claims len (s ∷ ss) none = cc
 

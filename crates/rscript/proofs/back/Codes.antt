@@ -19,10 +19,10 @@ use Rattle.rtrace_form.proofs.back.Rows.{read_counted}
 use Rattle.rscript.specs.Words.{fields_of}
 use Rattle.rscript.specs.Lines.{Line, Opens, HasResource, HasGroup, HasTask, Does, Ends, line_by, word_of, meaning, meant_as, names_of}
 use Rattle.rscript.specs.Causes.{line_causes, meant_causes}
-use Rattle.rscript.specs.declared.word.Word.{Word}
-use Rattle.rscript.specs.declared.word.Word.TheVariants as word
-use Rattle.rscript.specs.declared.code.Code.{Code}
-use Rattle.rscript.specs.declared.code.Code.TheVariants.{BadOrder, NoResources, NoTask, TooMany, UnknownName, BadNumber, EmptyGroup}
+use Rattle.rscript.specs.declared.word.ScriptWord.{ScriptWord}
+use Rattle.rscript.specs.declared.word.ScriptWord.TheVariants as word
+use Rattle.rscript.specs.declared.code.ScriptCode.{ScriptCode}
+use Rattle.rscript.specs.declared.code.ScriptCode.TheVariants.{BadOrder, NoResources, NoTask, TooMany, UnknownName, BadNumber, EmptyGroup}
 use Rattle.rscript.proofs.record_facts.Causes.{first_of-append, name_none, statement_none}
 use Rattle.rscript.specs.SoFar.{SoFar, section_of}
 use Rattle.rscript.specs.Faults.{may_stand, needs_resources, is_end, declared_causes, code_of, code_by}
@@ -54,7 +54,7 @@ when_none b c h = rw h refl
 
 module _ (s : SoFar) where
   -- what is declared without a fault has none
-  declared_none : (row : Row) (w : Word) (v : Values (fields_of w)) → read (names_of s.resources) (fields_of w) row ≡ Some v → IsFine s (line_by w v) → first_of (declared_causes s w row) ≡ None
+  declared_none : (row : Row) (w : ScriptWord) (v : Values (fields_of w)) → read (names_of s.resources) (fields_of w) row ≡ Some v → IsFine s (line_by w v) → first_of (declared_causes s w row) ≡ None
   declared_none row word.Version v reads fine = refl
   declared_none row word.Resource v reads fine =
       name_none RESOURCES s.resources (field_of row 1) (ap (is_bad_name RESOURCES s.resources) (fresh_is (names_of s.resources) _ row v reads) ∙ fine)
@@ -79,10 +79,10 @@ module _ (s : SoFar) where
   line_none (Does done) fine = statement_none s.groups (section_of s.latest) done fine.1
   line_none Ends fine = refl
 
-none_of : (a b c d e : Bool) (declared line : List (Option Code)) → a ≡ true → b ≡ false → c ≡ false → first_of declared ≡ None → d ≡ true → e ≡ true → first_of line ≡ None
+none_of : (a b c d e : Bool) (declared line : List (Option ScriptCode)) → a ≡ true → b ≡ false → c ≡ false → first_of declared ≡ None → d ≡ true → e ≡ true → first_of line ≡ None
     → first_of (when (not a) BadOrder ∷ when b NoResources ∷ when c NoTask ∷ (declared ++ when (not d) UnknownName ∷ when (not e) BadNumber ∷ line)) ≡ None
 none_of a b c d e declared line p q r none t u free =
-    rw (p, q, r) (first_of-append declared (when (not d) UnknownName ∷ when (not e) BadNumber ∷ line) ∙ ap (λ (o : Option Code). or_else o (first_of (when (not d) UnknownName ∷ when (not e) BadNumber ∷ line))) none ∙ rw (t, u) free)
+    rw (p, q, r) (first_of-append declared (when (not d) UnknownName ∷ when (not e) BadNumber ∷ line) ∙ ap (λ (o : Option ScriptCode). or_else o (first_of (when (not d) UnknownName ∷ when (not e) BadNumber ∷ line))) none ∙ rw (t, u) free)
 
 pub no_code : (s : SoFar) (row : Row) (line : Line) → meaning (names_of s.resources) row ≡ Some line → IsNext s line → code_of s row ≡ None
 unfolding code_of
@@ -95,9 +95,9 @@ no_code s row line means next =
     ∙ none_of (may_stand s told.of) (needs_resources told.of && is_nil s.resources) (is_end told.of && is_nil s.tasks)
     (all_known (names_of s.resources) (fields_of told.of) row) (all_counted (fields_of told.of) row)
     (declared_causes s told.of row) (meant_causes s.groups (section_of s.latest) (meant_as (names_of s.resources) row (Some told.of)))
-    (subst (λ (w : Word). may_stand s w ≡ true) of next.placed)
-    (subst (λ (w : Word). (needs_resources w && is_nil s.resources) ≡ false) of next.resources)
-    (subst (λ (w : Word). (is_end w && is_nil s.tasks) ≡ false) of next.task)
+    (subst (λ (w : ScriptWord). may_stand s w ≡ true) of next.placed)
+    (subst (λ (w : ScriptWord). (needs_resources w && is_nil s.resources) ≡ false) of next.resources)
+    (subst (λ (w : ScriptWord). (is_end w && is_nil s.tasks) ≡ false) of next.task)
     (declared_none s row told.of told.values told.reads fine)
     (read_known (names_of s.resources) (fields_of told.of) row told.values told.reads)
     (read_counted (names_of s.resources) (fields_of told.of) row told.values told.reads)

@@ -8,7 +8,7 @@ use Rattle.rtrace_form.specs.Heads.{is_nil, are_read_groups}
 use Rattle.rtrace_form.proofs.facts.Tables.{table-front, groups-front}
 use Rattle.rtrace_form.proofs.back.Runs.{last_place, last_again}
 use Rattle.rscript.specs.Lines.{Opens, HasResource, HasGroup}
-use Rattle.rscript.specs.declared.word.Word.TheVariants as word
+use Rattle.rscript.specs.declared.word.ScriptWord.TheVariants as word
 use Rattle.rscript.specs.Scripts.{AreWithin}
 use Rattle.rscript.specs.SoFar.{SoFar, nothing_yet}
 use Rattle.rscript.proofs.facts.Fine.{stands_there}

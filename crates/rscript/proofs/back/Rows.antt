@@ -5,7 +5,7 @@ use Rattle.rtrace_form.specs.Records.{Row}
 use Rattle.rtrace_form.specs.Walks.{AllClean}
 use Rattle.rtrace_form.proofs.facts.Walks.{clean_none}
 use Rattle.rscript.specs.Lines.{Line, meaning, names_of}
-use Rattle.rscript.specs.declared.code.Code.TheVariants.{NoEnd}
+use Rattle.rscript.specs.declared.code.ScriptCode.TheVariants.{NoEnd}
 use Rattle.rscript.specs.Scripts.{ScriptFields, Spells, lines_of}
 use Rattle.rscript.specs.SoFar.{SoFar, nothing_yet, told_in, with_line, with_row}
 use Rattle.rscript.specs.Faults.{code_of, is_ended, first_fault, read_all}

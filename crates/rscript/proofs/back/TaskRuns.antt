@@ -15,7 +15,7 @@ use Rattle.rscript.specs.Statements.{FitsBehind, IsTask, is_there, section_after
 use Rattle.rscript.specs.Lines.{Line, Opens, HasResource, HasGroup, HasTask, Does, Ends, statement_word}
 use Rattle.rscript.specs.declared.statement.Statement.{Statement}
 use Rattle.rscript.specs.declared.statement.Statement.TheVariants as statement
-use Rattle.rscript.specs.declared.word.Word.TheVariants as word
+use Rattle.rscript.specs.declared.word.ScriptWord.TheVariants as word
 use Rattle.rscript.specs.Scripts.{ScriptFields, task_lines, lines_of, IsScript}
 use Rattle.rscript.specs.SoFar.{SoFar, nothing_yet, section_of, told_in}
 use Rattle.rscript.specs.Faults.{is_ended, needs_resources, is_end}

@@ -27,10 +27,10 @@ use Rattle.rscript.specs.Words.{fields_of}
 use Rattle.rscript.specs.Lines.{Line, Opens, HasResource, HasGroup, HasTask, Does, Ends, names_of, line_by, word_of}
 use Rattle.rscript.specs.Places.{stands}
 use Rattle.rscript.specs.Causes.{line_causes}
-use Rattle.rscript.specs.declared.word.Word.{Word}
-use Rattle.rscript.specs.declared.word.Word.TheVariants as word
+use Rattle.rscript.specs.declared.word.ScriptWord.{ScriptWord}
+use Rattle.rscript.specs.declared.word.ScriptWord.TheVariants as word
 use Rattle.rscript.specs.declared.statement.Statement.TheVariants as statement
-use Rattle.rscript.specs.declared.code.Code.TheVariants.{TooMany, EmptyGroup}
+use Rattle.rscript.specs.declared.code.ScriptCode.TheVariants.{TooMany, EmptyGroup}
 use Rattle.rscript.proofs.record_facts.Causes.{name_fine, statement_right}
 use Rattle.rscript.specs.SoFar.{SoFar, section_of, with_line}
 use Rattle.rscript.specs.Faults.{may_stand, needs_resources, is_end, declared_causes}
@@ -66,12 +66,12 @@ three_hold true false c h = cc
 three_hold false b c h = cc
 
 -- the place of a line that may stand there
-pub placed_at : (s : SoFar) (w : Word) → may_stand s w ≡ true → ((stands w).least ≤ s.last) × (s.last ≤ (stands w).most) × (is_there (stands w).inside (section_of s.latest) ≡ true)
+pub placed_at : (s : SoFar) (w : ScriptWord) → may_stand s w ≡ true → ((stands w).least ≤ s.last) × (s.last ≤ (stands w).most) × (is_there (stands w).inside (section_of s.latest) ≡ true)
 placed_at s w h =
     let parts = three_hold (nat_le (stands w).least s.last) (nat_le s.last (stands w).most) _ h in
     (leb-true (stands w).least s.last parts.0, leb-true s.last (stands w).most parts.1, parts.2)
 
-pub stands_there : (s : SoFar) (w : Word) → (stands w).least ≤ s.last → s.last ≤ (stands w).most → is_there (stands w).inside (section_of s.latest) ≡ true → may_stand s w ≡ true
+pub stands_there : (s : SoFar) (w : ScriptWord) → (stands w).least ≤ s.last → s.last ≤ (stands w).most → is_there (stands w).inside (section_of s.latest) ≡ true → may_stand s w ≡ true
 stands_there s w low high inside =
     and_from _ _ (and_from _ _ (le-leb (stands w).least s.last low) (le-leb s.last (stands w).most high)) inside
 
@@ -97,7 +97,7 @@ module _ (s : SoFar) where
       let below = kind_below (length s.resources) kind reads writes first n later a b in
       ((right.0, below.0, below.1, c), free)
 
-  pub fine_by : (row : Row) (w : Word) (v : Values (fields_of w)) → read (names_of s.resources) (fields_of w) row ≡ Some v → AllGood (names_of s.resources) (fields_of w) v
+  pub fine_by : (row : Row) (w : ScriptWord) (v : Values (fields_of w)) → read (names_of s.resources) (fields_of w) row ≡ Some v → AllGood (names_of s.resources) (fields_of w) v
       → first_of (declared_causes s w row) ≡ None → first_of (line_causes s.groups (section_of s.latest) (line_by w v)) ≡ None → IsFine s (line_by w v)
   fine_by row word.Version v reads good declared line = tt
   fine_by row word.Resource v reads good declared line =

@@ -12,16 +12,16 @@ use Rattle.rtrace_form.proofs.facts.Walks.{when_not, or_none}
 use Rattle.rscript.specs.Words.{fields_of, word_in}
 use Rattle.rscript.specs.Lines.{Line, line_by, word_of, meaning, meant_as, names_of}
 use Rattle.rscript.specs.Causes.{meant_causes}
-use Rattle.rscript.specs.declared.word.Word.{Word}
-use Rattle.rscript.specs.declared.word.Word.TheVariants as word
-use Rattle.rscript.specs.declared.code.Code.TheVariants.{BadOrder, NoResources, NoTask, UnknownName, BadNumber}
+use Rattle.rscript.specs.declared.word.ScriptWord.{ScriptWord}
+use Rattle.rscript.specs.declared.word.ScriptWord.TheVariants as word
+use Rattle.rscript.specs.declared.code.ScriptCode.TheVariants.{BadOrder, NoResources, NoTask, UnknownName, BadNumber}
 use Rattle.rscript.proofs.record_facts.Causes.{none_of_both}
 use Rattle.rscript.specs.SoFar.{SoFar, section_of}
 use Rattle.rscript.specs.Faults.{may_stand, needs_resources, is_end, declared_causes, code_of, code_by}
 use Rattle.rscript.proofs.facts.Fine.{IsFine, IsNext, fine_by}
 
 -- the word of a line is that of the record that said it
-pub word_by : (w : Word) (v : Values (fields_of w)) → word_of (line_by w v) ≡ w
+pub word_by : (w : ScriptWord) (v : Values (fields_of w)) → word_of (line_by w v) ≡ w
 word_by word.Version v = refl
 word_by word.Resource v = refl
 word_by word.Group v = refl
@@ -42,13 +42,13 @@ word_by word.End v = refl
 
 -- a record says this line: it is of this word, and its fields say these values
 pub record Says (names : Names) (row : Row) (line : Line) : Type 0 where
-  pub of : Word
+  pub of : ScriptWord
   pub values : Values (fields_of of)
   pub is : word_in row ≡ Some of
   pub reads : read names (fields_of of) row ≡ Some values
   pub tells : line_by of values ≡ line
 
-says_of : (names : Names) (row : Row) (line : Line) (o : Option Word) → word_in row ≡ o → meant_as names row o ≡ Some line → Says names row line
+says_of : (names : Names) (row : Row) (line : Line) (o : Option ScriptWord) → word_in row ≡ o → meant_as names row o ≡ Some line → Says names row line
 says_of names row line None is h = absurd (some_none h)
 says_of names row line (Some w) is h =
     let told = map_some (line_by w) (read names (fields_of w) row) line h in
@@ -64,7 +64,7 @@ pub record IsClean (s : SoFar) (row : Row) : Type 0 where
   pub means : meaning (names_of s.resources) row ≡ Some line
   pub next : IsNext s line
 
-clean_as : (s : SoFar) (row : Row) (w : Word) (o : Option Line) → word_in row ≡ Some w → meant_as (names_of s.resources) row (Some w) ≡ o
+clean_as : (s : SoFar) (row : Row) (w : ScriptWord) (o : Option Line) → word_in row ≡ Some w → meant_as (names_of s.resources) row (Some w) ≡ o
     → may_stand s w ≡ true → (needs_resources w && is_nil s.resources) ≡ false → (is_end w && is_nil s.tasks) ≡ false
     → first_of (declared_causes s w row) ≡ None → first_of (meant_causes s.groups (section_of s.latest) o) ≡ None → IsClean s row
 unfolding meaning
@@ -77,14 +77,14 @@ clean_as s row w (Some line) is means placed resources task declared free =
       line = line;
       means = ap (meant_as (names_of s.resources) row) is ∙ means;
       next = record {
-        placed = subst (λ (v : Word). may_stand s v ≡ true) of placed;
-        resources = subst (λ (v : Word). (needs_resources v && is_nil s.resources) ≡ false) of resources;
-        task = subst (λ (v : Word). (is_end v && is_nil s.tasks) ≡ false) of task;
+        placed = subst (λ (v : ScriptWord). may_stand s v ≡ true) of placed;
+        resources = subst (λ (v : ScriptWord). (needs_resources v && is_nil s.resources) ≡ false) of resources;
+        task = subst (λ (v : ScriptWord). (is_end v && is_nil s.tasks) ≡ false) of task;
         fine = subst (λ (l : Line). IsFine s l) told.2 (fine_by s row w told.0 told.1 good declared (subst (λ (l : Line). first_of (meant_causes s.groups (section_of s.latest) (Some l)) ≡ None) (sym told.2) free));
       };
     }
 
-clean_by : (s : SoFar) (row : Row) (o : Option Word) → word_in row ≡ o → code_by s row o ≡ None → IsClean s row
+clean_by : (s : SoFar) (row : Row) (o : Option ScriptWord) → word_in row ≡ o → code_by s row o ≡ None → IsClean s row
 clean_by s row None is h = absurd (some_none (sym h))
 clean_by s row (Some w) is h =
     let a = or_none (when (not (may_stand s w)) BadOrder) _ h in

@@ -7,14 +7,14 @@ use Rattle.rtrace_form.specs.Fields.{Values}
 use Rattle.rtrace_form.proofs.forth.Names.{AgreeOnAll, read_same}
 use Rattle.rscript.specs.Words.{fields_of}
 use Rattle.rscript.specs.Lines.{Line, Opens, HasResource, HasGroup, HasTask, Does, Ends, line_by, names_of, meaning, meant_as}
-use Rattle.rscript.specs.declared.word.Word.{Word}
-use Rattle.rscript.specs.declared.word.Word.TheVariants as word
+use Rattle.rscript.specs.declared.word.ScriptWord.{ScriptWord}
+use Rattle.rscript.specs.declared.word.ScriptWord.TheVariants as word
 use Rattle.rscript.specs.SoFar.{SoFar, with_line}
 use Rattle.rscript.proofs.facts.Fine.{IsNext, AllNext, placed_at}
 use Rattle.rscript.proofs.facts.Said.{says}
 
 -- a record needs the resources only behind them
-needs : (s : SoFar) (a b : List (List ℕ)) (w : Word) (v : Values (fields_of w)) → (3 ≤ (with_line s (line_by w v)).last → a ≡ b) → AgreeOnAll (names_of a) (names_of b) (fields_of w)
+needs : (s : SoFar) (a b : List (List ℕ)) (w : ScriptWord) (v : Values (fields_of w)) → (3 ≤ (with_line s (line_by w v)).last → a ≡ b) → AgreeOnAll (names_of a) (names_of b) (fields_of w)
 needs s a b word.Version v r = (tt, (tt, tt))
 needs s a b word.Resource v r = (tt, (tt, tt))
 needs s a b word.Group v r = (tt, (r (omega arith), tt))

@@ -8,13 +8,13 @@ use Rattle.rset.specs.declared.TheConstants.{RESOURCES, SEATS}
 use Rattle.rvalue.specs.declared.ledger.Edit.TheVariants as edit
 use Rattle.rtrace_form.proofs.facts.Tables.{table-push, groups-push}
 use Rattle.rscript.specs.declared.place.Where.{Where}
-use Rattle.rscript.specs.declared.section.Section.{Section}
+use Rattle.rscript.specs.declared.section.OpenSection.{OpenSection}
 use Rattle.rscript.specs.Statements.{IsRight, FitsBehind, IsTask, is_there, where_of, section_after}
 use Rattle.rscript.specs.Lines.{Line, Opens, HasResource, HasGroup, HasTask, Does, Ends, statement_word}
 use Rattle.rscript.specs.Places.{stands}
 use Rattle.rscript.specs.declared.statement.Statement.{Statement}
 use Rattle.rscript.specs.declared.statement.Statement.TheVariants as statement
-use Rattle.rscript.specs.declared.word.Word.TheVariants as word
+use Rattle.rscript.specs.declared.word.ScriptWord.TheVariants as word
 use Rattle.rscript.specs.Scripts.{said_lines, AreWithin}
 use Rattle.rscript.specs.SoFar.{SoFar, steps_in, section_of, followed_by, with_line}
 use Rattle.rscript.proofs.facts.Fine.{IsNext, placed_at}
@@ -180,7 +180,7 @@ module _ (s : SoFar) (lines : List Line) (h : Stands s lines) where
       let fits : FitsBehind q s.groups statements done = record {
         within = next.fine.0;
         placed = ap (λ (w : Where). is_there w (section_after statements)) (sym (inside_of done)) ∙ ap (is_there (stands (statement_word done)).inside) (sym open_section) ∙ at.2;
-        right = subst (λ (o : Option Section). IsRight s.groups o done) open_section next.fine.1;
+        right = subst (λ (o : Option OpenSection). IsRight s.groups o done) open_section next.fine.1;
       } in
       let before = length-append s.earlier (statements ∷ []) in
       let behind = length-append s.earlier ((statements ++ done ∷ []) ∷ []) in

@@ -8,7 +8,7 @@ use Rattle.rtrace_form.specs.Decided.{field_of}
 use Rattle.rtrace_form.specs.Fields.{has_form}
 use Rattle.rscript.specs.Words.{word_in}
 use Rattle.rscript.specs.Decided.{word_of_one, word_of_two, word_of_three, word_of_four, word_of_five}
-use Rattle.rscript.specs.declared.word.Word.TheVariants as word
+use Rattle.rscript.specs.declared.word.ScriptWord.TheVariants as word
 
 one : (x : Bool) → x ≡ (x && true)
 one true = refl

@@ -13,7 +13,7 @@ use Rattle.rtrace_form.proofs.fields.ReadBack.{read_back}
 use Rattle.rscript.specs.Words.{fields_of}
 use Rattle.rscript.specs.Lines.{Line, Opens, HasResource, HasGroup, HasTask, Does, Ends, line_by, word_of, values_of, request_values, meaning, meant_as, spelled}
 use Rattle.rscript.specs.declared.statement.Statement.TheVariants as statement
-use Rattle.rscript.specs.declared.word.Word.TheVariants as word
+use Rattle.rscript.specs.declared.word.ScriptWord.TheVariants as word
 use Rattle.rscript.proofs.lines.WordBack.{word_back}
 
 -- the request of a line is in normal form

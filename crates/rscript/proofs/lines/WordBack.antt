@@ -3,10 +3,10 @@ use Rattle.std.proofs.Common.{◌≡◌, Some, refl}
 use Rattle.rclaim.specs.declared.request.Kind.TheVariants.{Read, Write, Mixed, Upgrade, Nested}
 use Rattle.rtrace_form.specs.Fields.{Names, Values, write, has_form}
 use Rattle.rscript.specs.Words.{fields_of, word_in}
-use Rattle.rscript.specs.declared.word.Word.{Word}
-use Rattle.rscript.specs.declared.word.Word.TheVariants as word
+use Rattle.rscript.specs.declared.word.ScriptWord.{ScriptWord}
+use Rattle.rscript.specs.declared.word.ScriptWord.TheVariants as word
 
-pub word_back : (names : Names) (w : Word) (v : Values (fields_of w)) → word_in (write names (fields_of w) v) ≡ Some w
+pub word_back : (names : Names) (w : ScriptWord) (v : Values (fields_of w)) → word_in (write names (fields_of w) v) ≡ Some w
 unfolding word_in write has_form
 word_back names word.Version v = refl
 word_back names word.Resource v = refl

@@ -20,11 +20,11 @@ use Rattle.rtrace_form.specs.Requests.{no_part, with_part, request_sets, request
 use Rattle.rtrace_form.proofs.Lengths.{AreLengths, lengths_are, none_one, none_two}
 use Rattle.rscript.specs.Causes.{request_code}
 use Rattle.rscript.specs.Told.{Tells, IsWrong, is_of_fields}
-use Rattle.rscript.specs.declared.code.Code.TheVariants.{UnknownName, BadNumber}
+use Rattle.rscript.specs.declared.code.ScriptCode.TheVariants.{UnknownName, BadNumber}
 use Rattle.rtrace_form.specs.declared.requests.RequestSets.{RequestSets}
 use Rattle.rtrace_form.specs.declared.requests.RequestLengths.{RequestLengths}
 use Rattle.rscript.specs.declared.statement.Statement.TheVariants as statement
-use Rattle.rscript.specs.declared.word.Word.TheVariants as word
+use Rattle.rscript.specs.declared.word.ScriptWord.TheVariants as word
 use Rattle.rscript.proofs.record_facts.Shapes.{long_of, three_row, four_row, five_row}
 use Rattle.rscript.proofs.record_facts.Tells.{unknown_wrong, uncounted_wrong, told_causes}
 

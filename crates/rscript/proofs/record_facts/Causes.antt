@@ -14,12 +14,12 @@ use Rattle.rtrace_form.proofs.facts.Tests.{three_of, not_false}
 use Rattle.rtrace_form.proofs.facts.Walks.{when_not, or_none}
 use Rattle.rtrace_form.proofs.facts.Said.{last_none}
 use Rattle.rtrace_form.proofs.facts.Coming.{map_none, some_set, fitting_first}
-use Rattle.rscript.specs.declared.section.Section.{Section}
+use Rattle.rscript.specs.declared.section.OpenSection.{OpenSection}
 use Rattle.rscript.specs.Statements.{is_held, is_writable, may_ask_for, IsRight}
 use Rattle.rscript.specs.Causes.{name_causes, statement_causes, request_code}
 use Rattle.rscript.specs.declared.statement.Statement.{Statement}
 use Rattle.rscript.specs.declared.statement.Statement.TheVariants as statement
-use Rattle.rscript.specs.declared.code.Code.TheVariants.{BadName, Repeated, TooMany, NotHeld, NotWritable}
+use Rattle.rscript.specs.declared.code.ScriptCode.TheVariants.{BadName, Repeated, TooMany, NotHeld, NotWritable}
 
 -- of two lists none is there where none of either is
 pub first_of-append : {X : Type 0} (xs ys : List (Option X)) → first_of (xs ++ ys) ≡ or_else (first_of xs) (first_of ys)
@@ -46,7 +46,7 @@ name_none limit names name h =
     rw (parts.0, parts.1, parts.2) refl
 
 -- what is writable is held
-pub writable_held : (section : Option Section) (place : ℕ) → is_writable section place ≡ true → is_held section place ≡ true
+pub writable_held : (section : Option OpenSection) (place : ℕ) → is_writable section place ≡ true → is_held section place ≡ true
 writable_held section place h = rw h (or_true _)
   where
     or_true : (b : Bool) → (b || true) ≡ true
@@ -63,7 +63,7 @@ one_held : (a : Bool) → first_of (when (not a) NotHeld ∷ []) ≡ None → a 
 one_held a h = not_false a (when_not (not a) NotHeld (last_none _ h))
 
 -- nothing is wrong with a statement exactly where it is right
-pub statement_right : (groups : List Set) (section : Option Section) (s : Statement) → first_of (statement_causes groups section s) ≡ None → IsRight groups section s
+pub statement_right : (groups : List Set) (section : Option OpenSection) (s : Statement) → first_of (statement_causes groups section s) ≡ None → IsRight groups section s
 statement_right groups section (statement.Begin r) h = map_none request_code (request_refusal groups r) (last_none _ h)
 statement_right groups section (statement.Edit place edit) h =
     let a = or_none (when (not (is_held section place)) NotHeld) _ h in
@@ -73,7 +73,7 @@ statement_right groups section (statement.Ask part) h = one_held (may_ask_for se
 statement_right groups section statement.Rise h = tt
 statement_right groups section statement.Finish h = tt
 
-pub statement_none : (groups : List Set) (section : Option Section) (s : Statement) → IsRight groups section s → first_of (statement_causes groups section s) ≡ None
+pub statement_none : (groups : List Set) (section : Option OpenSection) (s : Statement) → IsRight groups section s → first_of (statement_causes groups section s) ≡ None
 statement_none groups section (statement.Begin r) h = ap (λ (o : Option RequestErr). first_of (option_map request_code o ∷ [])) h
 statement_none groups section (statement.Edit place edit) h = two_none (is_held section place) (is_writable section place) (writable_held section place h) h
 statement_none groups section (statement.Show place) h = one_none (is_held section place) h

@@ -8,7 +8,7 @@ use Rattle.rtrace_form.specs.Fields.{Field, has_form, is_as_long}
 use Rattle.rtrace_form.proofs.facts.Choices.{some_is, some_none}
 use Rattle.rtrace_form.proofs.facts.Tests.{left_holds}
 use Rattle.rscript.specs.Words.{fields_of, words, word_in}
-use Rattle.rscript.specs.declared.word.Word.{Word}
+use Rattle.rscript.specs.declared.word.ScriptWord.{ScriptWord}
 
 find_passes : {X : Type 0} (p : X → Bool) (xs : List X) (x : X) → find p xs ≡ Some x → p x ≡ true
 find_passes p [] x h = absurd (some_none h)
@@ -19,7 +19,7 @@ find_passes p (y ∷ ys) x h =
     ] refl h
 
 -- a record of a word has as many fields as the table says
-pub long_of : (w : Word) (row : Row) → word_in row ≡ Some w → is_as_long (fields_of w) row ≡ true
+pub long_of : (w : ScriptWord) (row : Row) → word_in row ≡ Some w → is_as_long (fields_of w) row ≡ true
 unfolding word_in has_form
 long_of w row h = left_holds _ _ (find_passes (λ v. has_form (fields_of v) row) words w h)
 

@@ -16,28 +16,28 @@ use Rattle.rscript.specs.Words.{fields_of, word_in}
 use Rattle.rscript.specs.Lines.{Line, names_of, line_by, meant_as}
 use Rattle.rscript.specs.Causes.{statement_causes, meant_causes, said_causes}
 use Rattle.rscript.specs.Told.{is_edit, is_statement, edit_by, Tells, IsWrong}
-use Rattle.rscript.specs.declared.code.Code.{Code}
-use Rattle.rscript.specs.declared.code.Code.TheVariants.{UnknownName, BadNumber}
-use Rattle.rscript.specs.declared.section.Section.{Section}
+use Rattle.rscript.specs.declared.code.ScriptCode.{ScriptCode}
+use Rattle.rscript.specs.declared.code.ScriptCode.TheVariants.{UnknownName, BadNumber}
+use Rattle.rscript.specs.declared.section.OpenSection.{OpenSection}
 use Rattle.rscript.specs.declared.statement.Statement.{Statement}
 use Rattle.rscript.specs.declared.statement.Statement.TheVariants as statement
-use Rattle.rscript.specs.declared.word.Word.{Word}
-use Rattle.rscript.specs.declared.word.Word.TheVariants as word
+use Rattle.rscript.specs.declared.word.ScriptWord.{ScriptWord}
+use Rattle.rscript.specs.declared.word.ScriptWord.TheVariants as word
 use Rattle.rscript.proofs.record_facts.Shapes.{long_of, one_row, two_row, three_row}
 
 -- ---- codes
 
-unknown_first : (a b : Bool) (line : List (Option Code)) → a ≡ false → first_of (when (not a) UnknownName ∷ when (not b) BadNumber ∷ line) ≡ Some UnknownName
+unknown_first : (a b : Bool) (line : List (Option ScriptCode)) → a ≡ false → first_of (when (not a) UnknownName ∷ when (not b) BadNumber ∷ line) ≡ Some UnknownName
 unknown_first a b line p = rw p refl
 
-uncounted_first : (a b : Bool) (line : List (Option Code)) → a ≡ true → b ≡ false → first_of (when (not a) UnknownName ∷ when (not b) BadNumber ∷ line) ≡ Some BadNumber
+uncounted_first : (a b : Bool) (line : List (Option ScriptCode)) → a ≡ true → b ≡ false → first_of (when (not a) UnknownName ∷ when (not b) BadNumber ∷ line) ≡ Some BadNumber
 uncounted_first a b line p q = rw (p, q) refl
 
 -- where the fields are right, what is wrong is what is wrong with what they say
-pub line_first : (a b : Bool) (line : List (Option Code)) → a ≡ true → b ≡ true → first_of (when (not a) UnknownName ∷ when (not b) BadNumber ∷ line) ≡ first_of line
+pub line_first : (a b : Bool) (line : List (Option ScriptCode)) → a ≡ true → b ≡ true → first_of (when (not a) UnknownName ∷ when (not b) BadNumber ∷ line) ≡ first_of line
 line_first a b line p q = rw (p, q) refl
 
-module _ (resources : List (List ℕ)) (w : Word) (row : Row) where
+module _ (resources : List (List ℕ)) (w : ScriptWord) (row : Row) where
   pub unknown_wrong : all_known (names_of resources) (fields_of w) row ≡ false → IsWrong resources w row UnknownName
   unknown_wrong h = λ groups section. unknown_first _ (all_counted (fields_of w) row) (meant_causes groups section (meant_as (names_of resources) row (Some w))) h
 
@@ -45,7 +45,7 @@ module _ (resources : List (List ℕ)) (w : Word) (row : Row) where
   uncounted_wrong h k = λ groups section. uncounted_first _ _ (meant_causes groups section (meant_as (names_of resources) row (Some w))) h k
 
   -- what is wrong with a record that tells a statement is what is wrong with the statement
-  pub told_causes : (st : Statement) → Tells resources w row st → (groups : List Set) (section : Option Section) → first_of (said_causes resources groups section row w) ≡ first_of (statement_causes groups section st)
+  pub told_causes : (st : Statement) → Tells resources w row st → (groups : List Set) (section : Option OpenSection) → first_of (said_causes resources groups section row w) ≡ first_of (statement_causes groups section st)
   told_causes st h groups section =
       line_first _ _ (meant_causes groups section (meant_as (names_of resources) row (Some w))) h.known h.counted
       ∙ ap (λ (o : Option Line). first_of (meant_causes groups section o)) h.means
@@ -119,7 +119,7 @@ module _ (rs : List (List ℕ)) where
       at true e = absurd (some_none (sym e))
       at false e = refl
 
-  edit_fields : (w : Word) (a x y : List ℕ) (place n : ℕ) → is_edit w ≡ true → number_in rs x ≡ Some place → number_told y ≡ Some n → Tells rs w (a ∷ x ∷ y ∷ []) (statement.Edit place (edit_by w n))
+  edit_fields : (w : ScriptWord) (a x y : List ℕ) (place n : ℕ) → is_edit w ≡ true → number_in rs x ≡ Some place → number_told y ≡ Some n → Tells rs w (a ∷ x ∷ y ∷ []) (statement.Edit place (edit_by w n))
   unfolding all_known all_counted read
   edit_fields word.Add a x y place n e h k = record {
     known = ap (λ o. not (is_none o) && true) h;
@@ -138,34 +138,34 @@ module _ (rs : List (List ℕ)) where
   }
   edit_fields _ a x y place n e h k = absurd (true≢false (sym e))
 
-  edit_long : (w : Word) (row : Row) → is_edit w ≡ true → is_as_long (fields_of w) row ≡ true → row ≡ field_of row 0 ∷ field_of row 1 ∷ field_of row 2 ∷ []
+  edit_long : (w : ScriptWord) (row : Row) → is_edit w ≡ true → is_as_long (fields_of w) row ≡ true → row ≡ field_of row 0 ∷ field_of row 1 ∷ field_of row 2 ∷ []
   edit_long word.Add row e h = three_row (Said (codes "add")) OneResource Number row h
   edit_long word.Take row e h = three_row (Said (codes "take")) OneResource Number row h
   edit_long word.Put row e h = three_row (Said (codes "set")) OneResource Number row h
   edit_long _ row e h = absurd (true≢false (sym e))
 
-  edit_none : (w : Word) (a x y : List ℕ) → is_edit w ≡ true → number_in rs x ≡ None → all_known (names_of rs) (fields_of w) (a ∷ x ∷ y ∷ []) ≡ false
+  edit_none : (w : ScriptWord) (a x y : List ℕ) → is_edit w ≡ true → number_in rs x ≡ None → all_known (names_of rs) (fields_of w) (a ∷ x ∷ y ∷ []) ≡ false
   unfolding all_known
   edit_none word.Add a x y e h = ap (λ o. not (is_none o) && true) h
   edit_none word.Take a x y e h = ap (λ o. not (is_none o) && true) h
   edit_none word.Put a x y e h = ap (λ o. not (is_none o) && true) h
   edit_none _ a x y e h = absurd (true≢false (sym e))
 
-  edit_known : (w : Word) (a x y : List ℕ) (place : ℕ) → is_edit w ≡ true → number_in rs x ≡ Some place → all_known (names_of rs) (fields_of w) (a ∷ x ∷ y ∷ []) ≡ true
+  edit_known : (w : ScriptWord) (a x y : List ℕ) (place : ℕ) → is_edit w ≡ true → number_in rs x ≡ Some place → all_known (names_of rs) (fields_of w) (a ∷ x ∷ y ∷ []) ≡ true
   unfolding all_known
   edit_known word.Add a x y place e h = ap (λ o. not (is_none o) && true) h
   edit_known word.Take a x y place e h = ap (λ o. not (is_none o) && true) h
   edit_known word.Put a x y place e h = ap (λ o. not (is_none o) && true) h
   edit_known _ a x y place e h = absurd (true≢false (sym e))
 
-  edit_uncounted : (w : Word) (a x y : List ℕ) → is_edit w ≡ true → number_told y ≡ None → all_counted (fields_of w) (a ∷ x ∷ y ∷ []) ≡ false
+  edit_uncounted : (w : ScriptWord) (a x y : List ℕ) → is_edit w ≡ true → number_told y ≡ None → all_counted (fields_of w) (a ∷ x ∷ y ∷ []) ≡ false
   unfolding all_counted
   edit_uncounted word.Add a x y e h = ap (λ b. b && true) (no_number y h)
   edit_uncounted word.Take a x y e h = ap (λ b. b && true) (no_number y h)
   edit_uncounted word.Put a x y e h = ap (λ b. b && true) (no_number y h)
   edit_uncounted _ a x y e h = absurd (true≢false (sym e))
 
-  module _ (w : Word) (row : Row) (is : word_in row ≡ Some w) (e : is_edit w ≡ true) where
+  module _ (w : ScriptWord) (row : Row) (is : word_in row ≡ Some w) (e : is_edit w ≡ true) where
     are_three : row ≡ field_of row 0 ∷ field_of row 1 ∷ field_of row 2 ∷ []
     are_three = edit_long w row e (long_of w row is)
 
@@ -183,7 +183,7 @@ module _ (rs : List (List ℕ)) where
         (ap (all_counted (fields_of w)) are_three ∙ edit_uncounted w (field_of row 0) (field_of row 1) (field_of row 2) e k)
 
 -- the word of a statement that is none of the others is that of a finish
-pub finish_by : (w : Word) → is_statement w ≡ true → ((kind : Kind) → w ≡ word.Begin kind → ⊥) → (w ≡ word.Show → ⊥) → (w ≡ word.Add → ⊥) → (w ≡ word.Take → ⊥) → (w ≡ word.Put → ⊥) → (w ≡ word.Ask → ⊥)
+pub finish_by : (w : ScriptWord) → is_statement w ≡ true → ((kind : Kind) → w ≡ word.Begin kind → ⊥) → (w ≡ word.Show → ⊥) → (w ≡ word.Add → ⊥) → (w ≡ word.Take → ⊥) → (w ≡ word.Put → ⊥) → (w ≡ word.Ask → ⊥)
     → (w ≡ word.Rise → ⊥) → w ≡ word.Finish
 finish_by (word.Begin kind) h o1 o2 o3 o4 o5 o6 o7 = absurd (o1 kind refl)
 finish_by word.Show h o1 o2 o3 o4 o5 o6 o7 = absurd (o2 refl)

@@ -16,7 +16,7 @@ use Rattle.rscript.specs.Words.{fields_of}
 use Rattle.rscript.specs.Lines.{Line, Opens, HasResource, HasGroup, Does, Ends, names_of, meaning, spelled, request_values}
 use Rattle.rscript.specs.declared.statement.Statement.{Statement}
 use Rattle.rscript.specs.declared.statement.Statement.TheVariants as statement
-use Rattle.rscript.specs.declared.word.Word.TheVariants as word
+use Rattle.rscript.specs.declared.word.ScriptWord.TheVariants as word
 use Rattle.rscript.proofs.lines.LineBack.{IsWritable, meaning_back}
 use Rattle.rscript.specs.Scripts.{ScriptFields, task_lines, lines_of, AreWithin, IsScript, Spells}
 use Rattle.rscript.specs.Texts.{script_rows}

@@ -3,7 +3,7 @@ use Rattle.rset.specs.declared.TheConstants.{SEATS}
 use Rattle.rclaim.specs.declared.claim.Claim.{Claim}
 use Rattle.rcover_laws.specs.Lists.{AreAtMost, reads_against, with_option}
 use Rattle.rcover_laws.specs.Moments.{is_claim}
-use Rattle.rcover.specs.declared.section.Section.{Section}
+use Rattle.rcover.specs.declared.section.CoverSection.{CoverSection}
 use Rattle.rcover.specs.Kept.{kept_in}
 use Rattle.rcover.specs.Last.{first_at}
 use Rattle.rcover.proofs.over.Closed.{made_of, held_closed, going_closed, over_closed}
@@ -13,20 +13,20 @@ pub keep_section-requires : goal.keep_section-requires
 keep_section-requires c =
     let a = kept_in c.args.run.now in
     let few = subst (AreAtMost SEATS) (held_closed c.args.lost.now c.args.next_least.now a c.args.last.now c.if-lost.true) c.requires.few in
-    let of = ap (λ (s : Section). s.claim) c.requires.section in
+    let of = ap (λ (s : CoverSection). s.claim) c.requires.section in
     record { room = subst (λ (z : Claim × ℕ). length (cond (is_claim z.0 c.args.next_least.now.claim) a.writes (a.writes ++ z.0 ∷ [])) ≤ z.1) (λ i. (sym of i, sym c.requires.room.writes i)) few.writes }
 
 pub returns-then-lost-clause-kept : goal.returns-then-lost-clause-kept
 returns-then-lost-clause-kept c =
     let a = kept_in c.args.run.now in
-    let of = ap (λ (s : Section). s.claim) c.requires.section in
+    let of = ap (λ (s : CoverSection). s.claim) c.requires.section in
     ap (made_of a.reads) (c.keep_section.ensures.claims ∙ (λ i. cond (is_claim (of i) c.args.next_least.now.claim) a.writes (a.writes ++ of i ∷ [])))
     ∙ sym (held_closed c.args.lost.now c.args.next_least.now a c.args.last.now c.if-lost.true)
 
 pub returns-then-lost-clause-lengths : goal.returns-then-lost-clause-lengths
 returns-then-lost-clause-lengths c = λ len are own have. record {
   reads = have.reads;
-  writes = c.keep_section.ensures.lengths len (ap (λ (s : Section). s.len) c.requires.section ∙ own ∙ sym (ap (λ (s : Section). len s.claim) c.requires.section)) have.writes;
+  writes = c.keep_section.ensures.lengths len (ap (λ (s : CoverSection). s.len) c.requires.section ∙ own ∙ sym (ap (λ (s : CoverSection). len s.claim) c.requires.section)) have.writes;
 }
 
 pub returns-then-goes_on-clause-kept : goal.returns-then-goes_on-clause-kept

@@ -2,13 +2,13 @@ use Rattle.std.proofs.Common.{◌≡◌, ◌≤◌, List, ◌∷◌, ◌++◌, [
 use Rattle.std.specs.List.{list_any}
 use Rattle.std.specs.Prelude.{vec_capacity}
 use Rattle.rclaim.specs.declared.claim.Claim.{Claim}
-use Rattle.rcover.specs.declared.section.Section.{Section}
+use Rattle.rcover.specs.declared.section.CoverSection.{CoverSection}
 use Rattle.rcover.specs.Kept.{claims_of}
 use Rattle.rcover_laws.specs.Moments.{is_claim}
 use Rattle.rcover.proofs.Kept.{any_claims, length_claims}
 use Rattle.rcover.proofs.section.add_section.Goals as goal
 
-has : (d : Claim) (ss all : List Section) → ss ≡ all → list_any (λ s. is_claim s.claim d) ss ≡ list_any (λ e. is_claim e d) (claims_of all)
+has : (d : Claim) (ss all : List CoverSection) → ss ≡ all → list_any (λ s. is_claim s.claim d) ss ≡ list_any (λ e. is_claim e d) (claims_of all)
 has d ss all is = any_claims (λ e. is_claim e d) ss ∙ ap (λ xs. list_any (λ e. is_claim e d) (claims_of xs)) is
 
 pub returns-then-has_section-clause-claims : goal.returns-then-has_section-clause-claims

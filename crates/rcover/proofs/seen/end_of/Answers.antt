@@ -2,15 +2,15 @@ use Rattle.std.proofs.Common.{◌≡◌, ◌+◌, List, length, ℕ, ap, arith, 
 use Rattle.std.specs.List.{sum_by}
 use Rattle.rclaim.specs.declared.claim.Claim.{Claim}
 use Rattle.rbound.specs.Bounds.{Numbers}
-use Rattle.rcover.specs.declared.section.Section.{Section}
+use Rattle.rcover.specs.declared.section.CoverSection.{CoverSection}
 use Rattle.rcover_laws.specs.Ended.{wait_end}
 use Rattle.rcover.specs.Kept.{claims_of, HaveLengths}
 use Rattle.rcover.proofs.Kept.{length_claims, sum_claims}
 use Rattle.rcover.proofs.seen.end_of.Goals as goal
 
 -- the sum of the lengths of sections
-sums : (len : Claim → ℕ) (ss all : List Section) → ss ≡ all → HaveLengths len all → (n : ℕ) → n ≡ sum_by (λ s. s.len) ss → n ≡ sum_by len (claims_of all)
-sums len ss all same have n is = is ∙ ap (λ (xs : List Section). sum_by (λ s. s.len) xs) same ∙ sum_claims len all have
+sums : (len : Claim → ℕ) (ss all : List CoverSection) → ss ≡ all → HaveLengths len all → (n : ℕ) → n ≡ sum_by (λ s. s.len) ss → n ≡ sum_by len (claims_of all)
+sums len ss all same have n is = is ∙ ap (λ (xs : List CoverSection). sum_by (λ s. s.len) xs) same ∙ sum_claims len all have
 
 pub returns : goal.returns
 returns c = λ len have.

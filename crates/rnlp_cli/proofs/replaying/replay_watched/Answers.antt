@@ -3,7 +3,7 @@ use Rattle.rnlp_cli.proofs.Outcomes.{told, written, surely_written}
 use Rattle.rnlp_cli.proofs.Tellings.{written_tells, trace_tells}
 use Rattle.rnlp_cli.proofs.Watches.{replay_watched, told_watched}
 use Rattle.rnlp_cli.specs.declared.command.Command.TheVariants.{Replay}
-use Rattle.rnlp_cli.specs.declared.told.Told.TheVariants.{Steps}
+use Rattle.rnlp_cli.specs.declared.explained.Told.TheVariants.{Steps}
 use Rattle.rnlp_cli.proofs.Lists.{told_list}
 use Rattle.rnlp_cli.proofs.replaying.replay_watched.Goals as goal
 

@@ -2,9 +2,9 @@ use Rattle.std.proofs.Common.{sym, ap, subst, ◌∙◌}
 use Rattle.csv.specs.Records.{fields_of}
 use Rattle.rclaim.specs.Requests.{RequestFields}
 use Rattle.rscript.specs.Told.{Tells, IsWrong, is_of_fields}
-use Rattle.rscript.specs.declared.code.Code.{Code}
+use Rattle.rscript.specs.declared.code.ScriptCode.{ScriptCode}
 use Rattle.rscript.specs.declared.statement.Statement.TheVariants as statement
-use Rattle.rscript.specs.declared.word.Word.TheVariants as word
+use Rattle.rscript.specs.declared.word.ScriptWord.TheVariants as word
 use Rattle.rscript.proofs.record_facts.Begins.{begin_unknown, begin_uncounted, begin_tells, begin_refused, request_of_fields}
 use Rattle.rscript.proofs.told.begin_of.Goals as goal
 
@@ -23,7 +23,7 @@ returns-in-Ok-clause-told c =
 
 pub returns-in-Err-clause-wrong : goal.returns-in-Err-clause-wrong
 returns-in-Err-clause-wrong c =
-    subst (λ (code : Code). IsWrong c.args.resources.now (word.Begin c.args.kind) (fields_of c.args.fields.now) code) (sym c.request_code.ensures)
+    subst (λ (code : ScriptCode). IsWrong c.args.resources.now (word.Begin c.args.kind) (fields_of c.args.fields.now) code) (sym c.request_code.ensures)
     (begin_refused c.args.resources.now (fields_of c.args.fields.now) c.args.kind c.requires c.in-Some.sets c.in-Some-lengths_of.lengths c.in-Err.cause (sym c.sets_of.ensures.value ∙ c.in-Some.is)
     (sym c.lengths_of.ensures.value ∙ c.in-Some-lengths_of.is) c.in-Err.ensures)
 

@@ -5,7 +5,7 @@ use Rattle.rtrace_form.specs.Lines.{HasCap}
 use Rattle.rtrace_form.specs.declared.fault.Code.TheVariants.{BadField}
 use Rattle.rtrace_form.specs.Told.{names_by}
 use Rattle.rtrace_form.specs.declared.word.Word.TheVariants as word
-use Rattle.rtrace_read.specs.declared.taken.Taken.TheVariants as taken
+use Rattle.rtrace_read.specs.declared.taken.TakenRecord.TheVariants as taken
 use Rattle.rtrace_read.proofs.LineResults.{same_bad}
 use Rattle.rtrace_read.proofs.RowSteps.{is_of, cap_says, cap_uncounted, row_taken, row_code, row_wrong}
 use Rattle.rtrace_read.proofs.Still.{same_still}

@@ -3,7 +3,7 @@ use Rattle.csv.specs.Records.{fields_of}
 use Rattle.rtrace_form.specs.Lines.{Ends}
 use Rattle.rtrace_form.specs.Told.{names_by}
 use Rattle.rtrace_form.specs.declared.word.Word.TheVariants as word
-use Rattle.rtrace_read.specs.declared.taken.Taken.TheVariants as taken
+use Rattle.rtrace_read.specs.declared.taken.TakenRecord.TheVariants as taken
 use Rattle.rtrace_read.proofs.LineResults.{same_bad}
 use Rattle.rtrace_read.proofs.RowSteps.{is_of, end_says, row_taken, row_code}
 use Rattle.rtrace_read.proofs.Still.{same_still}

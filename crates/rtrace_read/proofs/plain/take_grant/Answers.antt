@@ -2,7 +2,7 @@ use Rattle.std.proofs.Common.{Some, refl, ap, ◌∙◌}
 use Rattle.csv.specs.Records.{fields_of}
 use Rattle.rtrace_form.specs.Lines.{Grants}
 use Rattle.rtrace_form.specs.declared.word.Word.TheVariants as word
-use Rattle.rtrace_read.specs.declared.taken.Taken.TheVariants as taken
+use Rattle.rtrace_read.specs.declared.taken.TakenRecord.TheVariants as taken
 use Rattle.rtrace_read.proofs.LineResults.{same_bad}
 use Rattle.rtrace_read.proofs.RowSteps.{is_of, row_taken, row_code, row_wrong}
 use Rattle.rtrace_read.proofs.Still.{same_still}

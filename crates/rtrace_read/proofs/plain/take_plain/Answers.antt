@@ -1,6 +1,6 @@
 use Rattle.std.proofs.Common.{refl}
 use Rattle.csv.specs.Records.{fields_of}
-use Rattle.rtrace_read.specs.declared.taken.Taken.TheVariants as taken
+use Rattle.rtrace_read.specs.declared.taken.TakenRecord.TheVariants as taken
 use Rattle.rtrace_read.proofs.Results.{same_err}
 use Rattle.rtrace_read.proofs.OtherWords.{tells_none}
 use Rattle.rtrace_read.proofs.plain.take_plain.Goals as goal

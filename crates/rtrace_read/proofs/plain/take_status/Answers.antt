@@ -1,7 +1,7 @@
 use Rattle.std.proofs.Common.{Some, ap, ◌∙◌, refl}
 use Rattle.csv.specs.Records.{fields_of}
 use Rattle.rtrace_form.specs.Reports.{status_line}
-use Rattle.rtrace_read.specs.declared.taken.Taken.TheVariants as taken
+use Rattle.rtrace_read.specs.declared.taken.TakenRecord.TheVariants as taken
 use Rattle.rtrace_read.proofs.Codes.{status_changes}
 use Rattle.rtrace_read.proofs.LineResults.{same_bad}
 use Rattle.rtrace_read.proofs.RowSteps.{is_of, status_no_more, row_taken, row_code, row_wrong, change_adds}

@@ -3,7 +3,7 @@ use Rattle.csv.specs.Records.{fields_of}
 use Rattle.rtrace_form.specs.Lines.{HasTask}
 use Rattle.rtrace_form.specs.Told.{Says, names_by}
 use Rattle.rtrace_form.specs.declared.word.Word.TheVariants as word
-use Rattle.rtrace_read.specs.declared.taken.Taken.TheVariants as taken
+use Rattle.rtrace_read.specs.declared.taken.TakenRecord.TheVariants as taken
 use Rattle.rtrace_read.proofs.Results.{same_err}
 use Rattle.rtrace_read.proofs.RowSteps.{is_of, task_says, row_taken, row_code}
 use Rattle.rtrace_read.proofs.Names.{task_names}

@@ -1,7 +1,7 @@
 use Rattle.std.proofs.Common.{Some, refl, sym, ap, ◌∙◌}
 use Rattle.csv.specs.Records.{fields_of}
 use Rattle.rtrace_form.specs.Lines.{Does}
-use Rattle.rtrace_read.specs.declared.taken.Taken.TheVariants as taken
+use Rattle.rtrace_read.specs.declared.taken.TakenRecord.TheVariants as taken
 use Rattle.rtrace_read.proofs.LineResults.{same_bad}
 use Rattle.rtrace_read.proofs.RowSteps.{is_of, act_whole, act_no_more, latest_there, row_taken, row_code, row_wrong}
 use Rattle.rtrace_read.proofs.OtherWords.{tells_none, act_no_wait}

@@ -10,8 +10,8 @@ use Rattle.rtrace_form.specs.SoFar.{lock_in}
 use Rattle.rtrace_form.specs.declared.fault.Refusal.TheVariants.{Request}
 use Rattle.rtrace_read.specs.LineTakes.{Takes, FitsTold}
 use Rattle.rtrace_read.specs.Takes.{TakesRow, TellsBound, CountsRow, AllowsActs, IsKept}
-use Rattle.rtrace_read.specs.declared.taken.Taken.{Taken}
-use Rattle.rtrace_read.specs.declared.taken.Taken.TheVariants as taken
+use Rattle.rtrace_read.specs.declared.taken.TakenRecord.{TakenRecord}
+use Rattle.rtrace_read.specs.declared.taken.TakenRecord.TheVariants as taken
 use Rattle.rtrace_read.proofs.EventSteps.{happen_refused, event_misplaced}
 use Rattle.rtrace_read.proofs.LineResults.{same_bad}
 use Rattle.rtrace_read.proofs.Results.{same_event}
@@ -57,7 +57,7 @@ returns-clause-taken c =
     let row = fields_of c.args.fields.now in
     on_ok_weaker c.happen.result
     (λ takes.
-    subst (λ (what : Taken). TakesRow old new row what) (sym kept.0)
+    subst (λ (what : TakenRecord). TakesRow old new row what) (sym kept.0)
     (λ whole s h.
     row_taken whole old s h row c.args.word c.requires.word (event_no_more s c.args.word c.requires.event) (Happens told.0) told.1 new (taken.Event told.0)
     (subst (λ (e : Event). Takes old new (Happens e)) same takes whole s h) (refl, refl)))
@@ -69,7 +69,7 @@ returns-clause-bound c =
     let kept = subst (λ (o : Option RequestErr). IsKept o c.keep_event.new.taken told.0) c.in_default-refused.is told.2 in
     on_ok_weaker c.happen.result
     (λ _.
-    subst (λ (what : Taken). TellsBound c.args.reading.now (fields_of c.args.fields.now) what) (sym kept.0)
+    subst (λ (what : TakenRecord). TellsBound c.args.reading.now (fields_of c.args.fields.now) what) (sym kept.0)
     (tells_none c.args.reading.now (fields_of c.args.fields.now) c.args.word (taken.Event told.0) c.requires.word (event_no_wait c.args.word c.requires.event) refl))
     c.happen.ensures.taken
 
@@ -92,9 +92,9 @@ returns-in-Some-refused-clause-still c = λ code is. same_still c.args.reading.n
 
 pub returns-clause-counted : goal.returns-clause-counted
 returns-clause-counted c =
-    subst (λ (what : Taken). OnOk c.happen.result (CountsRow c.args.reading.now c.happen.new.self (fields_of c.args.fields.now) what)) (sym c.in-Event.is) c.happen.ensures.counted
+    subst (λ (what : TakenRecord). OnOk c.happen.result (CountsRow c.args.reading.now c.happen.new.self (fields_of c.args.fields.now) what)) (sym c.in-Event.is) c.happen.ensures.counted
 
 pub returns-clause-allowed : goal.returns-clause-allowed
 returns-clause-allowed c =
-    subst (λ (what : Taken). OnOk c.happen.result (AllowsActs c.args.reading.now c.happen.new.self what)) (sym c.in-Event.is)
+    subst (λ (what : TakenRecord). OnOk c.happen.result (AllowsActs c.args.reading.now c.happen.new.self what)) (sym c.in-Event.is)
     (on_ok_weaker c.happen.result (λ report. (report, c.happen.ensures.listed)) c.happen.ensures.allowed)

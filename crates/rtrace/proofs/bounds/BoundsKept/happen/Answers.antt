@@ -1,5 +1,5 @@
 use Rattle.std.proofs.Common.{Option, subst}
-use Rattle.rtrace.specs.declared.told.ToldBounds.{ToldBounds}
+use Rattle.rtrace.specs.declared.told_bounds.ToldBounds.{ToldBounds}
 use Rattle.rtrace.specs.ToldBounds.{IsMade}
 use Rattle.rtrace.proofs.Results.{on_ok}
 use Rattle.rtrace.proofs.ToldSteps.{made_event, some_events}
