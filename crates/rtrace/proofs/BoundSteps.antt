@@ -1,4 +1,4 @@
--- The bounds that records tell, one record after another.
+-- The bounds in records, one record after another.
 use Rattle.std.proofs.Common.{◌≡◌, ℕ, suc, ◌+◌, ◌<◌, true, List, [], ◌∷◌, ◌++◌, length, Option, Some, None, refl, sym, ap, subst, ◌∙◌, arith, length-append}
 use Rattle.std.specs.Prelude.{option_map, option_to_list}
 use Rattle.std.proofs.lemmas.List.{length-map}
@@ -31,7 +31,7 @@ told_one : (n : ℕ) (o : Option Numbers) → length (or_more n o []) ≡ one_if
 told_one n None = refl
 told_one n (Some b) = refl
 
--- one record more tells one wait more, if it tells one
+-- one more record has one more wait, if it is of a wait
 pub waits_more : (rows : List Row) (row : Row) (o : Option Numbers) → bound_said true (names_in (read_all true rows)) row ≡ o → waits_told (rows ++ row ∷ []) ≡ waits_told rows + one_if_told o
 waits_more rows row o is =
     ap length (bounds_more true rows row ∙ ap (λ b. bounds_said true 1 nothing_yet rows ++ or_more (length rows + 1) b []) is)
@@ -65,7 +65,7 @@ module _ (rows : List Row) (row : Row) where
       → length (entries_in (read_all true (rows ++ row ∷ []))) ≡ length (entries_in (read_all true rows)) + one_if_event what
   events_more what adds = ap (λ (t : SoFar). length (entries_in t)) (read_more true rows row) ∙ entries_more what (read_all true rows) (with_row true (read_all true rows) row) adds
 
--- one record more is counted
+-- one more record is counted
 pub count_on : (old new : Counting) (rows : List Row) (row : Row) (what : TakenRecord) → KnowsCount old rows → TakesRow old.reading new.reading row what → TellsBound old.reading row what
     → KnowsBounds new.bounds (rows ++ row ∷ []) → new.events ≡ old.events + one_if_event what → new.waits ≡ old.waits + one_if_told (bound_of what)
     → (list_code true rows row ≡ None) × KnowsCount new (rows ++ row ∷ [])
@@ -79,7 +79,7 @@ count_on old new rows row what h takes tells bounds events waits =
       record { knows = by_rows rows row (λ (r : ReportReader) (t : SoFar). Knows true r t) new.reading took.1; bounds = bounds; events = omega (arith, events, more, was); waits = omega (arith, waits, on, said) },
     )
 
--- records tell no more waits than there are records
+-- records have no more waits than there are records
 pub waits_few : (rows : List Row) → waits_told rows < length rows + 1
 unfolding bounds_said
 waits_few rows = from 1 nothing_yet rows
@@ -94,11 +94,11 @@ waits_few rows = from 1 nothing_yet rows
 
 -- ---- whole texts
 
--- what the records of a text have told that were taken, whatever the taker knows of them
+-- what the records of a text that were taken have said, whatever the taker knows of them
 pub told_by_taken : {T : Type 0} (K : T → List Row → Type 0) (bytes : List ℕ) (taker : T) (h : HasTaken (list_code true) (is_list_done true) NoEnd K bytes taker) → HaveTold true h.rows (read_all true h.rows)
 told_by_taken K bytes taker h = let few = h.few in have_told true h.rows (omega (arith, few)) (sym (list_faults true h.rows) ∙ h.right)
 
--- lines tell as many bounds as they do without them
+-- lines have as many bounds as without them
 as_many : (n : ℕ) (lines : List Line) → length (told_from n lines) ≡ length (bounds_in (blank lines))
 as_many n [] = refl
 as_many n (line ∷ lines) = at line (as_many (n + 1) lines)
@@ -107,7 +107,7 @@ as_many n (line ∷ lines) = at line (as_many (n + 1) lines)
     at (Waits seat which cover bound) rest = ap suc rest
     at _ rest = rest
 
--- *The records of a report tell just as many waits as its history ended*
+-- *The records of a report have just as many waits as its history ended*
 pub told_are_ended : (rows : List Row) → HaveTold true rows (read_all true rows) → waits_told rows ≡ length (all_ended (head_in (read_all true rows)) (entries_in (read_all true rows)))
 told_are_ended rows h =
     let s = read_all true rows in

@@ -8,12 +8,12 @@ use Rattle.rtrace.specs.Errors.{text_error_of, IsOfText, IsOfSource}
 use Rattle.rtrace.specs.declared.error.StreamErr.{StreamErr}
 use Rattle.rtrace.specs.declared.error.StreamErr.TheVariants as stream
 
--- a fault that is told of a source is that of its text
+-- a fault of a source is that of its text
 pub bad_text : {C : Type 0} (e : TextErr C) (fault : Fault C) → text_error_of e ≡ stream.Bad fault → e ≡ text.Bad fault
 bad_text (text.Bad other) fault is = cc
 bad_text text.Memory fault is = cc
 
--- what is no want of memory is a fault
+-- an error that is not out of memory is a fault
 pub is_fault : {C : Type 0} (e : TextErr C) → e ≢ text.Memory → (fault : Fault C) × (e ≡ text.Bad fault)
 is_fault (text.Bad fault) other = (fault, refl)
 is_fault text.Memory other = absurd (other refl)

@@ -1,4 +1,4 @@
--- What was taken is kept, one record more at a time.
+-- What was taken is kept, one more record at a time.
 use Rattle.std.proofs.Common.{◌≡◌, Bool, ◌++◌, Option, None, sym, ap, subst, ◌∙◌}
 use Rattle.std.specs.Prelude.{option_map, option_to_list}
 use Rattle.rtrace_form.specs.Records.{Row}

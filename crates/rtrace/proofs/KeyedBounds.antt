@@ -1,4 +1,4 @@
--- What is kept of each key tells the first wrong bound of all, however many were told: one bound more tells one number more.
+-- What is kept of each key gives the first wrong bound of all, however many were reported: one more bound adds at most one number.
 use Rattle.std.proofs.Common.{◌≡◌, ℕ, ◌<◌, Bool, true, false, cond, nat_le, List, [], ◌∷◌, ◌++◌, map, Option, Some, None, refl, sym, ap, ◌∙◌, arith, true≢false}
 use Rattle.std.specs.Prelude.{IfSome}
 use Rattle.std.specs.List.{AllByRecursion}
@@ -21,17 +21,17 @@ use Rattle.rtrace.specs.Kept.{Keyed, told_in, first_kept, more_kept, lesser, wro
 use Rattle.rtrace.specs.declared.key.Key.{Key}
 use Rattle.rtrace.specs.declared.kept_bounds.Kept.{Kept}
 
--- what is kept of a key with one bound more, where this was kept before
+-- what is kept of a key with one more bound, where this was kept before
 abbrev pub kept_with : Option Kept → ℕ → Bound → Kept
 kept_with None number bound = first_kept number bound
 kept_with (Some kept) number bound = more_kept kept number bound
 
--- what is kept of all keys with one bound more
+-- what is kept of all keys with one more bound
 abbrev pub noted : Key → ℕ → Bound → List (Key × Kept) → List (Key × Kept)
 noted key number bound [] = (key, first_kept number bound) ∷ []
 noted key number bound (e ∷ es) = cond (same_key key e.0) ((e.0, more_kept e.1 number bound) ∷ es) (e ∷ noted key number bound es)
 
--- it is put where the key is, and else behind the others
+-- it is put where the key is, and else after the others
 pub inserted : (key : Key) (number : ℕ) (bound : Bound) (es : List (Key × Kept)) → insert_entry same_key es key (kept_with (lookup (same_key key) es) number bound) ≡ noted key number bound es
 inserted key number bound [] = refl
 inserted key number bound (e ∷ es) = at (same_key key e.0) (inserted key number bound es)
@@ -57,12 +57,12 @@ two_below n (Some a) (Some b) p q = at (nat_le a b)
     at true = p
     at false = q
 
--- none is no less than another
+-- a number and no number: the lesser is the number
 pub lesser_alone : (o : Option ℕ) → lesser o None ≡ o
 lesser_alone None = refl
 lesser_alone (Some m) = refl
 
--- of three
+-- ---- the lesser of three
 pub lesser_of_three : (a b d : Option ℕ) → lesser a (lesser b d) ≡ lesser (lesser a b) d
 lesser_of_three None b d = refl
 lesser_of_three (Some a) None d = refl
@@ -72,7 +72,7 @@ lesser_of_three (Some a) (Some b) (Some d) = ap (λ n. Some n) (least_of a b d)
     least_of : (a b d : ℕ) → cond (nat_le a (cond (nat_le b d) b d)) a (cond (nat_le b d) b d) ≡ cond (nat_le (cond (nat_le a b) a b) d) (cond (nat_le a b) a b) d
     least_of a b d = grind (arith, nat_tests)
 
--- a number above another, or none, comes behind it
+-- a number above another, or none, comes after it
 behind : (n : ℕ) (a b : Option ℕ) (w : Bool) → IfSome a (λ m. m < n) → lesser a (or_else b (cond w None (Some n))) ≡ or_else (lesser a b) (cond w None (Some n))
 behind n None b w below = refl
 behind n (Some m) (Some k) w below = refl
@@ -98,7 +98,7 @@ other_bound a b d h is = at (same_numbers a d) refl
     at true e = absurd (true≢false (sym (numbers_itself a) ∙ ap (λ (x : Numbers). same_numbers a x) (numbers_are a d e ∙ sym (numbers_are b d is)) ∙ h))
     at false e = refl
 
--- a bound of a key that is there: r says that the first bound of the key is right, m that it is told again, w that this one is right
+-- a bound of a key that is there: r says that the first bound of the key is right, m that the same one is reported again, w that this one is right
 met_by : (n first : ℕ) (other rest : Option ℕ) (r m w : Bool) → (m ≡ true → w ≡ r) → (m ≡ false → r ≡ true → w ≡ false) → IfSome rest (λ k. k < n)
     → lesser (cond r (cond m other (or_else other (Some n))) (Some first)) rest ≡ or_else (lesser (cond r other (Some first)) rest) (cond w None (Some n))
 met_by n first other None false m w again differs below = refl
@@ -113,7 +113,7 @@ met_by n first None rest true false false again differs below = last_behind n re
 met_by n first (Some o) None true false false again differs below = refl
 met_by n first (Some o) (Some k) true false false again differs below = refl
 
--- `right` tells which bound is right for a key
+-- `right` says which bound is right for a key
 module _ (right : BoundKey → Numbers) where
   -- a number, where the bound is wrong
   abbrev wrong : ℕ → Numbers → BoundKey → Option ℕ
@@ -130,7 +130,7 @@ module _ (right : BoundKey → Numbers) where
   least_below n [] below = tt
   least_below n (e ∷ es) below = two_below n (wrong_by e.1 (right e.0.key)) (least_wrong right es) (wrong_below n e.1 (right e.0.key) below.0) (least_below n es below.1)
 
-  -- *One bound more tells one number more, behind those that were told*
+  -- *One more bound adds at most one number, after those before*
   noted_least : (key : Key) (n : ℕ) (bound : Bound) (es : List (Key × Kept)) → AreBelow n es → least_wrong right (noted key n bound es) ≡ or_else (least_wrong right es) (wrong n (numbers_in bound) key.key)
   noted_least key n bound [] below = lesser_alone (wrong n (numbers_in bound) key.key)
   noted_least key n bound (e ∷ es) below = at (same_key key e.0) refl (noted_least key n bound es below.1)
@@ -154,7 +154,7 @@ module _ (right : BoundKey → Numbers) where
           ap (λ o. lesser (wrong_by e.1 (right e.0.key)) o) rest
           ∙ behind n (wrong_by e.1 (right e.0.key)) (least_wrong right es) (same_numbers (numbers_in bound) (right key.key)) (wrong_below n e.1 (right e.0.key) below.0)
 
-  -- the first wrong bound, with one bound more that is told
+  -- the first wrong bound, with one more reported bound
   first_push : (keyed : List Keyed) (x : Keyed) → first_other (said (told_in (keyed ++ x ∷ []))) (map (λ (k : Keyed). right k.key) (keyed ++ x ∷ [])) ≡ or_else (first_other (said (told_in keyed)) (map (λ (k : Keyed). right k.key) keyed)) (wrong x.told.number x.told.bound x.key)
   unfolding first_other
   first_push [] x = refl
@@ -166,7 +166,7 @@ module _ (right : BoundKey → Numbers) where
       at true rest = rest
       at false rest = refl
 
--- ---- what is kept with one bound more
+-- ---- what is kept with one more bound
 
 less_other : (n m : ℕ) (other : Option ℕ) → n < m → IfSome other (λ o. o < m) → IfSome (or_else other (Some n)) (λ o. o < m)
 less_other n m None less below = less
@@ -196,7 +196,7 @@ noted_keys P key n bound (e ∷ es) new all = at (same_key key e.0) (noted_keys 
     at true rest = all
     at false rest = (all.0, rest)
 
--- what was told before one bound more is before the same number, and so is that bound
+-- what was reported before one more bound is before the same number, and so is that bound
 before_parts : (m : ℕ) (keyed : List Keyed) (x : Keyed) → AreBefore m (told_in (keyed ++ x ∷ [])) → AreBefore m (told_in keyed) × (x.told.number < m)
 before_parts m [] x before = (tt, before.0)
 before_parts m (k ∷ ks) x before =
@@ -207,7 +207,7 @@ pub tells_nothing : Tells [] []
 unfolding first_other
 tells_nothing = record { first = λ right. refl; below = λ number before. tt }
 
--- *One bound more of a wait, with its key*
+-- *One more bound of a wait, with its key*
 pub tells_more : (es : List (Key × Kept)) (keyed : List Keyed) (key : Key) (n : ℕ) (wait : WaitEnd) (bound : Bound) → AreBefore n (told_in keyed) → Tells es keyed
     → Tells (noted key n bound es) (keyed ++ record { told = record { number = n; wait = wait; bound = numbers_in bound }; key = key.key } ∷ [])
 tells_more es keyed key n wait bound before tells =

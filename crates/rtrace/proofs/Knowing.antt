@@ -1,4 +1,4 @@
--- What is known once an event came, once a bound was told, and once the history was told whole.
+-- What is known once an event came, once a bound was reported, and once the history was complete.
 use Rattle.std.proofs.Common.{◌≡◌, ℕ, List, [], ◌∷◌, ◌++◌, map, refl, sym, ap, subst, ◌∙◌}
 use Rattle.std.specs.List.{AllByRecursion}
 use Rattle.std.proofs.lemmas.List.{append-nil, append_assoc, map-append}
@@ -25,7 +25,7 @@ use Rattle.rtrace.specs.declared.told_bounds.ToldBounds.{ToldBounds}
 use Rattle.rtrace.proofs.KeyedBounds.{noted, noted_keys, tells_more}
 
 module _ (groups : ReadGroups) (seats cap : ℕ) where
-  -- ---- one event more
+  -- ---- one more event
 
   had_key_on : (events : List Event) (e : Event) (wait : WaitEnd) (key : BoundKey) → HadKey groups seats cap events wait key → HadKey groups seats cap (events ++ e ∷ []) wait key
   had_key_on events e wait key had = record {
@@ -55,7 +55,7 @@ module _ (groups : ReadGroups) (seats cap : ℕ) where
     of_waits = subst (AreOfWaits groups seats cap (events ++ e ∷ [])) (sym kept) (of_waits_on events e old.kept.entries known.of_waits);
   }
 
-  -- ---- one bound more
+  -- ---- one more bound
 
   just_had : (events : List Event) (wait : WaitEnd) (key : BoundKey) → IsKeyOf groups seats cap events wait key → HadKey groups seats cap events wait key
   just_had events wait key is = record { before = events; rest = []; split = sym (append-nil events); is_key = is }

@@ -1,4 +1,4 @@
--- Going over all keys: what those that were looked at tell, and those that are left.
+-- Going through all keys: what those already looked at give, and those that are left.
 use Rattle.std.proofs.Common.{◌≡◌, ℕ, List, ◌∷◌, ◌++◌, Option, sym, ap, subst, ◌∙◌}
 use Rattle.rexpand.specs.Groups.{ReadGroups}
 use Rattle.rclaim.specs.declared.event.Event.{Event}
@@ -20,7 +20,7 @@ use Rattle.rtrace.proofs.Knowing.{bound_had}
 abbrev pub IsBoundOfKey : WaitBounds → BoundKey → Bound → Type 0
 IsBoundOfKey bounds key bound = (groups : ReadGroups) (seats cap : ℕ) (events rest : List Event) (wait : WaitEnd) → AreBoundsOf bounds groups seats cap (events ++ rest) → IsKeyOf groups seats cap events wait key → numbers_in bound ≡ bound_by groups seats cap (events ++ rest) wait
 
--- the first wrong record of all is the lesser of this one and the first that the keys tell that are left
+-- the first wrong record of all is the lesser of this one and the first of the keys that are left
 abbrev pub IsFirstSoFar : WaitBounds → List (Key × Kept) → Option ℕ → List (Key × Kept) → Type 0
 IsFirstSoFar bounds all first left = (groups : ReadGroups) (seats cap : ℕ) (events : List Event) → AreBoundsOf bounds groups seats cap events → AreOfWaits groups seats cap events all
     → AreOfWaits groups seats cap events left × (least_wrong (bound_of_key groups seats cap events) all ≡ lesser first (least_wrong (bound_of_key groups seats cap events) left))

@@ -1,4 +1,4 @@
--- The bounds that are told, one record more at a time, and the first wrong one in the end.
+-- The reported bounds, one more record at a time, and the first wrong one in the end.
 use Rattle.std.proofs.Common.{◌≡◌, ℕ, ◌+◌, Bool, true, false, cond, nat_lt, List, [], ◌∷◌, ◌++◌, length, map, Option, Some, None, refl, sym, ap, subst, ◌∙◌, arith, true≢false, length-append}
 use Rattle.std.specs.Prelude.{option_map, option_to_list, IsSome, IfOk, Result, Ok, Err, unwrap_or}
 use Rattle.std.proofs.lemmas.List.{map-append, append-nil}
@@ -79,7 +79,7 @@ module _ (s t : SoFar) where
   latest_stays (taken.Wait told) adds some = subst (λ (l : Option Entry). IsSome l) (sym adds.1) some
   latest_stays taken.Other adds some = subst (λ (l : Option Entry). IsSome l) (sym adds.1) some
 
-  -- what was told is told by what was said
+  -- what was reported follows from what was said
   told_on : (o : Option ToldBounds) (items : List Told) → events_of (entries_in t) ≡ events_of (entries_in s) → (is_nil (events_of (entries_in s)) ≡ false → head_in t ≡ head_in s) → AreTold o (past_in s) items → AreTold o (past_in t) items
   told_on None items events head h = (events ∙ h.0, h.1)
   told_on (Some told) items events head h = subst (λ (p : Past). AreTold (Some told) p items) (λ i. past_by (sym (head h.0) i) (sym events i)) h
@@ -120,7 +120,7 @@ before_one : (n : ℕ) (items : List Told) (x : Told) → AreBefore n items → 
 before_one n [] x all is = (omega (arith, is), tt)
 before_one n (y ∷ items) x all is = let low = all.0 in (omega (arith, low), before_one n items x all.1 is)
 
--- ---- one record more
+-- ---- one more record
 
 module _ (rows : List Row) (row : Row) where
   more_rows : length (rows ++ row ∷ []) ≡ length rows + 1
@@ -165,7 +165,7 @@ module _ (old new : ReportReader) (rows : List Row) (row : Row) (what : TakenRec
       told_on s t o items (same_events s t what took.2 other)
       (λ some. head_on took.2 (latest_stays s t what took.2 (latest_by old.machine old.following s.latest (past_in s) read.knows.stand some))) told
 
-  -- a record that tells nothing of waits, and no event
+  -- a record that is neither of a wait nor of an event
   pub bounds_same : (new_kept : BoundsKept) → bound_of what ≡ None → ((e : Event) → what ≡ taken.Event e → ⊥) → new_kept ≡ record kept { records = kept.records + 1 } → KnowsBounds new_kept (rows ++ row ∷ [])
   bounds_same new_kept none other is =
       grown rows row new_kept h.items (ap (λ (k : BoundsKept). k.records) is ∙ ap (λ n. n + 1) h.records) (bounds_on none) (before_more (length rows + 1) h.items h.below)
@@ -182,7 +182,7 @@ module _ (old new : ReportReader) (rows : List Row) (row : Row) (what : TakenRec
         let events = (λ i. events_of (event_adds.0 i ++ option_to_list (event_adds.1 i))) ∙ events_push (entries_in s) (bare e) in
         λ i. past_by (head i) (events i)
 
-    -- the event is accepted behind those before
+    -- the event is accepted after those before
     pub event_accepted : AreAccepted (start_of (past_in s)) ((past_in s).events ++ e ∷ [])
     event_accepted =
         subst (λ (p : Past). AreAccepted (start_of p) p.events) event_past
@@ -257,11 +257,11 @@ module _ (kept : BoundsKept) (rows : List Row) (h : KnowsBounds kept rows) (nine
       let items : h.items ≡ [] = (subst (λ (o : Option ToldBounds). AreTold o (past_in end) h.items) none h.told).1 in
       ap (option_map wrong_bound) (λ i. first_other (sym (h.bounds ∙ ap said items) i) (bounds_due (head_in end) (entries_in end)))
 
--- the groups of a reader behind the head are those of what was said
+-- the groups of a reader after the head are those of what was said
 pub groups_are : (reading : ReportReader) (s : SoFar) (g : ReadGroups) → Knows true reading s → s.last ≡ 9 → reading.groups ≡ Some g → g ≡ read_groups (head_in s)
 groups_are reading s g h nine is = some_is (sym is ∙ h.groups ∙ ap (λ n. cond (nat_lt n at_groups) None (Some (read_groups (head_in s)))) nine)
 
--- what judges bounds names the first wrong one, by the groups and the cap of a reader behind the end
+-- what judges bounds names the first wrong one, by the groups and the cap of a reader after the end
 pub named_first : {E : Type 0} (kept : BoundsKept) (reading : ReportReader) (told : ToldBounds) (groups : ReadGroups) (cap : ℕ) (made : Result (Option ℕ) E) → kept.told ≡ Some told → reading.groups ≡ Some groups → cap ≡ unwrap_or reading.cap (length reading.tasks)
     → IfOk made (λ first. (seats : ℕ) (events : List Event) (items : List Told) → KnowsTold told groups seats cap events items → first ≡ first_other (said items) (map (bound_by groups seats cap events) (waits_of items)))
     → IfOk made (λ number. (rows : List Row) → KnowsBounds kept rows → Knows true reading (read_all true rows) → (read_all true rows).last ≡ 9 → option_map wrong_bound number ≡ first_wrong_bound true rows)

@@ -1,4 +1,4 @@
--- The waits that were told and those that are left: one line more at a time.
+-- The waits that were reported and those that are left: one more line at a time.
 use Rattle.std.proofs.Common.{◌≡◌, ℕ, ◌-◌, Bool, true, false, not, ◌&&◌, cond, nat_lt, is_some, List, [], ◌∷◌, ◌++◌, drop, filter, length, Option, Some, None, refl, sym, ap, subst, ◌∙◌, arith, true≢false, append_assoc}
 use Rattle.std.specs.Prelude.{option_map, option_and_then, option_to_list, IsSome}
 use Rattle.std.proofs.Math.Seq.{drop-nil}
@@ -37,9 +37,9 @@ use Rattle.rtrace.specs.ToldBounds.{waits_left}
 use Rattle.rtrace_read.proofs.DueWaits.{waits_in, all_due}
 use Rattle.rtrace_read.proofs.EventSteps.{due_is, event_high}
 
--- ---- what was told, and what is left
+-- ---- what was reported, and what is left
 
--- what was told and what is left are all waits that ended
+-- what was reported and what is left are all waits that ended
 abbrev pub AreAll : List WaitEnd → SoFar → Type 0
 AreAll told s = told ++ waits_left s ≡ all_ended (head_in s) (entries_in s)
 
@@ -134,7 +134,7 @@ same_many : (due : List Line) (line : Line) → ((seat : ℕ) (which : Stage) (c
 same_many [] line other first = absurd (true≢false (sym first))
 same_many (x ∷ due) line other first = ap (λ b. length (cond b (x ∷ filter tells_wait due) (filter tells_wait due))) (sym (tells_not x line other first))
 
--- behind a change so many waits are left as before it
+-- after a change as many waits are left as before it
 change_on : (told : List WaitEnd) (s : SoFar) (line : Line) → ((seat : ℕ) (which : Stage) (cover bound : Numbers) → is_same_line (Waits seat which cover bound) line ≡ false)
     → not (is_change_due s && is_first s.due line) ≡ false → AreAll told s → AreAll told (record s { last = 7; due = drop 1 s.due })
 change_on told s line other right all =
@@ -143,7 +143,7 @@ change_on told s line other right all =
     ap (λ n. told ++ drop (length (last_ended s) - n) (last_ended s)) (same_many s.due line other both.1)
     ∙ ap (λ (ws : List WaitEnd). told ++ ws) (sym (due_left_is s early)) ∙ all
 
--- and the wait that is told is left no more
+-- and the wait that is reported is no longer left
 wait_on : (told : List WaitEnd) (s : SoFar) (w : WaitEnd) (line : Line) → not (is_change_due s && is_first s.due line) ≡ false → waits_due s ≡ w ∷ waits_due (record s { last = 7; due = drop 1 s.due })
     → AreAll told s → AreAll (told ++ w ∷ []) (record s { last = 7; due = drop 1 s.due })
 wait_on told s w line right first all =
@@ -162,7 +162,7 @@ late_on told s none all = ap (λ (ws : List WaitEnd). told ++ ws) (sym (no_due_l
 pub all_at_end : (told : List WaitEnd) (s : SoFar) → s.last ≡ 9 → AreAll told s → told ≡ all_ended (head_in s) (entries_in s)
 all_at_end told s nine all = sym (append-nil told) ∙ ap (λ (ws : List WaitEnd). told ++ ws) (sym (ap (λ n. cond (nat_lt n at_ledgers) (waits_due s) []) nine)) ∙ all
 
--- ---- one line more
+-- ---- one more line
 
 line_on : (told : List WaitEnd) (new : ReportReader) (s : SoFar) (line : Line) → Knows true new (with_line true s line) → IsFine true s line → bound_told line ≡ None → AreAll told s → AreAll told (with_line true s line)
 line_on told new s Opens h fine none all = let idle = h.idle (omega arith) in early_on told s (with_line true s Opens) idle.1 idle.2 idle.1 idle.2 all
@@ -192,7 +192,7 @@ line_head new s (HasTask name) h some = absurd (some_not (h.idle (omega arith)).
 line_head new s (HasCap n) h some = absurd (some_not (h.idle (omega arith)).2 some)
 line_head new s _ h some = refl
 
--- ---- one record more
+-- ---- one more record
 
 module _ (new : ReportReader) (s : SoFar) (row : Row) (h : Knows true new (with_row true s row)) (right : code_of true s row ≡ None) where
   c : IsClean true s row
@@ -205,11 +205,11 @@ module _ (new : ReportReader) (s : SoFar) (row : Row) (h : Knows true new (with_
   knows : Knows true new (with_line true s c.line)
   knows = subst (λ (t : SoFar). Knows true new t) leads h
 
-  -- a record that tells no wait leaves all that was left, and what its event ended
+  -- a record that is not of a wait leaves all that was left, and what its event ended
   pub row_on : (told : List WaitEnd) → bound_said true (names_in s) row ≡ None → AreAll told s → AreAll told (with_row true s row)
   row_on told none all = subst (λ (t : SoFar). AreAll told t) (sym leads) (line_on told new s c.line knows c.fine (sym (ap (option_and_then bound_told) c.means) ∙ none) all)
 
-  -- and one that tells a wait tells the first that is due
+  -- and a record of a wait reports the first that is due
   pub row_wait : (told : List WaitEnd) (w : WaitEnd) (bound : Numbers) → bound_said true (names_in s) row ≡ Some bound → waits_due s ≡ w ∷ waits_due (with_row true s row) → AreAll told s → AreAll (told ++ w ∷ []) (with_row true s row)
   row_wait told w bound is first all =
       subst (λ (t : SoFar). AreAll (told ++ w ∷ []) t) (sym leads)

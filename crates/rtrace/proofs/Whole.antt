@@ -92,14 +92,14 @@ module _ {T : Type 0} (K : T → List Row → Type 0) (bytes : List ℕ) (taker 
   pub right_spells : first_wrong_bound true h.rows ≡ None → Spells true h.rows (told_in (read_all true h.rows))
   right_spells right = right_bounds true h.rows (told_by_taken K bytes taker h) right
 
--- the fault of a record is no wrong bound
+-- the fault of a record is not a wrong bound
 pub no_bound_refused : (bytes : List ℕ) (fault : Fault Code) → IsFaultOf (list_code true) (is_list_done true) NoEnd bytes fault → fault.code ≡ WrongBound → ⊥
 no_bound_refused bytes fault h wrong =
     let told : first_record_fault true h.0 ≡ Some (fault.line, fault.code) = sym (list_faults true h.0) ∙ h.2 in
     let first = subst (λ (code : Code). first_fault true h.0 ≡ Some (fault.line, code)) wrong (ap (λ o. or_else o (first_wrong_bound true h.0)) told) in
     some_none (sym (told_last true h.0 fault.line first) ∙ told)
 
--- how much a report tells whose bounds are right
+-- how much a report has whose bounds are right
 pub counts_of : (bytes : List ℕ) (taker : Counting) (h : HasTaken (list_code true) (is_list_done true) NoEnd KnowsCount bytes taker) → first_wrong_bound true h.rows ≡ None
     → IsCountOf bytes (record { events = taker.events; waits = taker.waits })
 counts_of bytes taker h right = record {

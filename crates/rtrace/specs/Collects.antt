@@ -25,7 +25,7 @@ pub record KnowsAll (whole : Bool) (taker : Collecting) (s : SoFar) : Type 0 whe
 abbrev pub KnowsList : Collecting → SoFar → Type 0
 KnowsList taker s = KnowsAll false taker s
 
--- 1 for a bound that is told
+-- 1 for a reported bound
 abbrev pub one_if_told : Option Numbers → ℕ
 one_if_told None = 0
 one_if_told (Some bound) = 1
@@ -37,35 +37,35 @@ one_if_event (taken.Act act) = 0
 one_if_event (taken.Wait told) = 0
 one_if_event taken.Other = 0
 
--- how many waits these records of a report tell
+-- how many waits these records of a report have
 abbrev pub waits_told : List Row → ℕ
 waits_told rows = length (bounds_said true 1 nothing_yet rows)
 
--- what was taken is kept, where the reader has taken it
+-- what was taken is kept, if the reader has taken it
 abbrev pub Keeps : TakenRecord → Collecting → Collecting → Type 0
 Keeps (taken.Event e) old new = (new.reading ≡ old.reading) × (new.history.entries ≡ old.history.entries ++ option_to_list old.latest) × (new.latest ≡ Some (bare e))
 Keeps (taken.Act act) old new = (new.reading ≡ old.reading) × (new.history.entries ≡ old.history.entries) × (new.latest ≡ option_map (with_act act) old.latest)
 Keeps (taken.Wait told) old new = new ≡ old
 Keeps taken.Other old new = new ≡ old
 
--- all that these records of a report have said is kept, and what they tell of bounds
+-- all that these records of a report have said is kept, and so are the bounds that they report
 pub record KnowsReport (taker : ReportTaker) (rows : List Row) : Type 0 where
   pub knows : KnowsAll true taker.inner (read_all true rows)
   pub bounds : KnowsBounds taker.bounds rows
 
--- the events and the waits that these records of a report tell are counted, and what they tell of bounds is kept
+-- the events and the waits in these records of a report are counted, and the bounds that they report are kept
 pub record KnowsCount (taker : Counting) (rows : List Row) : Type 0 where
   pub knows : Knows true taker.reading (read_all true rows)
   pub bounds : KnowsBounds taker.bounds rows
   pub events : taker.events ≡ length (entries_in (read_all true rows))
   pub waits : taker.waits ≡ waits_told rows
 
--- a record was refused: what was due to the reader is due still, it knows at most one name more, and what was counted and kept of bounds is as it was
+-- a record was refused: what was due to the reader is still due, at most one name was added, and what was counted and kept of bounds is as it was
 abbrev pub CountStays : Counting → Counting → Type 0
 CountStays was taker =
     StillDue was.reading taker.reading × OneMoreAtMost was.reading taker.reading × (taker.bounds ≡ was.bounds) × (taker.events ≡ was.events) × (taker.waits ≡ was.waits)
 
--- a report is made of what is kept, the latest entry being kept too
+-- a report is made of what is kept, including the latest entry
 pub record IsFinished (taker : Collecting) (r : ReportFields) : Type 0 where
   pub resources : r.resources ≡ taker.reading.resources
   pub groups : taker.reading.groups ≡ Some r.groups

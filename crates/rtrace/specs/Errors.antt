@@ -19,14 +19,14 @@ abbrev pub text_error_of : {C : Type 0} → TextErr C → StreamErr C
 text_error_of (text.Bad fault) = stream.Bad fault
 text_error_of text.Memory = stream.Memory
 
--- a text was read to its end, and a fault is told of it
+-- a text was read to its end, and has a fault
 abbrev pub IsBad : {C : Type 0} → StreamErr C → Type 0
 IsBad stream.ReadFault = ⊥
 IsBad stream.TooLong = ⊥
 IsBad (stream.Bad fault) = Unit {0}
 IsBad stream.Memory = ⊥
 
--- the error is of the text, or want of memory
+-- the error is of the text, or out of memory
 abbrev pub IsOfText : {C : Type 0} → StreamErr C → Type 0
 IsOfText stream.ReadFault = ⊥
 IsOfText stream.TooLong = ⊥
@@ -47,6 +47,6 @@ StreamCameOf stream.ReadFault taken limit = taken ≤ limit
 StreamCameOf (stream.Bad fault) taken limit = taken ≤ limit
 StreamCameOf stream.Memory taken limit = taken ≤ limit
 
--- bytes came behind so many others, and then this error
+-- bytes came after so many others, and then this error
 abbrev pub StreamBreaksOff : {C : Type 0} → StreamErr C → Option (List ℕ) → Option (List ℕ) → ℕ → ℕ → Type 0
 StreamBreaksOff e before after taken limit = (piece : List ℕ) × Came before after piece × StreamCameOf e (taken + length piece) limit

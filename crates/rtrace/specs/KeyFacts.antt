@@ -1,4 +1,4 @@
--- The test of keys says whether two are one, so it is an equivalence, and equal keys hash alike.
+-- The test of keys says whether two are the same, so it is an equivalence, and equal keys hash alike.
 use Rattle.std.proofs.Common.{◌≡◌, ◌==◌, true, true≢false, refl, sym, ap, subst}
 use Rattle.std.specs.Bool.{Decides}
 use Rattle.std.specs.Cmp.{IsEquivalence, decided}

@@ -1,4 +1,4 @@
--- What told bounds are looked up by. No contract of another crate speaks of it.
+-- What reported bounds are looked up by. No contract of another crate mentions it.
 use Rattle.std.specs.Prelude.{Bool, true, false, ◌&&◌, ◌==◌, ◌++◌}
 use Rattle.std.specs.Hash as fed
 use Rattle.rbound.specs.declared.which.Which.{Which}
@@ -12,11 +12,11 @@ same_which Rise Rise = true
 same_which (Ask a) (Ask b) = a == b
 same_which _ _ = false
 
--- two keys are one
+-- two keys are the same
 abbrev pub same_key : Key → Key → Bool
 same_key a b = (a.key.shape == b.key.shape) && same_which a.key.which b.key.which
 
--- what is hashed of a wait, and of a key
+-- what is hashed for a wait, and for a key
 abbrev pub which_input : Which → fed.HashWrites
 which_input First = fed.u8 0
 which_input Rise = fed.u8 1

@@ -1,4 +1,4 @@
--- What is known of the bounds that were told, and of the history that they are of.
+-- What is known of the reported bounds, and of their history.
 use Rattle.std.specs.Prelude.{◌≡◌, ℕ, List}
 use Rattle.std.specs.List.{AllByRecursion}
 use Rattle.rexpand.specs.Groups.{ReadGroups}
@@ -30,7 +30,7 @@ bound_of_key groups seats cap events key =
 abbrev pub AreOfWaits : ReadGroups → ℕ → ℕ → List Event → List (Key × Kept) → Type 0
 AreOfWaits groups seats cap events entries = AllByRecursion (λ (entry : Key × Kept). (wait : WaitEnd) × HadKey groups seats cap events wait entry.0.key) entries
 
--- it was told these accepted events, and these bounds of waits that they ended
+-- it was given these accepted events, and these bounds of waits that they ended
 pub record KnowsTold (bounds : ToldBounds) (groups : ReadGroups) (seats cap : ℕ) (events : List Event) (items : List Told) : Type 0 where
   pub accepted : AreAccepted (opening groups seats cap) events
   pub needs : Knows bounds.needs seats events

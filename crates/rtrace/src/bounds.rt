@@ -1,4 +1,4 @@
-// What is kept of the bounds that a report tells, until its history was told whole.
+// The bounds that a report gives for waits, kept until its history is complete.
 ghost use Rattle.std.specs.Prelude.{◌≡◌, ◌++◌, ◌∷◌, ◌<◌, ◌^◌, [], List, length, OnOk, IfOk, option_map, true};
 ghost use Rattle.rbound.specs.Bounds.{numbers_in};
 ghost use Rattle.rmodel.specs.Steps.{AreAccepted};
@@ -18,11 +18,10 @@ use rclaim::Event;
 use rtrace_read::{BoundTold, ReportReader, TakenRecord};
 use std::alloc::{AllocError, Global};
 
-/// What a taker of a report keeps of the bounds that it tells. It grows with the shapes of requests, and not with waits or
-/// events.
+/// What a taker of a report keeps of its bounds. It grows with the shapes of requests, not with waits or events.
 #[derive(Drop)]
 pub struct BoundsKept {
-    /// What was told so far, made at the first event: behind it no task is declared.
+    /// The reported bounds so far, made at the first event: after it no task is declared.
     pub told: Option<ToldBounds>,
     /// How many records were taken.
     pub records: u64,
@@ -39,11 +38,11 @@ impl BoundsKept {
         }
     }
 
-    /// Takes what one record more told to a reader.
+    /// Takes what another record said to a reader.
     ///
     /// # Errors
     ///
-    /// Want of memory. Nothing is said then of what is kept.
+    /// Out of memory. Nothing is promised then of what is kept.
     pub fn take(
         &mut self,
         alloc: Global,
@@ -87,7 +86,7 @@ impl BoundsKept {
         }
     }
 
-    // Makes what judges bounds. Room for it is left out of the path of each event.
+    // Makes what judges bounds. Room for it is kept out of the path of each event.
     #[cold]
     #[inline(never)]
     fn make_first(&mut self, alloc: Global, tasks: u8) -> Result<(), AllocError>
@@ -98,7 +97,7 @@ impl BoundsKept {
         Ok(())
     }
 
-    // Takes the bound that the latest record tells of a wait that the last event ended.
+    // Takes the bound that the latest record reports for a wait that the last event ended.
     fn tell(&mut self, told: &BoundTold) -> Result<(), AllocError>
         requires { (p : Past) × (items : List Told) × AreTold self.old.told p items × IsLastEnded p.groups p.seats p.cap p.events told.now.wait × AreBefore self.old.records items }
         ensures told { OnOk result ((p : Past) (items : List Told) → AreTold self.old.told p items → IsLastEnded p.groups p.seats p.cap p.events told.now.wait → AreBefore self.old.records items
@@ -112,11 +111,12 @@ impl BoundsKept {
         }
     }
 
-    /// The number of the first record that told a wrong bound, once the report has ended; None where all were right.
+    /// The number of the first record that reported a wrong bound, once the report has ended; None where all were
+    /// right.
     ///
     /// # Errors
     ///
-    /// Want of memory.
+    /// Out of memory.
     pub fn first_wrong(
         &self,
         alloc: Global,

@@ -16,10 +16,10 @@ use rvalue::{Act, Edit, Entry, History};
 use std::alloc::{AllocError, Global};
 use std::mem;
 
-/// Takes the records of an event list, and keeps all that they say; what a report says is kept in it too.
+/// Takes the records of an event list, and keeps all that they say; it also keeps what a report says.
 #[derive(Drop)]
 pub struct Collecting {
-    /// From which the room for what is kept comes.
+    /// Where the memory for what is kept comes from.
     pub alloc: Global,
     /// The reader of the records so far.
     pub reading: ReportReader,
@@ -79,11 +79,11 @@ impl Collecting {
         }
     }
 
-    /// Keeps what a record told that the reader took.
+    /// Keeps what a record said that the reader took.
     ///
     /// # Errors
     ///
-    /// Want of memory. Nothing changes then.
+    /// Out of memory. Nothing changes then.
     pub fn keep_taken(&mut self, taken: TakenRecord) -> Result<(), AllocError>
         ensures ok { OnOk result (Keeps taken self.old self.new) }
         ensures still { OnErr result (self.new ≡ self.old) }
@@ -109,7 +109,7 @@ impl Collecting {
         Ok(())
     }
 
-    // Puts the latest entry behind the others, if there is one.
+    // Puts the latest entry after the others, if there is one.
     fn keep(&mut self) -> Result<(), AllocError>
         ensures ok { OnOk result ((self.new.reading ≡ self.old.reading) × (self.new.history.entries ≡ self.old.history.entries ++ option_to_list self.old.latest)) }
         ensures still { OnErr result (self.new ≡ self.old) }
@@ -132,11 +132,11 @@ impl Collecting {
         }
     }
 
-    /// What was said, as a report, which is given away: nothing is said then of what is kept.
+    /// What was said, as a report. It is moved out: nothing is promised then of what is kept.
     ///
     /// # Errors
     ///
-    /// Want of memory.
+    /// Out of memory.
     pub fn report(&mut self) -> Result<Report, TextErr>
         ensures report { IfOk result (λ r. (whole : Bool) (s : SoFar) → KnowsAll whole self.old s → (told_by r ≡ told_in s) × IsOverResources r × HasItsLedgers r) }
         ensures memory { IfErr result (λ e. e ≡ TextErr.Memory) }
@@ -147,8 +147,8 @@ impl Collecting {
         self.finished()
     }
 
-    // The report of what is kept, which is given away; an error where no read groups were made, as they are in every text
-    // that has ended.
+    // The report of what is kept, which is moved out; an error where no read groups were made. They are made in every
+    // text that has ended.
     fn finished(&mut self) -> Result<Report, TextErr>
         ensures report { IfOk result (IsFinished self.old) }
         ensures memory { IfErr result (λ e. e ≡ TextErr.Memory) }

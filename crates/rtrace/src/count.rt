@@ -1,4 +1,4 @@
-// Checking a report, with no more kept than is needed to judge it.
+// Checking a report, keeping no more than is needed to judge it.
 ghost use Rattle.std.specs.Prelude.{◌≡◌, ◌≤◌, ◌<◌, ◌+◌, ◌≢◌, ℕ, IfOk, IfErr, OnOk, IsErrOf, true, [], List};
 ghost use Rattle.io_ends.specs.Faults.{Rose};
 ghost use Rattle.io_ends.specs.Ends.{Took, TookAtMost};
@@ -23,20 +23,20 @@ use rtrace_form::{Code, Fault, Records, RowErr};
 use rtrace_read::{ReportReader, TakenRecord, take};
 use std::alloc::Global;
 
-/// Takes the records of a report, counts its events and its waits, and keeps what it tells of bounds.
+/// Takes the records of a report, counts its events and its waits, and keeps its reported bounds.
 #[derive(Drop)]
 pub struct Counting {
-    /// Where the memory comes from that it takes.
+    /// Where its memory comes from.
     pub alloc: Global,
     /// What the records said, line by line.
     pub reading: ReportReader,
-    /// What they told of bounds.
+    /// The bounds that they reported.
     pub bounds: BoundsKept,
-    /// How many events they told.
+    /// How many events they reported.
     pub events: u64,
-    /// How many waits they told.
+    /// How many waits they reported.
     pub waits: u64,
-    // What the latest record told.
+    // What the latest record said.
     taken: TakenRecord,
 }
 
@@ -66,7 +66,7 @@ impl Records for Counting {
         ensures bad { (cause : Code) → result ≡ Err (RowErr.Bad cause) → (rows : List Row) → KnowsCount self.old rows → list_code true rows (fields_of fields.now) ≡ Some cause }
         ensures still { (cause : Code) → result ≡ Err (RowErr.Bad cause) → CountStays self.old self.new }
 
-        // The one name more that may come in is the record's own.
+        // Only the record's own name may be added.
         ensures names { (cause : Code) → result ≡ Err (RowErr.Bad cause) → NamesStay self.old.reading self.new.reading (fields_of fields.now) }
     {
         if let Err(e) = take(&mut self.reading, self.alloc, fields, &mut self.taken) {
@@ -90,7 +90,7 @@ impl Records for Counting {
 }
 
 impl Counting {
-    /// Nothing was read, and no record told anything. No memory is taken.
+    /// Nothing was read, and no record said anything. No memory is taken.
     pub fn new(alloc: Global) -> Counting
         ensures knows { KnowsCount result [] }
         ensures nothing { result.taken ≡ TakenRecord.Other }
@@ -132,7 +132,7 @@ fn one_if_wait(taken: &TakenRecord) -> u64
     }
 }
 
-/// How much a report tells.
+/// How much a report has.
 #[derive(Clone, Copy, Debug, PartialEq, Eq)]
 pub struct AuditCounts {
     /// How many events.
@@ -141,13 +141,13 @@ pub struct AuditCounts {
     pub waits: u64,
 }
 
-/// Checks the report that a source has left, of at most `limit` bytes, and answers how much it tells. Nothing is kept of its
-/// history, and no more of its text than a window (see [`take_source`]).
+/// Checks the report that a source has left, of at most `limit` bytes, and answers how much it has. Nothing of its
+/// history is kept, and no more of its text than a window (see [`take_source`]).
 ///
 /// # Errors
 ///
-/// The source failed, or had more than `limit` bytes; the first fault of a text that is no report, once it was read to its
-/// end; or want of memory.
+/// The source failed, or had more than `limit` bytes; the first fault of a text that is not a report, once it was read
+/// to its end; or out of memory.
 pub fn audit_stream<S: Source>(
     alloc: Global,
     source: &mut S,
@@ -156,7 +156,8 @@ pub fn audit_stream<S: Source>(
     ensures right { IfOk result (λ counts. (text : List ℕ) × CameWhole (S.left source.old) (S.left source.new) text × IsCountOf text counts) }
     ensures bad { (fault : Fault Code) → result ≡ Err (StreamErr.Bad fault) → (text : List ℕ) × CameWhole (S.left source.old) (S.left source.new) text × IsFirstFault true text fault }
 
-    // A fault has its cause, and no fault goes untold. `TooLong` is answered exactly where one byte above the limit was taken.
+    // A fault has its cause, and no fault goes unreported. `TooLong` is answered exactly where one byte above the limit
+    // was taken.
     ensures fault { IsErrOf result StreamErr.ReadFault → Rose (S.faults source.old) (S.faults source.new) }
     ensures quiet { ¬ IsErrOf result StreamErr.ReadFault → S.faults source.new ≡ S.faults source.old }
     ensures too_long { IsErrOf result StreamErr.TooLong → Took (S.left source.old) (S.left source.new) (limit + 1) }
@@ -169,11 +170,11 @@ pub fn audit_stream<S: Source>(
     answer
 }
 
-/// The same, by a reader that has read nothing. Where the report is right, the reader knows in the end what all of it said,
-/// and so it does where only a bound is wrong. Where a record has a fault, the reader stands where that record would be due
-/// (`StandsAt`): so it can be told what was due. Where the source failed or had too much, the reader knows the records of a
-/// front of what came, or stands where one of them was refused; how long that front is is not said: it may have no record. Where
-/// memory is wanting, nothing is said of the reader.
+/// The same, with a reader that has read nothing. Where the report is right, or only a bound is wrong, the reader knows
+/// all of it in the end. Where a record has a fault, the reader is where that record would be due (`StandsAt`), so it
+/// shows what was due. Where the source failed or had too much, the reader knows the records of a front of what came,
+/// or is where one of them was refused; how long that front is is not promised: it may have no record. Out of memory,
+/// nothing is promised of the reader.
 ///
 /// # Errors
 ///
@@ -204,7 +205,7 @@ pub fn count_stream<S: Source>(
     }
 }
 
-// How much a report tells that was taken, or the first record that told a wrong bound.
+// How much the report that was taken has, or the first record with a wrong bound.
 fn counted(counting: &Counting) -> Result<AuditCounts, StreamErr>
     requires { (text : List ℕ) × HasTaken (list_code true) (is_list_done true) NoEnd KnowsCount text counting.now }
     ensures right { IfOk result (λ counts. (text : List ℕ) → HasTaken (list_code true) (is_list_done true) NoEnd KnowsCount text counting.now → IsCountOf text counts) }

@@ -12,7 +12,7 @@ pub enum StreamErr<C = Code> {
     ReadFault,
     /// The source had more bytes than the limit allows.
     TooLong,
-    /// Its text is none of the taker's kind: this is its first fault. It was read to its end.
+    /// Its text is not of the taker's kind: this is its first fault. It was read to its end.
     Bad(Fault<C>),
     /// Memory ran out.
     Memory,

@@ -1,4 +1,4 @@
-// What is kept of the bounds that were told of one key.
+// What is kept of the reported bounds of one key.
 ghost use Rattle.std.specs.Prelude.{◌≡◌};
 ghost use Rattle.rbound.specs.Bounds.{numbers_in};
 ghost use Rattle.rtrace_form.specs.Faults.{same_numbers};
@@ -9,16 +9,16 @@ use rbound::Bound;
 /// The first bound of a key, and what differs from it.
 #[derive(Clone, Copy)]
 pub(crate) struct Kept {
-    /// The number of the record that told the first bound.
+    /// The number of the record with the first bound.
     pub(crate) first: u64,
     /// This bound.
     pub(crate) bound: Bound,
-    /// The number of the first record that told another one, if one did.
+    /// The number of the first record with a different bound, if there is one.
     pub(crate) other: Option<u64>,
 }
 
 impl Kept {
-    /// What is kept once a record with this number told the first bound.
+    /// What is kept once the record with this number gave the first bound.
     pub(crate) fn new(number: u64, bound: Bound) -> Kept
         ensures { result ≡ first_kept number bound }
     {
@@ -29,7 +29,7 @@ impl Kept {
         }
     }
 
-    /// What is kept once a record with this number told one bound more, which has a higher number than those before.
+    /// What is kept once one more record gave a bound; its number is higher than those before.
     pub(crate) fn with(self, number: u64, bound: Bound) -> Kept
         ensures { result ≡ more_kept self number bound }
     {
@@ -43,7 +43,7 @@ impl Kept {
         }
     }
 
-    /// The first record that told a wrong bound, where this one is right.
+    /// The first record with a wrong bound, where this one is right.
     pub(crate) fn wrong(self, right: Bound) -> Option<u64>
         ensures { result ≡ wrong_by self (numbers_in right) }
     {
@@ -61,7 +61,7 @@ fn same_numbers(a: Bound, b: Bound) -> bool
     a.reads == b.reads && (a.writes == b.writes && a.units == b.units)
 }
 
-/// The lesser of two numbers that may be there.
+/// The lesser of two numbers, each of which may be missing.
 pub(crate) fn lesser(a: Option<u64>, b: Option<u64>) -> Option<u64>
     ensures { result ≡ lesser a b }
 {

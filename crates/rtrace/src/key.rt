@@ -1,4 +1,4 @@
-// What told bounds are looked up by, with its hash.
+// What reported bounds are looked up by, with its hash.
 ghost use Rattle.std.specs.Prelude.{◌≡◌};
 ghost use Rattle.rtrace.specs.Keys.{same_which};
 
@@ -7,7 +7,7 @@ use rbound_history::BoundKey;
 use std::alloc::AllocError;
 use std::hash::{Hash, Hasher};
 
-/// A wait whose bound is known once its history is told whole, to be looked up by a hash.
+/// A wait, to be looked up by a hash; its bound is known once its history is complete.
 pub(crate) struct Key {
     pub(crate) key: BoundKey,
 }

@@ -1,12 +1,9 @@
-//! Reading the text of an event list or of a report.
+//! Reads and checks event lists and reports, record by record. [`read_events`] and [`read_report`] answer the
+//! [`Report`] of a text in memory. [`audit_stream`] checks a report while its source is read, and holds only a window
+//! of the text.
 //!
-//! A text is read record by record: each is taken, or has the first fault of the text. The bounds of waits are judged once
-//! the history was told whole. What is told at the end is a whole list or report, or how much it tells, or one fault.
-//!
-//! The records of a source, taken while it is read: of a text only a window is held, however long the text is.
-//!
-//! Whether the bounds that a report tells are right, judged once its history was told whole: what is kept for that grows with
-//! the shapes of requests, and not with waits or events.
+//! The bounds of waits depend on the whole history, so they are judged at its end ([`BoundsKept`]). What is kept for
+//! that grows with the shapes of requests, not with waits or events.
 #![tactic(auto)]
 
 mod bounds;

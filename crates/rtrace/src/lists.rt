@@ -22,12 +22,12 @@ use rtrace_read::{TakenRecord, take};
 use rtrace_write::Report;
 use std::alloc::{AllocError, Global};
 
-/// Takes the records of a report, and keeps what they say, and what they tell of bounds.
+/// Takes the records of a report, and keeps what they say and the bounds that they report.
 #[derive(Drop)]
 pub struct ReportTaker {
     /// What the records said, without the bounds of waits.
     pub inner: Collecting,
-    /// What they told of bounds.
+    /// The bounds that they reported.
     pub bounds: BoundsKept,
 }
 
@@ -71,7 +71,7 @@ impl Records for ReportTaker {
 }
 
 impl ReportTaker {
-    // Keeps what a record told that the reader took.
+    // Keeps what a record said that the reader took.
     fn keep(&mut self, taken: TakenRecord) -> Result<(), AllocError>
         requires { (old : ReportReader) × (rows : List Row) × (row : Row) × KnowsBounds self.old.bounds rows × HasRead old self.old.inner.reading rows row taken × (length rows < 2 ^ 62) }
         ensures kept { OnOk result (Keeps taken self.old.inner self.new.inner) }
@@ -83,11 +83,11 @@ impl ReportTaker {
     }
 }
 
-/// Reads an event list. It has no acts, and its ledgers are as they open. What is read may be written as a report.
+/// Reads an event list. It has no acts, and its ledgers are unchanged. What is read may be written as a report.
 ///
 /// # Errors
 ///
-/// The first fault of a text that is no event list, or want of memory.
+/// The first fault of a text that is not an event list, or out of memory.
 pub fn read_events(alloc: Global, bytes: &[u8]) -> Result<Report, TextErr>
     ensures list { IfOk result (λ r. IsTextOf false bytes.now (told_by r) × IsOverResources r × HasItsLedgers r) }
     ensures writable { IfOk result (λ r. MayBeWritten (told_by r)) }
@@ -116,7 +116,7 @@ fn take_list(alloc: Global, bytes: &[u8], taker: &mut Collecting) -> Result<Repo
 ///
 /// # Errors
 ///
-/// The first fault of a text that is no report, or want of memory.
+/// The first fault of a text that is not a report, or out of memory.
 pub fn read_report(alloc: Global, bytes: &[u8]) -> Result<Report, TextErr>
     ensures report { IfOk result (λ r. IsTextOf true bytes.now (told_by r) × IsOverResources r × HasItsLedgers r) }
     ensures writable { IfOk result (λ r. MayBeWritten (told_by r)) }
@@ -144,7 +144,7 @@ fn take_report(alloc: Global, bytes: &[u8], taker: &mut ReportTaker) -> Result<R
     }
 }
 
-// The report of what was taken, which is given away, or the first record that told a wrong bound.
+// The report of what was taken, which is moved out, or the first record with a wrong bound.
 fn finished(taker: &mut ReportTaker) -> Result<Report, TextErr>
     requires { (bytes : List ℕ) × HasTaken (list_code true) (is_list_done true) NoEnd KnowsReport bytes taker.old }
     ensures report { IfOk result (λ r. (bytes : List ℕ) → HasTaken (list_code true) (is_list_done true) NoEnd KnowsReport bytes taker.old → IsTextOf true bytes (told_by r) × IsOverResources r × HasItsLedgers r) }

@@ -1,4 +1,4 @@
 // What the takers of a text own.
 
-/// Drops a value: once for its type, and not field by field in each function that owns one.
+/// Drops a value. So the code for it is there once per type, and not in each function that owns such a value.
 pub(crate) fn let_go<T: Drop>(_value: T) {}

@@ -1,4 +1,4 @@
-// The bounds that records tell of the waits of one history, which is told event by event.
+// The reported bounds of the waits of one history, which is given event by event.
 ghost use Rattle.std.specs.Prelude.{◌≡◌, ◌≤◌, ◌++◌, ◌∷◌, [], ℕ, List, IfOk, OnOk, OnErr, map};
 ghost use Rattle.rexpand.specs.Groups.{ReadGroups};
 ghost use Rattle.rclaim.specs.declared.event.Event.{Event};
@@ -22,21 +22,21 @@ use rcover_laws::WaitEnd;
 use rexpand::Groups;
 use std::alloc::{AllocError, Global};
 
-/// The bounds that records tell of the waits of a history, and what the history needs so far. It keeps no list of records,
-/// waits or events.
+/// The reported bounds of the waits of a history, and what the history needs so far. It keeps no list of records, waits
+/// or events.
 #[derive(Drop)]
 pub struct ToldBounds {
     needs: GrowingNeeds,
-    /// Of each key of which a bound was told.
+    /// For each key with a reported bound.
     kept: IndexMap<Key, Kept>,
 }
 
 impl ToldBounds {
-    /// A history without events, of so many tasks: one at each seat. No bound is told yet.
+    /// A history without events, of so many tasks: one at each seat. No bound is reported yet.
     ///
     /// # Errors
     ///
-    /// Want of memory.
+    /// Out of memory.
     pub fn new(alloc: Global, tasks: u8) -> Result<ToldBounds, AllocError>
         ensures { IfOk result (λ made. (groups : ReadGroups) (cap : ℕ) → KnowsTold made groups tasks cap [] []) }
     {
@@ -46,11 +46,11 @@ impl ToldBounds {
         })
     }
 
-    /// Tells it the next event of the history, which is accepted behind those before.
+    /// Takes the next event of the history, which is accepted after those before.
     ///
     /// # Errors
     ///
-    /// Want of memory. Nothing changes then.
+    /// Out of memory. Nothing changes then.
     pub fn happen(&mut self, event: &Event) -> Result<(), AllocError>
         requires { (groups : ReadGroups) × (seats : ℕ) × (cap : ℕ) × (events : List Event) × (items : List Told) × KnowsTold self.old groups seats cap events items × AreAccepted (opening groups seats cap) (events ++ event.now ∷ []) }
         ensures ok { OnOk result ((groups : ReadGroups) (seats cap : ℕ) (events : List Event) (items : List Told) → KnowsTold self.old groups seats cap events items → AreAccepted (opening groups seats cap) (events ++ event.now ∷ []) → KnowsTold self.new groups seats cap (events ++ event.now ∷ []) items) }
@@ -59,11 +59,11 @@ impl ToldBounds {
         self.needs.told(event)
     }
 
-    /// A record with this number, higher than those before, tells the bound of a wait that the last event ended.
+    /// A record with this number, higher than those before, reports the bound of a wait that the last event ended.
     ///
     /// # Errors
     ///
-    /// Want of memory. Nothing is told then.
+    /// Out of memory. The bound is not counted then.
     pub fn told(&mut self, wait: &WaitEnd, bound: Bound, number: u64) -> Result<(), AllocError>
         requires { (groups : ReadGroups) × (seats : ℕ) × (cap : ℕ) × (events : List Event) × (items : List Told) × KnowsTold self.old groups seats cap events items × IsLastEnded groups seats cap events wait.now × AreBefore number items }
         ensures ok { OnOk result ((groups : ReadGroups) (seats cap : ℕ) (events : List Event) (items : List Told) → KnowsTold self.old groups seats cap events items → IsLastEnded groups seats cap events wait.now → AreBefore number items → KnowsTold self.new groups seats cap events (items ++ record { number = number; wait = wait.now; bound = numbers_in bound } ∷ [])) }
@@ -80,12 +80,12 @@ impl ToldBounds {
         Ok(())
     }
 
-    /// The number of the first record that told a wrong bound, once the history was told whole, over its groups and under its
+    /// The number of the first record with a wrong bound, once the history is complete, over its groups and under its
     /// cap; None where all were right.
     ///
     /// # Errors
     ///
-    /// Want of memory.
+    /// Out of memory.
     pub fn first_wrong(
         &self,
         alloc: Global,
@@ -96,7 +96,7 @@ impl ToldBounds {
         requires told { (seats : ℕ) × (events : List Event) × (items : List Told) × KnowsTold self.now groups seats cap events items }
         ensures { IfOk result (λ first. (seats : ℕ) (events : List Event) (items : List Told) → KnowsTold self.now groups seats cap events items → first ≡ first_other (said items) (map (bound_by groups seats cap events) (waits_of items))) }
     {
-        // Where no bound was told, none is looked up, and no table of them is made.
+        // Where no bound was reported, none is looked up, and no table of bounds is made.
         if self.kept.is_empty() {
             return Ok(None);
         }
@@ -104,7 +104,7 @@ impl ToldBounds {
         Ok(self.first_by(&bounds))
     }
 
-    /// The same, by the bounds of all waits of the history.
+    /// The same, given the bounds of all waits of the history.
     fn first_by(&self, bounds: &WaitBounds) -> Option<u64>
         requires { (groups : ReadGroups) × (seats : ℕ) × (cap : ℕ) × (events : List Event) × AreBoundsOf bounds.now groups seats cap events × AreOfWaits groups seats cap events self.now.kept.entries }
         ensures { (groups : ReadGroups) (seats cap : ℕ) (events : List Event) → AreBoundsOf bounds.now groups seats cap events → AreOfWaits groups seats cap events self.now.kept.entries → result ≡ least_wrong (bound_of_key groups seats cap events) self.now.kept.entries }

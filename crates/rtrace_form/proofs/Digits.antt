@@ -1,4 +1,4 @@
--- Reading a field digit by digit tells the number that the whole field tells.
+-- Reading a field digit by digit gives the number of the whole field.
 use Rattle.std.proofs.Common.{◌≡◌, ℕ, ◌+◌, ◌-◌, ◌*◌, ◌^◌, ◌<◌, ◌≤◌, Bool, true, false, ◌&&◌, cond, List, [], ◌∷◌, length, drop, get_or, Option, Some, None, nat_lt, nat_le, refl, sym, ap, ◌∙◌, arith}
 use Rattle.std.specs.Prelude.{option_and_then}
 use Rattle.std.specs.List.{list_all}
@@ -6,7 +6,7 @@ use Rattle.std.proofs.lemmas.Bool.{lt-ltb, le-ltb, ltb-false, le-leb}
 use Rattle.std.proofs.lemmas.List.{at_drop_more, at_drop_all}
 use Rattle.rtrace_form.specs.Numbers.{is_digit, read_on, digit_behind, number_told}
 
--- what is told once these digits stand behind n, one after another
+-- the number once these digits follow those of n, one after another
 unfoldable pub told_on : ℕ → List ℕ → Option ℕ
 told_on n [] = Some n
 told_on n (c ∷ cs) = option_and_then (λ m. told_on m cs) (digit_behind n c)
@@ -19,7 +19,7 @@ read_on_grows n (c ∷ cs) = omega (arith, read_on_grows (10 * n + (c - 48)) cs)
 too_large : (top n : ℕ) (field : List ℕ) → nat_lt n top ≡ false → nat_lt (read_on n field) top ≡ false
 too_large top n field h = le-ltb _ _ (omega (arith, read_on_grows n field, ltb-false n top h))
 
--- what the digits behind n tell, as a whole
+-- the number of the digits after those of n, as a whole
 unfoldable whole : ℕ → List ℕ → Option ℕ
 whole n field = cond (list_all is_digit field && nat_lt (read_on n field) (2 ^ 64)) (Some (read_on n field)) None
 
@@ -39,7 +39,7 @@ unfolding told_on whole
 told_whole n [] h = sym (ap (λ b. cond b (Some n) None) h)
 told_whole n (c ∷ cs) h = one_digit (is_digit c) (nat_lt (10 * n + (c - 48)) (2 ^ 64)) (10 * n + (c - 48)) cs refl (told_whole (10 * n + (c - 48)) cs)
 
--- what a field of 1 to 20 bytes tells
+-- the number of a field of 1 to 20 bytes
 pub told_by_digits : (field : List ℕ) → 0 < length field → length field ≤ 20 → number_told field ≡ told_on 0 field
 unfolding whole
 told_by_digits field some few =
@@ -47,7 +47,7 @@ told_by_digits field some few =
     ∙ ap (λ b. cond (b && list_all is_digit field && nat_lt (read_on 0 field) (2 ^ 64)) (Some (read_on 0 field)) None) (le-leb (length field) 20 few)
     ∙ sym (told_whole 0 field refl)
 
--- the digits before i have told n
+-- the digits before i have given n
 pub record IsToldBefore (field : List ℕ) (i n : ℕ) : Type 0 where
   pub rest : told_on n (drop i field) ≡ told_on 0 field
 

@@ -8,7 +8,7 @@ use Rattle.rtrace_form.proofs.facts.Choices.{some_none, and_then_some, map_some}
 use Rattle.rtrace_form.specs.declared.requests.RequestLengths.{RequestLengths}
 use Rattle.rtrace_form.specs.Requests.{request_lengths, length_field, later_told}
 
--- both lengths, where they are told
+-- both lengths, where they are there
 pub record AreLengths (kind : Kind) (at : ℕ) (row : Row) (lengths : RequestLengths) : Type 0 where
   pub len : length_told (length_field kind at row) ≡ Some lengths.len
   pub later : later_told kind at row ≡ Some lengths.later
@@ -19,7 +19,7 @@ lengths_are kind at row lengths h =
     let b = map_some (λ later. record { len = a.0; later = later }) (later_told kind at row) lengths a.2 in
     record { len = a.1 ∙ ap (λ (l : RequestLengths). Some l.len) b.2; later = b.1 ∙ ap (λ (l : RequestLengths). Some l.later) b.2 }
 
--- where none are told, one of their fields tells none
+-- where there are none, one of their fields has no length
 pub none_one : (o : Option ℕ) → option_and_then (λ len. option_map (λ later. let l : RequestLengths = record { len = len; later = later } in l) (Some 0)) o ≡ None → (not (is_none o) && true) ≡ false
 none_one None h = refl
 none_one (Some n) h = absurd (some_none (sym h))

@@ -11,7 +11,7 @@ use Rattle.rtrace_form.specs.declared.word.Word.{Word}
 use Rattle.rtrace_form.proofs.facts.Tests.{both_of}
 use Rattle.rtrace_form.specs.Told.{IsOf, Says, IsUnknown}
 
--- what fields say, the first of which stands at this place of the record
+-- what fields say, where the first of them is at this place of the record
 abbrev pub read_at : Names → (fs : List Field) → ℕ → Row → Option (Values fs)
 read_at names [] k row = Some tt
 read_at names (f ∷ fs) k row = read_with names f (field_of row k) (read_at names fs (suc k) row)

@@ -29,7 +29,7 @@ number_none x h = at (is_number x) h
     at true e = absurd (some_none (sym e))
     at false e = refl
 
--- the word of an event that is none of the others is that of an ask
+-- the word of an event that is not any of the others is that of an ask
 pub ask_by : (w : Word) → is_event w ≡ true → ((kind : _) → w ≡ word.Issue kind → ⊥) → (w ≡ word.Finish → ⊥) → (w ≡ word.Rise → ⊥) → w ≡ word.Ask
 ask_by (word.Issue kind) h a b c = absurd (a kind refl)
 ask_by word.Finish h a b c = absurd (b refl)
@@ -37,7 +37,7 @@ ask_by word.Rise h a b c = absurd (c refl)
 ask_by word.Ask h a b c = refl
 ask_by _ h a b c = absurd (true≢false (sym h))
 
--- a change that a record tells is one of the seat that it is told of
+-- a change in a record is of the seat that the record names
 pub change_seat : (w : Word) (seat : ℕ) → (change_by w seat).seat ≡ seat
 change_seat (word.Entitled half) seat = refl
 change_seat (word.Satisfied half) seat = refl
@@ -63,7 +63,7 @@ module _ (rs ts : List (List ℕ)) (row : Row) where
   pub finish_unknown : IsOf word.Finish row → number_in ts (field_of row 1) ≡ None → IsUnknown (names_by rs ts) word.Finish row
   finish_unknown form none = unknown_at (names_by rs ts) word.Finish row form refl (ap (λ o. paired o (Some tt)) none)
 
-  -- an event that is no issue names a task that is not declared
+  -- an event that is not an issue names a task that is not declared
   pub task_unknown : (w : Word) → is_event w ≡ true → ((kind : _) → w ≡ word.Issue kind → ⊥) → IsOf w row → number_in ts (field_of row 1) ≡ None → IsUnknown (names_by rs ts) w row
   task_unknown (word.Issue kind) h other form none = absurd (other kind refl)
   task_unknown word.Finish h other form none = finish_unknown form none

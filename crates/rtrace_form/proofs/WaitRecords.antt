@@ -17,7 +17,7 @@ use Rattle.rtrace_form.specs.WaitRecords.{numbers_by, numbers_told}
 use Rattle.rtrace_form.proofs.Places.{says_at, unknown_at, uncounted_at}
 use Rattle.rtrace_form.proofs.Said.{number_is, number_none}
 
--- each of three fields tells its number
+-- each of three fields is its number
 record AreTold (x y z : List ℕ) (n : Numbers) : Type 0 where
   reads : number_told x ≡ Some n.reads
   writes : number_told y ≡ Some n.writes
@@ -35,7 +35,7 @@ told_three x y z n None b c p q r h = absurd (some_none h)
 told_three x y z n (Some a) None c p q r h = absurd (some_none h)
 told_three x y z n (Some a) (Some b) None p q r h = absurd (some_none h)
 
--- one of three fields is no number, where they tell none together
+-- one of three fields is not a number, where they give no numbers together
 none_three : (x y z : List ℕ) (rest : Bool) (a b c : Option ℕ) → number_told x ≡ a → number_told y ≡ b → number_told z ≡ c → three a b c ≡ None
     → (is_number x && (is_number y && (is_number z && rest))) ≡ false
 unfolding three

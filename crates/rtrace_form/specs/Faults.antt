@@ -1,4 +1,4 @@
--- What is wrong with a record, told from it and from what the records before it have said.
+-- What is wrong with a record, given what the records before it have said.
 use Rattle.std.specs.Prelude.{ℕ, Bool, true, false, not, ◌&&◌, ◌||◌, ◌==◌, nat_le, nat_lt, List, [], ◌∷◌, length, fold, Option, Some, None, option_map, if◌then◌else◌}
 use Rattle.std.specs.FinSet.{len}
 use Rattle.rset.specs.Sets.{equals}
@@ -32,16 +32,16 @@ use Rattle.rtrace_form.specs.declared.fault.Refusal.{Refusal}
 
 -- ---- lines
 
--- two tests say the same
+-- two tests answer the same
 abbrev pub same_answer : Bool → Bool → Bool
 same_answer true b = b
 same_answer false b = not b
 
--- a ledger is another
+-- two ledgers are the same
 abbrev pub same_ledger : Ledger → Ledger → Bool
 same_ledger a b = (a.balance == b.balance) && (a.edits == b.edits)
 
--- the same wait of a request is told
+-- two stages are the same wait of a request
 abbrev pub same_stage : Stage → Stage → Bool
 same_stage stage.First stage.First = true
 same_stage stage.Rise stage.Rise = true
@@ -52,7 +52,7 @@ same_stage _ _ = false
 abbrev pub same_numbers : Numbers → Numbers → Bool
 same_numbers a b = (a.reads == b.reads) && ((a.writes == b.writes) && (a.units == b.units))
 
--- a line that may be due is the other: spelling, and the order of members in a set, make no difference; bounds are not compared here
+-- a line that may be due is the other one: spelling and the order of members in a set make no difference; bounds are not compared here
 abbrev pub is_same_line : Line → Line → Bool
 is_same_line (BecomesEntitled seat half) (BecomesEntitled other claim) = (seat == other) && same_answer half claim
 is_same_line (BecomesSatisfied seat half) (BecomesSatisfied other claim) = (seat == other) && same_answer half claim
@@ -66,7 +66,7 @@ abbrev pub is_first : List Line → Line → Bool
 is_first [] line = false
 is_first (first ∷ lines) line = is_same_line first line
 
--- a line tells a change, or a wait that is over
+-- a line is of a change, or of a wait that is over
 abbrev pub is_change : Line → Bool
 is_change (BecomesEntitled seat half) = true
 is_change (BecomesSatisfied seat half) = true
@@ -84,31 +84,31 @@ is_ledger _ = false
 
 -- ---- causes
 
--- a group more than there may be is declared
+-- one group more than allowed is declared
 abbrev pub is_group_more : SoFar → Word → Bool
 is_group_more s word.Group = length s.groups == GROUPS
 is_group_more s _ = false
 
--- the name that is declared is none, is there, or is past the limit; or the group has no member
+-- the name that is declared is not a name, is already declared or is past the limit; or the group has no member
 abbrev pub is_badly_declared : SoFar → Line → Bool
 is_badly_declared s (HasResource name) = is_bad_name RESOURCES s.resources name
 is_badly_declared s (HasGroup group) = len group == 0
 is_badly_declared s (HasTask name) = is_bad_name SEATS s.tasks name
 is_badly_declared s _ = false
 
--- a line that tells a change is due
+-- a line of a change is due
 abbrev pub is_change_due : SoFar → Bool
 is_change_due s = nat_lt s.last at_ledgers && not (is_nil s.due)
 
--- a line of this word may come behind the place of the last one
+-- a line of this word may come after the place of the last one
 abbrev pub may_follow : ℕ → Stand → Bool
 may_follow last stand = nat_le stand.least last && nat_le last stand.most
 
--- it tells a ledger, and all ledgers were told
+-- it is a ledger, and all ledgers were already given
 abbrev pub is_ledger_more : Bool → SoFar → Line → Bool
 is_ledger_more whole s line = is_ledger line && is_nil (ledgers_due whole s)
 
--- it may not stand there; where a change is due it is a wrong change instead
+-- it may not come here; where a change is due it is a wrong change instead
 abbrev pub is_out_of_place : Bool → SoFar → Line → Bool
 is_out_of_place whole s line = (not (may_follow s.last (stands (word_of line))) || is_ledger_more whole s line) && not (is_change_due s)
 
@@ -121,7 +121,7 @@ refused s _ = None
 abbrev pub is_act_here : SoFar → Line → Bool
 is_act_here s line = is_act line && (s.last == at_acts)
 
--- it tells a change, and is not the one that is due; or one is due, and it tells none
+-- it is a line of a change and not the one that is due; or one is due and it is another kind of line
 abbrev pub is_wrong_change : SoFar → Line → Bool
 is_wrong_change s line =
     if is_change line then not (is_change_due s && is_first s.due line) else is_change_due s && not (is_act_here s line)
@@ -131,7 +131,7 @@ abbrev pub is_answered : Ledger → Act Edit → Bool
 is_answered ledger (Edited place edit done) = same_answer done (is_taken ledger edit)
 is_answered ledger (Shown place number) = number == ledger.balance
 
--- the act is right as the next of an entry: it may be told with the event, the seat holds what it is about, and it has the answer
+-- the act is right as the next one of an entry: it may come with the event, the seat holds its resource, and its answer is right
 abbrev pub is_right_act : SoFar → Entry → Act Edit → Bool
 is_right_act s entry act =
     stands_with entry.event act
@@ -148,7 +148,7 @@ abbrev pub is_wrong_act : SoFar → Line → Bool
 is_wrong_act s (Does act) = not (is_right_in s s.latest act)
 is_wrong_act s _ = false
 
--- it tells a ledger, and is not the one that is due; or it is the end, and one is due
+-- it is a ledger and not the one that is due; or it is the end, and a ledger is due
 abbrev pub is_wrong_ledger : Bool → SoFar → Line → Bool
 is_wrong_ledger whole s (Leaves place ledger) = not (is_first (ledgers_due whole s) (Leaves place ledger))
 is_wrong_ledger whole s Ends = not (is_nil (ledgers_due whole s))

@@ -19,7 +19,7 @@ pub record AreTables (names : Names) : Type 0 where
   pub resources : is_table RESOURCES names.resources ≡ true
   pub tasks : is_table SEATS names.tasks ≡ true
 
--- what a field may be: just this word, a name that it declares, a resource, a task, a set of resources, a number, a length or a cap
+-- what a field may be: exactly this word, a name that it declares, a resource, a task, a set of resources, a number, a length or a cap
 pub data Field : Type 0 where
   Said : List ℕ → Field
   Fresh : Field
@@ -30,7 +30,7 @@ pub data Field : Type 0 where
   Length : Field
   Limit : Field
 
--- what a field says, before what those behind it say; a word says nothing more
+-- what a field says, before what those after it say; a word says nothing more
 abbrev pub With : Field → Type 0 → Type 0
 With (Said word) Rest = Rest
 With Fresh Rest = List ℕ × Rest
@@ -48,51 +48,51 @@ Values (f ∷ fs) = With f (Values fs)
 
 -- ---- form
 
--- a record has as many fields
+-- a record has this many fields
 abbrev pub is_as_long : List Field → Row → Bool
 is_as_long [] [] = true
 is_as_long [] (x ∷ row) = false
 is_as_long (f ∷ fs) [] = false
 is_as_long (f ∷ fs) (x ∷ row) = is_as_long fs row
 
--- a field is the word that it is to be
+-- a field is the word that it must be
 abbrev pub is_said : Field → List ℕ → Bool
 is_said (Said word) x = bytes_eq x word
 is_said _ x = true
 
--- each field is
+-- each field is the word that it must be
 abbrev pub are_said : List Field → Row → Bool
 are_said [] row = true
 are_said (f ∷ fs) [] = true
 are_said (f ∷ fs) (x ∷ row) = is_said f x && are_said fs row
 
--- a record has these fields: as many, and the words where they are to be
+-- a record has these fields: this many, and the words where they must be
 unfoldable pub has_form : List Field → Row → Bool
 has_form fs row = is_as_long fs row && are_said fs row
 
 -- ---- what is wrong with fields
 
--- a field that is to be a number is one, within its limit
+-- a field that must be a number is one, within its limit
 abbrev pub is_counted : Field → List ℕ → Bool
 is_counted Number x = is_number x
 is_counted Length x = not (is_none (length_told x))
 is_counted Limit x = not (is_none (cap_told x))
 is_counted _ x = true
 
--- each field that is to be a number is
+-- each field that must be a number is one
 unfoldable pub all_counted : List Field → Row → Bool
 all_counted [] row = true
 all_counted (f ∷ fs) [] = true
 all_counted (f ∷ fs) (x ∷ row) = is_counted f x && all_counted fs row
 
--- a field that is to name what was declared does
+-- a field that must name something declared does
 abbrev pub is_known : Names → Field → List ℕ → Bool
 is_known names OneResource x = not (is_none (number_in names.resources x))
 is_known names OneTask x = not (is_none (number_in names.tasks x))
 is_known names Members x = not (is_none (set_told names.resources x))
 is_known names _ x = true
 
--- each field that is to name what was declared does
+-- each field that must name something declared does
 unfoldable pub all_known : Names → List Field → Row → Bool
 all_known names [] row = true
 all_known names (f ∷ fs) [] = true
@@ -104,7 +104,7 @@ all_known names (f ∷ fs) (x ∷ row) = is_known names f x && all_known names f
 abbrev pub paired : {X Y : Type 0} → Option X → Option Y → Option (X × Y)
 paired x rest = option_and_then (λ a. option_map (λ b. (a, b)) rest) x
 
--- what a field says, before what those behind it say
+-- what a field says, before what those after it say
 abbrev pub read_with : {Rest : Type 0} → Names → (f : Field) → List ℕ → Option Rest → Option (With f Rest)
 read_with names (Said word) x rest = rest
 read_with names Fresh x rest = option_map (λ b. (x, b)) rest
@@ -122,7 +122,7 @@ read names [] (x ∷ row) = None
 read names (f ∷ fs) [] = None
 read names (f ∷ fs) (x ∷ row) = read_with names f x (read names fs row)
 
--- the field that says this, before those behind it
+-- the field that says this, before those after it
 abbrev pub write_with : {Rest : Type 0} → Names → (f : Field) → (Rest → Row) → With f Rest → Row
 write_with names (Said word) rest v = word ∷ rest v
 write_with names Fresh rest v = v.0 ∷ rest v.1
@@ -138,7 +138,7 @@ unfoldable pub write : Names → (fs : List Field) → Values fs → Row
 write names [] v = []
 write names (f ∷ fs) v = write_with names f (write names fs) v
 
--- what a field says may be written: it is of what was declared, and a number is within its limit
+-- what a field says may be written: it is about declared names, and a number is within its limit
 abbrev pub GoodWith : {Rest : Type 0} → Names → (f : Field) → (Rest → Type 0) → With f Rest → Type 0
 GoodWith names (Said word) rest v = rest v
 GoodWith names Fresh rest v = rest v.1

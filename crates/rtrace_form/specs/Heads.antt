@@ -29,11 +29,11 @@ read_groups head = record { q = length head.resources; groups = head.groups }
 abbrev pub opening_of : Head → LockState
 opening_of head = opening (read_groups head) (length head.tasks) head.cap
 
--- the cap that was told, and else the number of tasks
+-- the cap in the text, or else the number of tasks
 abbrev pub cap_or : List (List ℕ) → Option ℕ → ℕ
 cap_or tasks told = unwrap_or told (length tasks)
 
--- nothing stands there
+-- the list is empty
 abbrev pub is_nil : {X : Type 0} → List X → Bool
 is_nil [] = true
 is_nil (x ∷ xs) = false
@@ -42,15 +42,15 @@ is_nil (x ∷ xs) = false
 abbrev pub has_member : Set → Bool
 has_member s = not (len s == 0)
 
--- each group has a member, and there are no more than there may be
+-- each group has a member, and there are no more than allowed
 abbrev pub are_read_groups : List Set → Bool
 are_read_groups groups = list_all has_member groups && nat_le (length groups) GROUPS
 
--- a table of at most so many names takes no such name behind these: it is none, it is there, or the table is full
+-- a table of at most so many names does not take this name after those in it: it is not a name, it is already there, or the table is full
 abbrev pub is_bad_name : ℕ → List (List ℕ) → List ℕ → Bool
 is_bad_name limit names name = not (is_name name) || knows names name || (length names == limit)
 
--- a head is one that a text may have, whose cap record tells this, or that has none: each table has a name, and different ones
+-- a head is one that a text may have, where `told` is what its cap record says, if it has one: no table is empty, and the names of each differ
 pub record IsHead (head : Head) (told : Option ℕ) : Type 0 where
   pub resources_named : is_table RESOURCES head.resources ≡ true
   pub tasks_named : is_table SEATS head.tasks ≡ true

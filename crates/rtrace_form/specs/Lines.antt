@@ -71,14 +71,14 @@ line_by (word.Wait which) v =
 line_by word.Ledger v = Leaves v.0 (record { balance = v.1.0; edits = v.1.1.0 })
 line_by word.End v = Ends
 
--- the word of the record that tells an event
+-- the word of the record of an event
 abbrev pub event_word : Event → Word
 event_word (Issue seat r) = word.Issue r.kind
 event_word (Finish seat) = word.Finish
 event_word (Rise seat) = word.Rise
 event_word (Ask seat part) = word.Ask
 
--- the word of the record that tells an act
+-- the word of the record of an act
 abbrev pub act_word : Act Edit → Word
 act_word (Shown place number) = word.Show
 act_word (Edited place (edit.Add n) done) = word.Add done
@@ -150,18 +150,18 @@ meaning whole names row = meant_as names row (word_in whole row)
 abbrev pub spelled : Names → Line → Row
 spelled names line = write names (fields_of (word_of line)) (values_of line)
 
--- an event that a line tells is in normal form
+-- an event on a line is in normal form
 abbrev pub IsNormalLine : Line → Type 0
 IsNormalLine (Happens e) = IsNormalEvent e
 IsNormalLine _ = Unit {0}
 
--- a name that a line declares is one
+-- a name that a line declares is a name
 abbrev pub IsNamedLine : Line → Type 0
 IsNamedLine (HasResource name) = is_name name ≡ true
 IsNamedLine (HasTask name) = is_name name ≡ true
 IsNamedLine _ = Unit {0}
 
--- a line may be written by these names: what it tells is declared, and its numbers are within their limits
+-- a line may be written by these names: what it mentions is declared, and its numbers are within their limits
 pub record IsWritable (names : Names) (line : Line) : Type 0 where
   pub good : AllGood names (fields_of (word_of line)) (values_of line)
   pub normal : IsNormalLine line

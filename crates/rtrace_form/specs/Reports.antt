@@ -27,7 +27,7 @@ use Rattle.rtrace_form.specs.Heads.{Head, names_of, opening_of, IsHead}
 use Rattle.rtrace_form.specs.Lines.{Line, Opens, HasResource, HasGroup, HasTask, HasCap, Happens, Does, BecomesEntitled, BecomesSatisfied, Grants, Waits, Leaves, Ends, meaning}
 use Rattle.rtrace_form.specs.Waits.{stage_of, cover_of, ended_in, bound_in}
 
--- an event, with the acts that are told with it
+-- an event with its acts
 abbrev pub Entry : Type 0
 Entry = EntryFields Edit
 
@@ -69,25 +69,25 @@ IsLawful head entries =
 
 -- ---- lines
 
--- the line that tells a claim's new status; no claim is told to wait
+-- the line of a claim's new status; waiting has no line
 abbrev pub status_lines : ℕ → Bool → Status → List Line
 status_lines seat write_half Waiting = []
 status_lines seat write_half Entitled = BecomesEntitled seat write_half ∷ []
 status_lines seat write_half Satisfied = BecomesSatisfied seat write_half ∷ []
 
--- the line of a status that is told: satisfied, or else entitled
+-- the line of a status: satisfied, or else entitled
 abbrev pub status_line : StatusChange → Line
 status_line c = if satisfied_by c.status then BecomesSatisfied c.seat c.write_half else BecomesEntitled c.seat c.write_half
 
--- the line that tells all that a request holds now
+-- the line of all that a request holds now
 abbrev pub grant_line : GrantChange → Line
 grant_line change = Grants change.seat (union change.reads change.writes)
 
--- the lines that tell changes
+-- the lines of changes
 abbrev pub told_changes : ChangeLists → List Line
 told_changes changes = flat_map (λ (c : StatusChange). status_lines c.seat c.write_half c.status) changes.statuses ++ map grant_line changes.grants
 
--- the lines that tell what an event changes in a state; an event list tells none
+-- the lines of what an event changes in a state; an event list has none
 unfoldable pub change_lines : Bool → LockState → Event → List Line
 change_lines whole s e = if whole then told_changes (changes_between s (next s e)) else []
 
@@ -95,15 +95,15 @@ change_lines whole s e = if whole then told_changes (changes_between s (next s e
 abbrev pub EachChangeIsTold : LockState → Event → Type 0
 EachChangeIsTold s e = change_lines true s e ≡ map status_line (changes_between s (next s e)).statuses ++ map grant_line (changes_between s (next s e)).grants
 
--- the line that tells a wait that is over, by the bounds of waits
+-- the line of a wait that is over, by the bounds of waits
 abbrev pub wait_line : (WaitEnd → Numbers) → WaitEnd → Line
 wait_line bounds w = Waits w.seat (stage_of w.which) (cover_of w) (bounds w)
 
--- the lines that tell the waits that an event behind earlier entries ends; an event list tells none
+-- the lines of the waits that an event after earlier entries ends; an event list has none
 unfoldable pub wait_lines : Bool → (WaitEnd → Numbers) → Head → List Entry → Event → List Line
 wait_lines whole bounds head earlier e = if whole then map (wait_line bounds) (ended_in head earlier e) else []
 
--- the lines that are due behind an event and its acts: what it changes, and then the waits that it ends
+-- the lines that are due after an event and its acts: what it changes, and then the waits that it ends
 abbrev pub due_lines : Bool → (WaitEnd → Numbers) → Head → List Entry → Event → List Line
 due_lines whole bounds head earlier e = change_lines whole (lock_after head earlier) e ++ wait_lines whole bounds head earlier e
 
@@ -111,17 +111,17 @@ due_lines whole bounds head earlier e = change_lines whole (lock_after head earl
 abbrev pub entry_lines : Bool → (WaitEnd → Numbers) → Head → List Entry → Entry → List Line
 entry_lines whole bounds head earlier entry = Happens entry.event ∷ (map Does entry.acts ++ due_lines whole bounds head earlier entry.event)
 
--- the lines of entries behind earlier ones
+-- the lines of entries after earlier ones
 unfoldable pub history_lines : Bool → (WaitEnd → Numbers) → Head → List Entry → List Entry → List Line
 history_lines whole bounds head earlier [] = []
 history_lines whole bounds head earlier (entry ∷ entries) = entry_lines whole bounds head earlier entry ++ history_lines whole bounds head (earlier ++ entry ∷ []) entries
 
--- the lines that tell the ledgers at the end, by the numbers of the resources; an event list tells none
+-- the lines of the ledgers at the end, by the numbers of the resources; an event list has none
 unfoldable pub ledger_lines : Bool → Head → List Entry → List Line
 ledger_lines whole head entries =
     if whole then map (λ l. Leaves l (ledger_after entries l)) (range_with_len 0 (length head.resources)) else []
 
--- the lines of a head, whose cap record tells this, if it has one
+-- the lines of a head, where the last argument is what its cap record says, if it has one
 abbrev pub declared_lines : List (List ℕ) → List Set → List (List ℕ) → Option ℕ → List Line
 declared_lines resources groups tasks told =
     Opens ∷ (map HasResource resources ++ (map HasGroup groups ++ (map HasTask tasks ++ map HasCap (option_to_list told))))
@@ -135,8 +135,8 @@ lines_of whole bounds told r = head_lines r.head told ++ (history_lines whole bo
 
 -- ---- the grammar
 
--- these records spell the report, or where it is not `whole`, the event list: each says the line at its place, by the names that the head declares;
--- the bounds are by what the whole history needs
+-- these records spell the report, or the event list where it is not `whole`: each says the line at its place, by the names that the head declares;
+-- the bounds are those by what the whole history needs
 pub record Spells (whole : Bool) (rows : List Row) (r : Report) : Type 0 where
   pub told : Option ℕ
   pub said : AllZip (λ row line. meaning whole (names_of r.head) row ≡ Some line) rows (lines_of whole (bound_in r.head r.entries) told r)

@@ -1,4 +1,4 @@
--- The request that a record tells: its sets, its lengths, and its normal form. `at` is the place of its first set.
+-- The request in a record: its sets, its lengths, and its normal form. `at` is the place of its first set.
 use Rattle.std.specs.Prelude.{◌≡◌, ◌+◌, ℕ, List, Option, Some, Result, MatchResult, option_map, option_and_then}
 use Rattle.std.specs.FinSet.{empty}
 use Rattle.rset.specs.Sets.{Set}
@@ -31,7 +31,7 @@ abbrev pub two_sets : List (List ℕ) → ℕ → Row → Option RequestSets
 two_sets resources at fields =
     option_and_then (λ reads. option_map (no_part reads) (set_told resources (field_of fields (at + 1)))) (set_told resources (field_of fields at))
 
--- the three sets of a record that names a first part behind them
+-- the three sets of a record that names a first part after the other two
 abbrev pub three_sets : List (List ℕ) → ℕ → Row → Option RequestSets
 three_sets resources at fields =
     option_and_then (λ reads.
@@ -56,7 +56,7 @@ length_field Mixed at fields = field_of fields (at + 2)
 length_field Upgrade at fields = field_of fields (at + 1)
 length_field Nested at fields = field_of fields (at + 3)
 
--- its later length, which only an upgrade tells
+-- its later length, which only an upgrade has
 abbrev pub later_told : Kind → ℕ → Row → Option ℕ
 later_told Read at fields = Some 0
 later_told Write at fields = Some 0
@@ -73,7 +73,7 @@ request_lengths kind at fields =
 abbrev pub request_told : Kind → RequestSets → RequestLengths → RequestFields
 request_told kind sets lengths = normalised kind sets.reads sets.writes sets.first lengths.len lengths.later
 
--- this is made of these sets and lengths: the request, in normal form, or what refuses it under any read groups
+-- the result for these sets and lengths: the request, in normal form, or what refuses it under any read groups
 abbrev pub IsMade : Kind → RequestSets → RequestLengths → Result RequestFields RequestErr → Type 0
 IsMade kind sets lengths made =
     MatchResult made

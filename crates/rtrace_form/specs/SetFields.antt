@@ -11,7 +11,7 @@ unfoldable pub gather : List (List ℕ) → Set → List (List ℕ) → Option S
 gather names s [] = Some s
 gather names s (piece ∷ pieces) = option_and_then (λ n. gather names (insert s n) pieces) (number_in names piece)
 
--- the set that a field names: `-` is the empty one, and else its pieces are joined by `+`
+-- the set that a field names: `-` is the empty set, otherwise its pieces are joined by `+`
 unfoldable pub set_told : List (List ℕ) → List ℕ → Option Set
 set_told names field =
     if bytes_eq field (codes "-") then Some empty

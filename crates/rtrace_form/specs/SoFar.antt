@@ -15,7 +15,7 @@ use Rattle.rtrace_form.specs.Reports.{Entry, Report, lock_after, due_lines, ledg
 use Rattle.rtrace_form.specs.declared.word.Word.{Word}
 use Rattle.rtrace_form.specs.declared.word.Word.TheVariants as word
 
--- ---- places: where the last line stands, in the order in which lines may stand
+-- ---- places: where the last line is, in the order in which lines may come
 
 abbrev pub at_start : ℕ
 at_start = 0
@@ -35,11 +35,11 @@ at_tasks = 4
 abbrev pub at_cap : ℕ
 at_cap = 5
 
--- behind an event that acts may follow, and behind its acts
+-- after an event that acts may follow, and after its acts
 abbrev pub at_acts : ℕ
 at_acts = 6
 
--- behind any other event, behind a change, and behind a wait
+-- after any other event, after a change, and after a wait
 abbrev pub at_changes : ℕ
 at_changes = 7
 
@@ -49,7 +49,7 @@ at_ledgers = 8
 abbrev pub at_end : ℕ
 at_end = 9
 
--- where a line may stand: the least and the greatest place that it may come behind, and its own
+-- where a line may come: the least and the greatest place that it may follow, and its own
 pub record Stand : Type 0 where
   pub least : ℕ
   pub most : ℕ
@@ -58,7 +58,7 @@ pub record Stand : Type 0 where
 abbrev pub stand : ℕ → ℕ → ℕ → Stand
 stand least most own = record { least = least; most = most; own = own }
 
--- where a line of each word may stand. A change, or a wait, may come behind anything but the end: that it is due is asked apart
+-- where a line of each word may come. A change or a wait may follow anything but the end: whether it is due is a separate question
 abbrev pub stands : Word → Stand
 stands word.Version = stand at_start at_start at_version
 stands word.Resource = stand at_version at_resources at_resources
@@ -113,7 +113,7 @@ names_in s = names_of (head_in s)
 abbrev pub lock_in : SoFar → LockState
 lock_in s = lock_after (head_in s) (entries_in s)
 
--- the ledgers that are due: all of them until the first is told
+-- the ledgers that are due: all of them until the first one is given
 abbrev pub ledgers_due : Bool → SoFar → List Line
 ledgers_due whole s = if nat_lt s.last at_ledgers then ledger_lines whole (head_in s) (entries_in s) else s.due
 
@@ -123,7 +123,7 @@ told_in s = record { head = head_in s; entries = entries_in s }
 
 -- ---- what a line adds
 
--- the place of a line that tells an event
+-- the place of the line of an event
 abbrev pub event_place : Event → ℕ
 event_place (event.Issue seat r) = at_changes
 event_place (event.Finish seat) = at_acts
@@ -134,7 +134,7 @@ event_place (event.Ask seat part) = at_changes
 abbrev pub bare : Event → Entry
 bare e = record { event = e; acts = [] }
 
--- an entry with one act more
+-- an entry with one more act
 abbrev pub with_act : Act Edit → Entry → Entry
 with_act act entry = record { event = entry.event; acts = entry.acts ++ act ∷ [] }
 

@@ -23,7 +23,7 @@ abbrev pub error_at : {C : Type 0} → ℕ → RowErr C → TextErr C
 error_at line (why.Bad code) = text.Bad (record { line = line; code = code })
 error_at line why.Memory = text.Memory
 
--- the reader has a whole text before it, of which it takes every record as it stands
+-- the reader has a whole text before it, and takes every record unchanged
 pub record IsFresh (bytes : List ℕ) (reader : Reader (Bor (List ℕ))) : Type 0 where
   pub trim : reader_trim reader ≡ trim.None
   pub ready : Ready reader
@@ -32,19 +32,19 @@ pub record IsFresh (bytes : List ℕ) (reader : Reader (Bor (List ℕ))) : Type 
   pub source : source_of (λ s. Some s.now) reader ≡ Some (strip_bom bytes)
   pub state : reader_state reader ≡ st.StartRecord
 
--- ---- texts of any kind: what is wrong with a record is told from it and from all records before it
+-- ---- texts of any kind: what is wrong with a record depends on it and on all records before it
 
 -- records, and one more
 abbrev pub followed : List Row → Row → List Row
 followed rows row = rows ++ row ∷ []
 
--- `code` tells what is wrong with a record behind others
+-- `code` says what is wrong with a record after others
 module _ {C : Type 0} (code : List Row → Row → Option C) where
   -- nothing is wrong with any of these records
   abbrev pub AreGood : List Row → Type 0
   AreGood rows = AllClean code followed [] rows
 
-  -- all records of a part of a text were taken behind `earlier` ones, and this is the number of the one that would follow
+  -- all records of a part of a text were taken after `earlier` ones, and this is the number of the one that would follow
   pub record HasTakenPart {T : Type 0} (Knows : T → List Row → Type 0) (earlier : List Row) (bytes : List ℕ) (taker : T) (line : ℕ) : Type 0 where
     pub rows : List Row
     pub are : AreRowsOf bytes rows
@@ -53,13 +53,13 @@ module _ {C : Type 0} (code : List Row → Row → Option C) where
     pub few : length (earlier ++ rows) < 2 ^ 62
     pub counted : length (earlier ++ rows) + 1 ≡ line
 
--- and `is_done` whether a text may end behind records; `no_end` is what is wrong if it may not
+-- and `is_done` whether a text may end after records; `no_end` is what is wrong if it may not
 module _ {C : Type 0} (code : List Row → Row → Option C) (is_done : List Row → Bool) (no_end : C) where
   -- the first fault of a text's records, with its number counted from 1
   abbrev pub fault_of : List Row → Option (ℕ × C)
   fault_of rows = fault_from code followed is_done no_end 1 [] rows
 
-  -- this is the first fault of a part of a text behind `earlier` records, whatever comes behind the part
+  -- this is the first fault of a part of a text after `earlier` records, whatever follows the part
   abbrev pub IsFaultBehind : List Row → List ℕ → Fault C → Type 0
   IsFaultBehind earlier bytes fault =
       (rows : List Row) × AreRowsOf bytes rows
@@ -77,9 +77,9 @@ module _ {C : Type 0} (code : List Row → Row → Option C) (is_done : List Row
     pub knows : Knows taker rows
     pub few : length rows < 2 ^ 62
 
--- ---- where a taker stands once a text has a fault
+-- ---- where a taker is once a text has a fault
 
--- in a part of a text a record was refused: the taker knew the records before it, and stays as such a record leaves it
+-- in a part of a text a record was refused: the taker knew the records before it, and is as such a record leaves it
 pub record IsRefusedAt {T : Type 0} (Knows : T → List Row → Type 0) (Stays : T → T → Type 0) (earlier : List Row) (bytes : List ℕ) (line : ℕ) (taker : T) : Type 0 where
   pub before : List Row
   pub refused : Row
@@ -95,7 +95,7 @@ abbrev pub IsLeftBy : {T : Type 0} → (T → T → Type 0) → List Row → T �
 IsLeftBy Stays [] was taker = taker ≡ was
 IsLeftBy Stays (refused ∷ rest) was taker = Stays was taker
 
--- a taker stands where the record with this number would be due: it knew the records of the text before it
+-- a taker is where the record with this number would be due: it knew the records of the text before it
 pub record StandsAt {T : Type 0} (Knows : T → List Row → Type 0) (Stays : T → T → Type 0) (bytes : List ℕ) (line : ℕ) (taker : T) : Type 0 where
   pub before : List Row
   pub behind : List Row
@@ -107,15 +107,15 @@ pub record StandsAt {T : Type 0} (Knows : T → List Row → Type 0) (Stays : T 
 
 -- ---- event lists and reports
 
--- what is wrong with a record behind others
+-- what is wrong with a record after others
 abbrev pub list_code : Bool → List Row → Row → Option Code
 list_code whole rows row = code_of whole (read_all whole rows) row
 
--- the text may end behind these records
+-- the text may end after these records
 abbrev pub is_list_done : Bool → List Row → Bool
 is_list_done whole rows = is_ended (read_all whole rows)
 
--- what a taker knows of these records, where it knows what they have said
+-- what a taker knows of these records, if it knows what they have said
 abbrev pub KnowsSaid : {T : Type 0} → Bool → (T → SoFar → Type 0) → T → List Row → Type 0
 KnowsSaid whole Knows taker rows = Knows taker (read_all whole rows)
 

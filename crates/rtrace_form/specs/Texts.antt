@@ -21,6 +21,6 @@ text_of rows = flat_map line_text rows
 abbrev pub report_text : Report → List ℕ
 report_text r = text_of (report_rows r)
 
--- the text spells the report, or where it is not `whole`, the event list: its records do
+-- the text spells the report, or the event list where it is not `whole`: its records do
 abbrev pub IsTextOf : Bool → List ℕ → Report → Type 0
 IsTextOf whole bytes r = (rows : List Row) × AreRowsOf bytes rows × Spells whole rows r

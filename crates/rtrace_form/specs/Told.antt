@@ -1,4 +1,4 @@
--- What a record of one word tells, or which code it has whatever the records before it said beside names.
+-- What a record of one word says, or its code, whatever the records before it said besides names.
 use Rattle.std.specs.Prelude.{◌≡◌, ℕ, Bool, true, false, List, Some, None}
 use Rattle.rset.specs.Sets.{Set}
 use Rattle.rclaim.specs.Events.{IsNormalEvent}
@@ -24,7 +24,7 @@ use Rattle.rtrace_form.specs.declared.fault.Code.TheVariants.{BadField, UnknownN
 use Rattle.rtrace_form.specs.declared.event.EventTold.{EventTold}
 use Rattle.rtrace_form.specs.declared.event.EventTold.TheVariants as told
 
--- the names of two tables
+-- the names in two tables
 abbrev pub names_by : List (List ℕ) → List (List ℕ) → Names
 names_by resources tasks = record { resources = resources; tasks = tasks }
 
@@ -32,17 +32,17 @@ names_by resources tasks = record { resources = resources; tasks = tasks }
 abbrev pub IsOf : Word → Row → Type 0
 IsOf w row = has_form (fields_of w) row ≡ true
 
--- a record of this word says this line by these names, and each of its numbers is one
+-- a record of this word says this line by these names, and each of its numbers is a number
 pub record Says (names : Names) (w : Word) (row : Row) (line : Line) : Type 0 where
   pub counted : all_counted (fields_of w) row ≡ true
   pub meant : meant_as names row (Some w) ≡ Some line
 
--- a record of this word names something that is not declared, and each of its numbers is one
+-- a record of this word names something that is not declared, and each of its numbers is a number
 pub record IsUnknown (names : Names) (w : Word) (row : Row) : Type 0 where
   pub counted : all_counted (fields_of w) row ≡ true
   pub meant : meant_as names row (Some w) ≡ None
 
--- this is wrong with a record of this word, whatever stands before it: a number of it is none, or else a name of it is not declared
+-- this is wrong with a record of this word, whatever comes before it: one of its numbers is not a number, or else one of its names is not declared
 abbrev pub IsWrong : Names → Word → Row → Code → Type 0
 IsWrong names w row BadField = all_counted (fields_of w) row ≡ false
 IsWrong names w row UnknownName = IsUnknown names w row
@@ -83,20 +83,20 @@ abbrev pub is_wait : Word → Bool
 is_wait (word.Wait which) = true
 is_wait _ = false
 
--- what was told is this event, in normal form; or whatever read groups are declared, its request is refused by itself
+-- the answer is this event, in normal form; or its request is refused whatever read groups are declared
 abbrev pub IsTold : EventTold → Event → Type 0
 IsTold (told.Event e) x = (x ≡ e) × IsNormalEvent e
 IsTold (told.Refused cause) (Issue seat r) = (groups : List Set) → request_refusal groups r ≡ Some cause
 IsTold (told.Refused cause) _ = ⊥
 
--- the act that a record of this word tells of a resource and a number
+-- the act that a record of this word reports for a resource and a number
 abbrev pub act_by : Word → ℕ → ℕ → Act Edit
 act_by (word.Add done) place number = Edited place (edit.Add number) done
 act_by (word.Take done) place number = Edited place (edit.Take number) done
 act_by (word.Put done) place number = Edited place (edit.Set number) done
 act_by _ place number = Shown place number
 
--- the change of a status that a record of this word tells of a seat
+-- the change of status that a record of this word reports for a seat
 abbrev pub change_by : Word → ℕ → StatusChange
 change_by (word.Entitled write_half) seat = record { seat = seat; write_half = write_half; status = Entitled }
 change_by (word.Satisfied write_half) seat = record { seat = seat; write_half = write_half; status = Satisfied }

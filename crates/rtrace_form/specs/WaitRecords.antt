@@ -1,4 +1,4 @@
--- What a record of a wait tells.
+-- What a record of a wait says.
 use Rattle.std.specs.Prelude.{ℕ, ◌+◌, Option, option_map, option_and_then}
 use Rattle.rtrace_form.specs.Bounds.{Numbers, numbers_in}
 use Rattle.rtrace_form.specs.Records.{Row}
@@ -8,11 +8,11 @@ use Rattle.rtrace_form.specs.Lines.{Line, Waits}
 use Rattle.rtrace_form.specs.declared.wait.CoverTold.{CoverTold}
 use Rattle.rtrace_form.specs.declared.wait.WaitTold.{WaitTold}
 
--- three numbers, as those of a wait
+-- three numbers, like those of a wait
 abbrev pub numbers_by : ℕ → ℕ → ℕ → Numbers
 numbers_by reads writes units = record { reads = reads; writes = writes; units = units }
 
--- the three numbers that fields tell from this place on, if each is one
+-- the three numbers in the fields from this place on, if each is a number
 abbrev pub numbers_told : Row → ℕ → Option Numbers
 numbers_told row at =
     option_and_then (λ reads.
@@ -25,6 +25,6 @@ numbers_told row at =
 abbrev pub cover_in : CoverTold → Numbers
 cover_in c = numbers_by c.reads c.writes c.units
 
--- the line of the wait that was told
+-- the line of this wait
 abbrev pub line_told : WaitTold → Line
 line_told w = Waits w.seat w.stage (cover_in w.cover) (numbers_in w.bound)

@@ -18,7 +18,7 @@ use Rattle.rtrace_form.specs.declared.word.Stage.TheVariants as stage
 abbrev pub events_of : List (EntryFields Edit) → List Event
 events_of entries = map (λ (entry : EntryFields Edit). entry.event) entries
 
--- which wait of its request a record tells: of an ask it does not say which
+-- which wait of its request a record reports: for an ask it does not say which one
 abbrev pub stage_of : Which → Stage
 stage_of which.First = stage.First
 stage_of which.Rise = stage.Rise
@@ -28,11 +28,11 @@ stage_of (which.Ask number) = stage.Ask
 abbrev pub cover_of : WaitEnd → Numbers
 cover_of w = record { reads = w.reads; writes = w.writes; units = w.units }
 
--- the waits that an event behind earlier entries ends, by rising stamp
+-- the waits that an event after earlier entries ends, by rising stamp
 unfoldable pub ended_in : Head → List (EntryFields Edit) → Event → List WaitEnd
 ended_in head earlier e = ended_by (opening_of head) (events_of earlier) e
 
--- the waits that the events of entries behind earlier ones end, one event after another
+-- the waits that the events of entries after earlier ones end, one event after another
 unfoldable pub ended_from : Head → List (EntryFields Edit) → List (EntryFields Edit) → List WaitEnd
 ended_from head earlier [] = []
 ended_from head earlier (entry ∷ entries) = ended_in head earlier entry.event ++ ended_from head (earlier ++ entry ∷ []) entries
@@ -49,6 +49,6 @@ needs_in head entries = record { groups = read_groups head; tasks = history_need
 unfoldable pub bound_in : Head → List (EntryFields Edit) → WaitEnd → Numbers
 bound_in head entries w = bound_of (needs_in head entries) head.cap w.seat (number_from (events_of entries) w.stamp w.seat) w.which
 
--- no bound at all: what stands in place of bounds while a history is not told whole
+-- no bound at all: stands in for bounds while a history is not complete
 abbrev pub no_bounds : WaitEnd → Numbers
 no_bounds w = no_wait

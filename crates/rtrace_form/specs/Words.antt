@@ -8,17 +8,17 @@ use Rattle.rtrace_form.specs.declared.word.Stage.TheVariants as stage
 use Rattle.rtrace_form.specs.declared.word.Word.{Word}
 use Rattle.rtrace_form.specs.declared.word.Word.TheVariants as word
 
--- how it is said whether an edit was taken
+-- how a record says whether an edit was taken
 abbrev pub yes_or_no : Bool → List ℕ
 yes_or_no true = codes "yes"
 yes_or_no false = codes "no"
 
--- how the claim of a request is named
+-- how a record names the claim of a request
 abbrev pub claim_text : Bool → List ℕ
 claim_text true = codes "write"
 claim_text false = codes "read"
 
--- how it is said which wait of a request is told
+-- how a record says which wait of a request it is
 abbrev pub stage_text : Stage → List ℕ
 stage_text stage.First = codes "first"
 stage_text stage.Rise = codes "rise"
@@ -57,7 +57,7 @@ list_words =
     ∷ word.Issue Read ∷ word.Issue Write ∷ word.Issue Mixed ∷ word.Issue Upgrade ∷ word.Issue Nested
     ∷ word.Finish ∷ word.Rise ∷ word.Ask ∷ word.End ∷ []
 
--- and those of a report beside: acts, changes, waits and ledgers
+-- and those that only a report has: acts, changes, waits and ledgers
 abbrev pub more_words : List Word
 more_words =
     word.Show ∷ word.Add true ∷ word.Add false ∷ word.Take true ∷ word.Take false ∷ word.Put true ∷ word.Put false

@@ -13,11 +13,11 @@ use Rattle.rtrace_form.specs.Lines.{spelled}
 use Rattle.rtrace_form.specs.Waits.{bound_in}
 use Rattle.rtrace_form.specs.Reports.{Entry, Report, lines_of, IsLawful}
 
--- the records of a report, each in its one spelling; the cap is always told
+-- the records of a report, each in its one spelling; the cap is always given
 abbrev pub report_rows : Report → List Row
 report_rows r = map (spelled (names_of r.head)) (lines_of true (bound_in r.head r.entries) (Some r.head.cap) r)
 
--- the amount of an edit is one that a field may tell, as each value of its type is
+-- the amount of an edit is one that a field may hold, as each value of its type is
 abbrev pub IsTellable : Act Edit → Type 0
 IsTellable (Edited place (edit.Add n) done) = n < 2 ^ 64
 IsTellable (Edited place (edit.Take n) done) = n < 2 ^ 64

@@ -1,4 +1,4 @@
-// The act that a record tells.
+// The act that a record reports.
 ghost use Rattle.std.specs.Prelude.{◌≡◌, ◌<◌, IfOk, IfErr, true, length};
 ghost use Rattle.csv.specs.Records.{fields_of};
 ghost use Rattle.rset.specs.declared.TheConstants.{RESOURCES};
@@ -14,11 +14,11 @@ use csv::ByteRecord;
 use rset::NameTable;
 use rvalue::{Act, Edit};
 
-/// The act that the record of an act tells, by the names that are declared. No memory is taken.
+/// The act in the record of an act, by the names that are declared. No memory is taken.
 ///
 /// # Errors
 ///
-/// `BadField` where its number is none, and else `UnknownName` where its resource is not declared.
+/// `BadField` where the field for its number is not a number, else `UnknownName` where its resource is not declared.
 pub fn act_of(
     resources: &NameTable,
     tasks: &NameTable,
@@ -41,7 +41,7 @@ pub fn act_of(
     Ok(act_by(word, place, number))
 }
 
-// The act of this word, of a resource and a number.
+// The act of this word, on a resource and with a number.
 fn act_by(word: Word, place: u8, number: u64) -> Act<Edit>
     ensures act { result ≡ act_by word place number }
     ensures place { place_of result ≡ place }

@@ -7,7 +7,7 @@ use crate::fault::{Code, Fault};
 /// Why a text was not taken.
 #[derive(Clone, Copy, Debug, PartialEq, Eq)]
 pub enum TextErr<C = Code> {
-    /// It spells nothing of its kind: this is its first fault.
+    /// It is not a text of its kind: this is its first fault.
     Bad(Fault<C>),
     /// Memory ran out.
     Memory,

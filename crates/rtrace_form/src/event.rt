@@ -1,4 +1,4 @@
-// The event that a record tells.
+// The event that a record reports.
 ghost use Rattle.std.specs.Prelude.{◌≡◌, IfOk, IfErr, true, List};
 ghost use Rattle.csv.specs.Records.{fields_of};
 ghost use Rattle.rset.specs.Sets.{Set};
@@ -17,23 +17,24 @@ use csv::ByteRecord;
 use rclaim::{Event, Kind, RequestErr};
 use rset::{NameTable, ResourceSet};
 
-// The place of the first set in the record of an issue: behind its task and its kind.
+// The place of the first set in the record of an issue: after its task and its kind.
 const FIRST_SET: u8 = 3;
 
-/// What the record of an event tells.
+/// What the record of an event says.
 #[derive(Clone, Copy)]
 pub enum EventTold {
     /// This event.
     Event(Event),
-    /// An issue whose request is refused by itself, whatever read groups there are.
+    /// An issue whose request is refused whatever read groups there are.
     Refused(RequestErr),
 }
 
-/// What the record of an event tells, by the names that are declared. No memory is taken.
+/// What the record of an event says, by the names that are declared. No memory is taken.
 ///
 /// # Errors
 ///
-/// `BadField` where a length is none or above its limit, and else `UnknownName` where its task or a resource is not declared.
+/// `BadField` where a length is not a number or is above its limit, else `UnknownName` where its task or a resource is
+/// not declared.
 pub fn event_of(
     resources: &NameTable,
     tasks: &NameTable,
@@ -61,7 +62,7 @@ pub fn event_of(
     }
 }
 
-/// The seat that the record of a finish tells, by the names that are declared. No memory is taken.
+/// The seat in the record of a finish, by the names that are declared. No memory is taken.
 ///
 /// # Errors
 ///
@@ -78,7 +79,7 @@ pub fn finish_of(resources: &NameTable, tasks: &NameTable, fields: &ByteRecord) 
     }
 }
 
-// What the record of an issue of this kind tells.
+// What the record of an issue of this kind says.
 fn issue_of(
     resources: &NameTable,
     tasks: &NameTable,
@@ -118,8 +119,8 @@ fn is_plain(kind: Kind) -> bool
     }
 }
 
-// The same of an issue whose record has one set and one length. Most issues are of these kinds: each field has its place
-// here, and nothing is asked of the kind.
+// The same for an issue whose record has one set and one length, as most do: each field has its place here, and the
+// kind is not asked.
 #[inline]
 fn plain_issue_of(
     resources: &NameTable,

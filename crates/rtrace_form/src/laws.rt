@@ -17,7 +17,7 @@ ghost use Rattle.rtrace_form.specs.Heads.{Head};
 ghost use Rattle.rtrace_form.specs.Written.{MayBeWritten, report_rows};
 ghost use Rattle.rtrace_form.specs.Texts.{IsTextOf, report_text};
 
-/// What is spelled of a line is read again as the same line.
+/// A line is read back from its spelling.
 pub fn what_is_spelled_is_read()
     ensures { (names : Names) (line : Line) → AreTables names → IsWritable names line → meaning true names (spelled names line) ≡ Some line }
 {}
@@ -43,12 +43,12 @@ pub fn an_event_list_has_no_acts()
     ensures { (rows : List Row) (report : Report) → Spells false rows report → AllByRecursion (λ (entry : Entry). entry.acts ≡ []) report.entries }
 {}
 
-/// No record of an event list tells a wait, so its first fault is that of a record.
+/// No record of an event list reports a wait, so its first fault is that of a record.
 pub fn an_event_list_tells_no_bounds()
     ensures { (rows : List Row) → first_fault false rows ≡ first_record_fault false rows }
 {}
 
-/// A wrong bound is told only where no record has another fault, and then it is the first wrong one.
+/// A wrong bound is reported only where no record has another fault, and then it is the first wrong bound.
 pub fn a_wrong_bound_is_told_last()
     ensures { (whole : Bool) (rows : List Row) (line : ℕ) → first_fault whole rows ≡ Some (line, WrongBound)
         → (first_record_fault whole rows ≡ None) × (first_wrong_bound whole rows ≡ Some (line, WrongBound)) }
@@ -74,17 +74,17 @@ pub fn each_change_is_told()
     ensures { (head : Head) (earlier : List Entry) (entry : Entry) → IsLawful head (earlier ++ entry ∷ []) → EachChangeIsTold (lock_after head earlier) entry.event }
 {}
 
-/// The last lines of an entry are those of just the waits that its event ended, and no line before them tells a wait.
+/// The last lines of an entry are those of just the waits that its event ended, and no line before them is of a wait.
 pub fn each_wait_is_told()
     ensures { (bounds : WaitEnd → Numbers) (head : Head) (earlier : List Entry) (entry : Entry) → EachWaitIsTold bounds head earlier entry }
 {}
 
-/// The lines of a report that tell waits are those of just the waits that its history ended, in their order.
+/// The lines of waits in a report are those of just the waits that its history ended, in their order.
 pub fn all_waits_are_told()
     ensures { (bounds : WaitEnd → Numbers) (told : Option ℕ) (report : Report) → AllWaitsAreTold bounds told report }
 {}
 
-/// Each wait that a report tells is within its bound: no number of its cover is above that of the bound beside it.
+/// Each wait in a report is within its bound: no number of its cover is above that of the bound beside it.
 pub fn each_told_wait_is_within_its_bound()
     ensures { (report : Report) → MayBeWritten report → AllByRecursion IsWithinBound (lines_of true (bound_in report.head report.entries) (Some report.head.cap) report) }
 {}

@@ -1,4 +1,8 @@
-//! The forms of records in lists and reports, and what each record says.
+//! The format of event lists and reports: the records there are ([`Word`]), what each says, and what is wrong with one
+//! ([`Code`]).
+//!
+//! [`take_text`] takes the records of a text with a taker ([`Records`]) and answers its first fault. [`event_of`] and
+//! the like read one record. [`laws`] says what holds of every text.
 #![tactic(auto)]
 
 mod act;

@@ -1,4 +1,4 @@
-// The numbers that fields tell: lengths and caps.
+// The numbers in fields: lengths and caps.
 ghost use Rattle.std.specs.Prelude.{◌≡◌, ◌≤◌, IfSome};
 ghost use Rattle.rclaim.specs.declared.TheConstants.{LENGTH_LIMIT};
 ghost use Rattle.rset.specs.declared.TheConstants.{SEATS};
@@ -7,7 +7,7 @@ ghost use Rattle.rtrace_form.specs.Numbers.{length_told, cap_within, cap_told, n
 use rclaim::LENGTH_LIMIT;
 use rset::SEATS;
 
-/// The length that a field tells; None where it is no number, or above the limit.
+/// The length in a field; None where it is not a number or is above the limit.
 pub fn length_of(field: &[u8]) -> Option<u32>
     ensures value { result ≡ length_told field.now }
     ensures bound { IfSome result (λ len. len ≤ LENGTH_LIMIT) }
@@ -19,7 +19,7 @@ pub fn length_of(field: &[u8]) -> Option<u32>
     Some(number as u32)
 }
 
-/// The cap that a field tells; None where it is no number from 1 to [`SEATS`].
+/// The cap in a field; None where it is not a number from 1 to [`SEATS`].
 pub fn cap_of(field: &[u8]) -> Option<u8>
     ensures value { result ≡ cap_told field.now }
     ensures bounds { IfSome result (λ cap. (1 ≤ cap) × (cap ≤ SEATS)) }
@@ -27,7 +27,7 @@ pub fn cap_of(field: &[u8]) -> Option<u8>
     cap_within(number_of(field)?)
 }
 
-// The number as a cap; None where it is none.
+// The number as a cap; None where it is not one.
 fn cap_within(number: u64) -> Option<u8>
     ensures value { result ≡ cap_within number }
     ensures bounds { IfSome result (λ cap. (1 ≤ cap) × (cap ≤ SEATS)) }
@@ -39,7 +39,7 @@ fn cap_within(number: u64) -> Option<u8>
     }
 }
 
-/// The number that a field tells; None where it is none.
+/// The number in a field; None where it is not one.
 pub fn number_of(field: &[u8]) -> Option<u64>
     ensures { result ≡ number_told field.now }
 {
@@ -56,7 +56,7 @@ pub fn number_of(field: &[u8]) -> Option<u64>
     Some(number)
 }
 
-// The number with one digit more behind it.
+// The number with one more digit at its end.
 fn with_digit(number: u64, digit: u8) -> Option<u64>
     ensures { result ≡ digit_behind number digit }
 {

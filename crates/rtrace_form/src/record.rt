@@ -9,7 +9,7 @@ use crate::word::{Stage, Word};
 use csv::ByteRecord;
 use rclaim::Kind;
 
-/// What a record of a report is, or of an event list where it is not `whole`; None where it is none.
+/// What a record of a report is, or of an event list where it is not `whole`; None where it is no record of it.
 pub fn word_in(whole: bool, fields: &ByteRecord) -> Option<Word>
     ensures { result ≡ word_in whole (fields_of fields.now) }
 {
@@ -80,7 +80,8 @@ fn word_of_three(whole: bool, first: &[u8]) -> Option<Word>
     }
 }
 
-// What a record of four fields is. Each test is one value, and no branch: with `&&` the last case would have too many ways to it.
+// What a record of four fields is. Each test is a value and not a branch: with `&&` there would be too many paths to
+// the last case.
 fn word_of_four(whole: bool, first: &[u8], third: &[u8], fourth: &[u8]) -> Option<Word>
     ensures { result ≡ word_of_four whole first.now third.now fourth.now }
 {
@@ -163,14 +164,14 @@ fn word_of_nine(whole: bool, first: &[u8], third: &[u8]) -> Option<Word>
     }
 }
 
-// Whether a field is this word. Its length is known, so that a few bytes at once are compared, with no call.
+// Whether a field is this word. Its length is known, so a few bytes are compared at a time, without a call.
 fn is<const N: usize>(field: &[u8], word: &[u8; N]) -> bool
     ensures { result ≡ bytes_eq field.now word.now }
 {
     field.len() == N && field.starts_with(word)
 }
 
-/// The field at a place counted from 0; empty where there is none.
+/// The field at a place, counted from 0; empty where there is none.
 pub fn field_of(fields: &ByteRecord, place: usize) -> &[u8]
     ensures { result.now ≡ field_of (fields_of fields.now) place }
 {

@@ -15,15 +15,15 @@ use rset::{NameTable, ResourceSet};
 /// The sets that the record of a request names.
 #[derive(Drop)]
 pub struct RequestSets {
-    /// What it reads; where it names one set alone, that set.
+    /// What it reads; where it names only one set, that set.
     pub reads: ResourceSet,
-    /// What it writes; where it names one set alone, that set.
+    /// What it writes; where it names only one set, that set.
     pub writes: ResourceSet,
     /// The first part of a nested request; else empty.
     pub first: ResourceSet,
 }
 
-/// The lengths that the record of a request tells.
+/// The lengths in the record of a request.
 #[derive(Drop)]
 pub struct RequestLengths {
     /// The length of its section.
@@ -32,8 +32,9 @@ pub struct RequestLengths {
     pub later: u32,
 }
 
-/// The sets that the record of a request of this kind names, the first in the field at the place `at`; None where a piece
-/// of one is no declared name. A mixed request has two fields with sets, a nested one three, every other one.
+/// The sets that the record of a request of this kind names, the first in the field at the place `at`; None where a
+/// piece of one is not a declared name. A mixed request has two fields with sets, a nested one three, any other kind
+/// one.
 pub fn sets_of(names: &NameTable, kind: Kind, fields: &ByteRecord, at: u8) -> Option<RequestSets>
     ensures value { result ≡ request_sets names.now kind at (fields_of fields.now) }
     ensures reads { IfSome result (λ sets. IsTrue (all_below (length names.now) sets.reads)) }
@@ -57,8 +58,8 @@ pub fn sets_of(names: &NameTable, kind: Kind, fields: &ByteRecord, at: u8) -> Op
     })
 }
 
-/// The lengths that the record of a request of this kind tells behind its sets, the first of which is at the place `at`;
-/// None where one is no number, or above the limit. Only an upgrade has two fields with lengths.
+/// The lengths in the record of a request of this kind, after its sets, the first of which is at the place `at`; None
+/// where a length is not a number or is above the limit. Only an upgrade has two fields with lengths.
 pub fn lengths_of(kind: Kind, fields: &ByteRecord, at: u8) -> Option<RequestLengths>
     ensures value { result ≡ request_lengths kind at (fields_of fields.now) }
     ensures len { IfSome result (λ lengths. lengths.len ≤ LENGTH_LIMIT) }
@@ -81,7 +82,7 @@ fn length_field(kind: Kind, fields: &ByteRecord, at: u8) -> &[u8]
     }
 }
 
-// The later length that the record of a request of this kind tells: every kind but an upgrade has 0.
+// The later length in the record of a request of this kind: 0 for every kind but an upgrade.
 fn later_of(kind: Kind, fields: &ByteRecord, at: u8) -> Option<u32>
     ensures value { result ≡ later_told kind at (fields_of fields.now) }
     ensures bound { IfSome result (λ later. later ≤ LENGTH_LIMIT) }
@@ -96,7 +97,7 @@ fn later_of(kind: Kind, fields: &ByteRecord, at: u8) -> Option<u32>
 ///
 /// # Errors
 ///
-/// What refuses it whatever read groups there are: those of [`Request::new`], in their order.
+/// What refuses it whatever read groups there are: the errors of [`Request::new`], in their order.
 pub fn request_of(
     kind: Kind,
     sets: &RequestSets,

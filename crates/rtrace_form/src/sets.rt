@@ -14,7 +14,7 @@ use crate::word::Word;
 use csv::ByteRecord;
 use rset::{NameTable, ResourceSet};
 
-/// The set of resources that a field names; None where a piece of it is no declared name.
+/// The set of resources that a field names; None where a piece of it is not a declared name.
 pub fn set_of(names: &NameTable, field: &[u8]) -> Option<ResourceSet>
     ensures value { result ≡ set_told names.now field.now }
     ensures below { IfSome result (λ set. IsTrue (all_below (length names.now) set)) }
@@ -36,7 +36,7 @@ fn is_joined(field: &[u8]) -> bool
     field.iter().any(|byte| *byte == b'+')
 }
 
-// The set that several names name; None where one of them is not declared. It is left out of the path of one name.
+// The set that several names give; None where one is not declared. It is kept out of the path of a single name.
 #[inline(never)]
 fn joined_of(names: &NameTable, field: &[u8]) -> Option<ResourceSet>
     requires { bytes_eq field.now (codes "-") ≡ false }
@@ -50,11 +50,11 @@ fn joined_of(names: &NameTable, field: &[u8]) -> Option<ResourceSet>
     Some(set)
 }
 
-/// The set that the record of a group tells, by the names that are declared. No memory is taken.
+/// The set in the record of a group, by the names that are declared. No memory is taken.
 ///
 /// # Errors
 ///
-/// `UnknownName` where a resource of it is not declared.
+/// `UnknownName` where one of its resources is not declared.
 pub fn group_of(
     resources: &NameTable,
     tasks: &NameTable,

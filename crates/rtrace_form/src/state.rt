@@ -15,7 +15,7 @@ use rclaim::{Status, StatusChange};
 use rset::{NameTable, ResourceSet};
 use rvalue::Ledger;
 
-/// The change that the record of a change of a status tells, by the names that are declared. No memory is taken.
+/// The change in the record of a change of a status, by the names that are declared. No memory is taken.
 ///
 /// # Errors
 ///
@@ -38,7 +38,7 @@ pub fn change_of(
     }
 }
 
-// The change of a status of a seat that a record of this word tells.
+// The change of a seat's status that a record of this word reports.
 fn change_by(word: Word, seat: u8) -> StatusChange
     ensures { result ≡ change_by word seat }
 {
@@ -54,7 +54,7 @@ fn change_by(word: Word, seat: u8) -> StatusChange
     }
 }
 
-/// What the record of a grant tells.
+/// What the record of a grant says.
 #[derive(Clone, Copy)]
 pub struct GrantTold {
     /// The seat whose request it is.
@@ -63,7 +63,7 @@ pub struct GrantTold {
     pub set: ResourceSet,
 }
 
-/// The seat and the set that the record of a grant tells, by the names that are declared. No memory is taken.
+/// The seat and the set in the record of a grant, by the names that are declared. No memory is taken.
 ///
 /// # Errors
 ///
@@ -86,11 +86,12 @@ pub fn grant_of(
     }
 }
 
-/// The resource and the ledger that the record of a ledger tells, by the names that are declared. No memory is taken.
+/// The resource and the ledger in the record of a ledger, by the names that are declared. No memory is taken.
 ///
 /// # Errors
 ///
-/// `BadField` where its balance or its count of edits is none, and else `UnknownName` where its resource is not declared.
+/// `BadField` where its balance or its count of edits is not a number, else `UnknownName` where its resource is not
+/// declared.
 pub fn ledger_of(
     resources: &NameTable,
     tasks: &NameTable,

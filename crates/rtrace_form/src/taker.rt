@@ -12,15 +12,16 @@ use std::alloc::Global;
 /// The most records that are taken: no memory holds so many bytes.
 const MOST_RECORDS: u64 = 1 << 62;
 
-/// What takes the records of a text of one kind, one after another. It knows what the records so far have said, as far as it needs to judge the next.
+/// What takes the records of a text of one kind, one after another. It knows what the records so far have said, as far
+/// as it needs to judge the next one.
 pub trait Records {
     /// What may be wrong with a record.
     type Code: Copy;
 
-    /// What is wrong with a record behind others, if anything is.
+    /// What is wrong with a record after others, if anything is.
     ghost code: { List Row → Row → Option Self.Code };
 
-    /// Whether a text may end behind these records.
+    /// Whether a text may end after these records.
     ghost is_done: { List Row → Bool };
 
     /// What is wrong with a text that ends where it may not.
@@ -29,15 +30,15 @@ pub trait Records {
     /// It knows that these records were taken.
     ghost knows: { Self → List Row → Type 0 };
 
-    /// How a record that is refused leaves it, against how it was before.
+    /// How a refused record leaves it, compared with how it was before.
     ghost stays: { Self → Self → Type 0 } = { λ _ _. Unit {0} };
 
     /// Takes the next record.
     ///
     /// # Errors
     ///
-    /// The first thing that is wrong with the record, which leaves it as `stays` says, or want of memory. Nothing is said then
-    /// of what it knows.
+    /// The first thing that is wrong with the record, which leaves it as `stays` says; or out of memory, and then
+    /// nothing is promised of what it knows.
     fn take(&mut self, fields: &ByteRecord) -> Result<(), RowErr<Self::Code>>
         requires { (rows : List Row) × knows self.old rows × (length rows < 2 ^ 62) }
         ensures taken { OnOk result ((rows : List Row) → knows self.old rows → (code rows (fields_of fields.now) ≡ None) × knows self.new (rows ++ fields_of fields.now ∷ [])) }
@@ -53,12 +54,12 @@ pub trait Records {
         ensures { result ≡ no_end };
 }
 
-/// Takes all records of a text, or tells its first fault. The taker knows in the end that all of them were taken.
+/// Takes all records of a text, or answers its first fault. In the end the taker knows that all of them were taken.
 ///
 /// # Errors
 ///
-/// The first fault of a text that is none of the taker's kind, and then the taker stands where the faulty record would be due
-/// (`StandsAt`); or want of memory.
+/// The first fault of a text that is not of the taker's kind, and then the taker is where the faulty record would be
+/// due (`StandsAt`); or out of memory.
 pub fn take_text<T: Records>(
     alloc: Global,
     bytes: &[u8],
@@ -76,12 +77,12 @@ pub fn take_text<T: Records>(
     }
 }
 
-/// Takes all records of a part of a text, one after another into `fields`, behind others that were taken, and answers the
-/// number of the one that would follow. The first of them has the number `from`.
+/// Takes all records of a part of a text, one after another into `fields`, after others that were taken, and answers
+/// the number of the one that would follow. The first of them has the number `from`.
 ///
 /// # Errors
 ///
-/// The first fault of the part, whatever comes behind it, or want of memory.
+/// The first fault of the part, whatever follows it; or out of memory.
 pub fn take_part<T: Records>(
     alloc: Global,
     bytes: &[u8],
@@ -101,12 +102,12 @@ pub fn take_part<T: Records>(
     take_rows(&mut reader, fields, from, taker)
 }
 
-/// Whether a text may end where the taker stands, of which all records were taken; `line` is the number of the one that
+/// Whether a text may end here, where the taker has taken all of its records; `line` is the number of the one that
 /// would follow.
 ///
 /// # Errors
 ///
-/// What is wrong with a text that ends there, and never want of memory.
+/// What is wrong with a text that ends there; never out of memory.
 pub fn end_at<T: Records>(taker: &T, line: u64) -> Result<(), TextErr<T::Code>>
     ensures taken { OnOk result ((rows : List Row) → T.knows taker.now rows → T.is_done rows ≡ true) }
     ensures told { IfErr result (λ e. e ≡ TextErr.Bad (record { line = line; code = T.no_end })) }
@@ -122,7 +123,7 @@ pub fn end_at<T: Records>(taker: &T, line: u64) -> Result<(), TextErr<T::Code>>
     }
 }
 
-// What reads the records of a text: none of them is a header, and each may have its own number of fields.
+// The reader of a text's records: there is no header, and records may differ in their number of fields.
 fn reader_of(alloc: Global, bytes: &[u8]) -> Reader<&[u8]>
     ensures { IsFresh bytes.now result }
 {
@@ -132,7 +133,7 @@ fn reader_of(alloc: Global, bytes: &[u8]) -> Reader<&[u8]>
         .from_reader(alloc, bytes)
 }
 
-// Takes the records that a reader has left, each into `fields`, and answers the number of the one that would follow them.
+// Takes the records that a reader has left, each into `fields`, and answers the number of the one that would follow.
 fn take_rows<T: Records>(
     reader: &mut Reader<&[u8]>,
     fields: &mut ByteRecord,

@@ -1,4 +1,4 @@
-// The wait that a record tells.
+// The wait that a record reports.
 ghost use Rattle.std.specs.Prelude.{◌≡◌, IfOk, IfErr, option_map};
 ghost use Rattle.csv.specs.Records.{fields_of};
 ghost use Rattle.rtrace_form.specs.Bounds.{numbers_in};
@@ -13,12 +13,12 @@ use csv::ByteRecord;
 use rbound::Bound;
 use rset::NameTable;
 
-// The place of the first number of a cover: behind its task and its stage. Those of the bound stand behind its three.
+// The place of the first number of a cover: after its task and its stage. Those of the bound follow its three.
 const FIRST_OF_COVER: u8 = 3;
 
 const FIRST_OF_BOUND: u8 = 6;
 
-/// What the record of a wait tells of its cover.
+/// What the record of a wait says of its cover.
 #[derive(Clone, Copy, Debug, PartialEq, Eq)]
 pub struct CoverTold {
     /// The number of sections that count as reads.
@@ -29,7 +29,7 @@ pub struct CoverTold {
     pub units: u64,
 }
 
-/// What the record of a wait tells.
+/// What the record of a wait says.
 #[derive(Clone, Copy)]
 pub struct WaitTold {
     /// The seat whose request waited.
@@ -38,15 +38,15 @@ pub struct WaitTold {
     pub stage: Stage,
     /// What covered it.
     pub cover: CoverTold,
-    /// What it is said to be at most.
+    /// The reported bound.
     pub bound: Bound,
 }
 
-/// The wait that the record of one of this stage tells, by the names that are declared. No memory is taken.
+/// The wait in a record of this stage, by the names that are declared. No memory is taken.
 ///
 /// # Errors
 ///
-/// `BadField` where one of its six numbers is none, and else `UnknownName` where its task is not declared.
+/// `BadField` where one of its six numbers is not a number, else `UnknownName` where its task is not declared.
 pub fn wait_of(
     resources: &NameTable,
     tasks: &NameTable,
@@ -78,7 +78,7 @@ pub fn wait_of(
     }
 }
 
-// The three numbers that fields tell from this place on; None where one of them tells none.
+// The three numbers in the fields from this place on; None where one is not a number.
 fn numbers_at(fields: &ByteRecord, at: u8) -> Option<Bound>
     ensures { option_map numbers_in result ≡ numbers_told (fields_of fields.now) at }
 {

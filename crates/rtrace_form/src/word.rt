@@ -1,14 +1,14 @@
 // What a record of a list or of a report may be: the words of the table of records.
 use rclaim::Kind;
 
-/// Which wait of a request a record tells.
+/// Which wait of a request a record reports.
 #[derive(Clone, Copy, Debug, PartialEq, Eq)]
 pub enum Stage {
-    /// `first`: the one that begins with its issue.
+    /// `first`: the wait that begins with its issue.
     First,
-    /// `rise`: that of an upgrade that rises.
+    /// `rise`: the wait of an upgrade that rises.
     Rise,
-    /// `ask`: that of one of its asks.
+    /// `ask`: the wait of one of its asks.
     Ask,
 }
 
@@ -25,7 +25,7 @@ pub enum Word {
     Task,
     /// `cap,M`
     Cap,
-    /// `issue,TASK,KIND,..`: the fields behind KIND are those of the kind.
+    /// `issue,TASK,KIND,..`: the fields after KIND are those of the kind.
     Issue(Kind),
     /// `finish,TASK`
     Finish,
@@ -47,7 +47,7 @@ pub enum Word {
     Satisfied { write_half: bool },
     /// `grant,TASK,SET`
     Grant,
-    /// `wait,TASK,WHICH,READS,WRITES,UNITS,BREADS,BWRITES,BUNITS`, where WHICH is told by the stage.
+    /// `wait,TASK,WHICH,READS,WRITES,UNITS,BREADS,BWRITES,BUNITS`, where the stage gives WHICH.
     Wait(Stage),
     /// `ledger,NAME,BALANCE,EDITS`
     Ledger,

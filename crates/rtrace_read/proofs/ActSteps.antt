@@ -58,7 +58,7 @@ at_answered : (ledger : Ledger) (act : Act Edit) → IsAnsweredAt is_taken (λ (
 at_answered ledger (Edited place edit done) h = ap (λ b. same_answer b (is_taken ledger edit)) h ∙ is_same (is_taken ledger edit)
 at_answered ledger (Shown place number) h = eq-eqb number ledger.balance h
 
--- an act done once more answers whether its answer is right
+-- an act done again answers whether its answer is right
 pub answered_is : (right : Bool) (ledger : Ledger) (act : Act Edit) → (IsTrue right ↔ IsAnsweredAt is_taken (λ (l : Ledger). l.balance) ledger act) → is_answered ledger act ≡ right
 answered_is true ledger act h = at_answered ledger act (h.0 refl)
 answered_is false ledger act h = at (is_answered ledger act) refl

@@ -1,4 +1,4 @@
--- What is wrong with a line, from the tests behind it.
+-- What is wrong with a line, from the tests that decide it.
 use Rattle.std.proofs.Common.{◌≡◌, ℕ, ◌≤◌, Bool, true, false, not, ◌&&◌, ◌||◌, ◌==◌, cond, nat_le, List, [], ◌∷◌, drop, Option, Some, None, refl, sym, ap, ◌∙◌, arith, true≢false}
 use Rattle.std.specs.Prelude.{option_map}
 use Rattle.std.proofs.lemmas.Bool.{le-leb, le-ltb, leb-true, and_parts}
@@ -23,7 +23,7 @@ use Rattle.rtrace_form.specs.declared.fault.Code.TheVariants.{BadField, BadOrder
 use Rattle.rtrace_form.specs.declared.fault.Refusal.{Refusal}
 use Rattle.rtrace_form.proofs.facts.Choices.{some_none}
 
--- ---- a line that tells no change and is no act: it is badly declared, a change is due, it may follow, it tells a ledger more, it is refused, and it is a wrong ledger
+-- ---- a line that is neither a change nor an act: it is badly declared, a change is due, it may follow, it is one ledger too many, it is refused, and it is a wrong ledger
 
 abbrev pub plain_causes : Bool → Bool → Bool → Bool → Option Refusal → Bool → List (Option Code)
 plain_causes bad due follows more refusal wrong =
@@ -110,7 +110,7 @@ change_is whole s (Grants seat set) h = refl
 change_is whole s (Waits seat which cover bound) h = refl
 change_is whole s _ h = absurd (true≢false (sym h))
 
--- nothing is due behind the end
+-- nothing is due after the end
 end_idle : (s : SoFar) → s.last ≡ 9 → is_change_due s ≡ false
 end_idle s nine = ap (λ b. b && not (is_nil s.due)) (le-ltb s.last 8 (omega (arith, nine)))
 

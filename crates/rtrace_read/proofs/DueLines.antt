@@ -22,7 +22,7 @@ use Rattle.rtrace_form.specs.Faults.{is_first, is_same_line}
 use Rattle.rtrace_form.specs.declared.word.Stage.{Stage}
 use Rattle.rtrace_read.specs.Due.{change_list, due_list}
 
--- there is more behind some items where there are more than those
+-- there is more after some items where there are more than those
 pub more_is : {X : Type 0} (xs : List X) (n : ℕ) → not (is_nil (drop n xs)) ≡ nat_lt n (length xs)
 more_is [] n = ap (λ ys. not (is_nil ys)) (drop-nil n) ∙ sym (le-ltb n 0 (omega arith))
 more_is (x ∷ xs) zero = sym (lt-ltb 0 (length (x ∷ xs)) (omega arith))
@@ -40,7 +40,7 @@ pub changes_many : (changes : ChangeLists) → length (change_list changes) ≡ 
 changes_many changes =
     length-append (map status_line changes.statuses) (map grant_line changes.grants) ∙ (λ i. length-map changes.statuses status_line i + length-map changes.grants grant_line i)
 
--- the line of a status is none of a grant
+-- the line of a status is not that of a grant
 not_grant : (g : GrantChange) (seat : ℕ) (half b : Bool) → is_same_line (grant_line g) (cond b (BecomesSatisfied seat half) (BecomesEntitled seat half)) ≡ false
 not_grant g seat half true = refl
 not_grant g seat half false = refl
@@ -50,7 +50,7 @@ grants_first [] n c = ap (λ xs. is_first xs (status_line c)) (drop-nil n)
 grants_first (g ∷ gs) zero c = not_grant g c.seat c.write_half (satisfied_by c.status)
 grants_first (g ∷ gs) (suc n) c = grants_first gs n c
 
--- behind the statuses stand the grants
+-- after the statuses come the grants
 pub status_past : (ss : List StatusChange) (gs : List GrantChange) (n : ℕ) (c : StatusChange) → length ss ≤ n → is_first (drop n (map status_line ss ++ map grant_line gs)) (status_line c) ≡ false
 status_past [] gs n c h = grants_first gs n c
 status_past (x ∷ ss) gs zero c h = absurd (omega (arith, h))
@@ -88,7 +88,7 @@ pub grant_past : (ss : List StatusChange) (gs : List GrantChange) (n seat : ℕ)
 grant_past ss gs n seat set low h =
     ap (λ (xs : List Line). is_first xs (Grants seat set)) (behind ss gs n (n - length ss) (omega arith) ∙ drop_of_length-le (map grant_line gs) (let many = length-map gs grant_line in omega (arith, many, h)))
 
--- the same of changes
+-- the same for changes
 pub due_status : (changes : ChangeLists) (n : ℕ) (due c : StatusChange) → n < length changes.statuses → due ≡ get_or changes.statuses n due
     → is_first (drop n (change_list changes)) (status_line c) ≡ is_same_line (status_line due) (status_line c)
 due_status changes n due c h is = status_at changes.statuses changes.grants n due c h is
@@ -96,9 +96,9 @@ due_status changes n due c h is = status_at changes.statuses changes.grants n du
 pub no_due_status : (changes : ChangeLists) (n : ℕ) (c : StatusChange) → length changes.statuses ≤ n → is_first (drop n (change_list changes)) (status_line c) ≡ false
 no_due_status changes n c h = status_past changes.statuses changes.grants n c h
 
--- ---- waits stand behind changes
+-- ---- waits come after changes
 
--- a line that no item of the second list is told by is first where it is first of the first list
+-- a line that is not that of any item of the second list is first where it is first of the first list
 first_of_front : (xs ys : List Line) (line : Line) → ((n : ℕ) → is_first (drop n ys) line ≡ false) → (n : ℕ) → is_first (drop n (xs ++ ys)) line ≡ is_first (drop n xs) line
 first_of_front [] ys line none n = none n ∙ ap (λ (zs : List Line). is_first zs line) (sym (drop-nil n))
 first_of_front (x ∷ xs) ys line none zero = refl

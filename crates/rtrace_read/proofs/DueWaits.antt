@@ -29,9 +29,9 @@ use Rattle.rtrace_read.specs.LineTakes.{IsFirstDue}
 use Rattle.rtrace_read.proofs.DueLines.{drop_one}
 use Rattle.rtrace_read.proofs.Steps.{ended_is, due_beside}
 
--- ---- lines that tell waits
+-- ---- lines of waits
 
--- how many lines tell waits
+-- how many lines are of waits
 abbrev pub waits_in : List Line → ℕ
 waits_in lines = length (filter tells_wait lines)
 
@@ -51,14 +51,14 @@ all_of_waits : (ws : List WaitEnd) → filter tells_wait (map (wait_line no_boun
 all_of_waits [] = refl
 all_of_waits (w ∷ ws) = ap (λ (lines : List Line). wait_line no_bounds w ∷ lines) (all_of_waits ws)
 
--- all waits that an event ended are due behind it
+-- all waits that an event ended are due after it
 pub all_due : (changes : ChangeLists) (ws : List WaitEnd) → waits_in (due_list changes ws) ≡ length ws
 all_due changes ws =
     ap length (ap (filter tells_wait) (append_assoc (map status_line changes.statuses) (map grant_line changes.grants) (map (wait_line no_bounds) ws))
     ∙ statuses_none changes.statuses (map grant_line changes.grants ++ map (wait_line no_bounds) ws) ∙ grants_none changes.grants (map (wait_line no_bounds) ws) ∙ all_of_waits ws)
     ∙ length-map ws (wait_line no_bounds)
 
--- so many are due behind some of them
+-- so many are due after some of them
 pub few_due : (ws : List WaitEnd) (k : ℕ) → waits_in (drop k (map (wait_line no_bounds) ws)) ≡ length ws - k
 few_due [] k = ap waits_in (drop-nil k) ∙ zero_less k
   where
@@ -85,7 +85,7 @@ among_drop (y ∷ xs) (suc n) x rest is = inr (among_drop xs n x rest is)
 
 -- ---- what is due at a place
 
--- the wait at the place behind the changes is the first that is due, and once it was told those behind it are
+-- the wait at the place after the changes is the first that is due, and once it was reported those after it are
 pub wait_first : (s : SoFar) (k : ℕ) (w : WaitEnd) → s.due ≡ drop k (map (wait_line no_bounds) (last_ended s)) → slice_get (last_ended s) k ≡ Some w
     → waits_due s ≡ w ∷ drop (length (last_ended s) - waits_in (drop 1 s.due)) (last_ended s)
 wait_first s k w due is =
@@ -98,7 +98,7 @@ wait_first s k w due is =
     let next : length ws - waits_in (drop 1 s.due) ≡ suc k = omega (arith, later, low) in
     ap (λ n. drop n ws) here ∙ at.0 ∙ ap (λ n. w ∷ drop n ws) (sym next)
 
--- the wait that a follower has at the place behind the changes is the first that is due
+-- the wait that a follower has at the place after the changes is the first that is due
 pub follower_first : (old : ReportReader) (machine : Standing) (f : Following) (ends : List WaitEnd) (changes : ChangeLists) → old.machine ≡ Some machine → old.following ≡ Some f → old.whole ≡ true → old.last < 8 → ((p : Past) → Follows f p → AreLastEnded p ends)
     → changes ≡ machine.last → (seat : ℕ) (stage : Stage) (cover bound : Numbers) (o : Option WaitEnd)
     → IfSome o (λ due. (length (change_list changes) ≤ old.told) × (slice_get ends (old.told - length (change_list changes)) ≡ Some due)) → IfSome o (λ due. IsFirstDue old (Waits seat stage cover bound) due)

@@ -72,7 +72,7 @@ refused_by_lock s (event.Finish seat) fits there = refl
 refused_by_lock s (event.Rise seat) fits there = refl
 refused_by_lock s (event.Ask seat part) fits there = refl
 
--- ---- what is due behind an event
+-- ---- what is due after an event
 
 one_told : (seat : ℕ) (half : Bool) (status : Status) → active_by status ≡ true → status_lines seat half status ≡ status_line (record { seat = seat; write_half = half; status = status }) ∷ []
 one_told seat half Waiting h = absurd (true≢false (sym h))

@@ -28,7 +28,7 @@ use Rattle.rexpand.specs.Groups.{ReadGroups}
 use Rattle.rtrace_read.specs.LineTakes.{place_code, AreMade, groups_over}
 use Rattle.rtrace_read.proofs.Codes.{plain_causes, place_code_is, placed, no_plain_code, follows_both}
 
--- ---- what stands behind the head
+-- ---- what comes after the head
 
 pub behind_head : (whole : Bool) (old : ReportReader) (s : SoFar) → Knows whole old s → place_code s 4 7 ≡ None → 4 ≤ s.last
 behind_head whole old s h here = (follows_both 4 s.last 7 (placed (is_change_due s) (nat_le 4 s.last && nat_le s.last 7) here).1).0

@@ -67,7 +67,7 @@ module _ (whole : Bool) (old : ReportReader) (s : SoFar) (h : Knows whole old s)
         ∙ h.left eight ∙ ap (λ n. drop n (ledger_lines whole (head_in s) (entries_in s))) (sym (at_eight eight))
   ]
 
-  -- behind these places, and where no change is due
+  -- after these places, and where no change is due
   pub standing : place_code s 4 8 ≡ None → (is_change_due s ≡ false) × (4 ≤ s.last) × (s.last ≤ 8)
   standing h = let at = placed (is_change_due s) (nat_le 4 s.last && nat_le s.last 8) h in let both = follows_both 4 s.last 8 at.1 in (at.0, both.0, both.1)
 
@@ -88,7 +88,7 @@ module _ (whole : Bool) (old : ReportReader) (s : SoFar) (h : Knows whole old s)
           drop_of_length-le (ledger_lines true (head_in s) (entries_in s)) (omega (arith, many, kept, all))
       at false = ap (drop (ledgers_told old)) (no_ledgers (head_in s) (entries_in s)) ∙ drop-nil (ledgers_told old)
 
-  -- all were told
+  -- all were given
   pub leave_more : (place : ℕ) (ledger : Ledger) → place_code s 4 8 ≡ None → length old.ledgers.items ≤ ledgers_told old → line_code whole s (Leaves place ledger) ≡ Some BadOrder
   leave_more place ledger none all =
       let at = standing none in

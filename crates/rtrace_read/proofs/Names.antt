@@ -1,4 +1,4 @@
--- The names behind a refused record.
+-- The names after a refused record.
 use Rattle.std.proofs.Common.{◌≡◌, inl, inr, ℕ, List, [], Option, Some, sym, ap, subst}
 use Rattle.rtrace_form.specs.Decided.{field_of}
 use Rattle.rtrace_form.specs.Records.{Row}
@@ -24,6 +24,6 @@ one_more_by (Some word.Resource) old new row h = (field_of row 1, inl h)
 one_more_by (Some word.Task) old new row h = (field_of row 1, inr h)
 one_more_by _ old new row h = ([], inl (inl h.0, h.1))
 
--- a refused record declares one name at the most
+-- a refused record declares at most one name
 pub one_more : (old new : ReportReader) (row : Row) → NamesStay old new row → OneMoreAtMost old new
 one_more old new row h = one_more_by (word_in old.whole row) old new row h

@@ -1,4 +1,4 @@
--- Records that are none of a wait: they tell no bound.
+-- Records that are not of a wait: they have no bound.
 use Rattle.std.proofs.Common.{◌≡◌, Bool, true, false, Option, Some, None, refl, sym, ap, ◌∙◌, true≢false}
 use Rattle.std.specs.Prelude.{option_map, option_and_then}
 use Rattle.rclaim.specs.declared.request.Kind.TheVariants.{Read, Write, Mixed, Upgrade, Nested}
@@ -44,13 +44,13 @@ none_by : (w : Word) (v : Option (Values (fields_of w))) → is_wait w ≡ false
 none_by w None h = refl
 none_by w (Some v) h = line_none w v h
 
--- a record that is none of a wait tells no bound
+-- a record that is not of a wait has no bound
 pub none_said : (whole : Bool) (names : Names) (row : Row) (w : Word) → word_in whole row ≡ Some w → is_wait w ≡ false → bound_said whole names row ≡ None
 unfolding meaning
 none_said whole names row w is other =
     ap (λ (o : Option Word). option_and_then bound_told (meant_as names row o)) is ∙ none_by w (read names (fields_of w) row) other
 
--- so it tells none whatever was said before it
+-- so it has none whatever was said before it
 pub tells_none : (old : ReportReader) (row : Row) (w : Word) (what : TakenRecord) → word_in old.whole row ≡ Some w → is_wait w ≡ false → bound_of what ≡ None → TellsBound old row what
 tells_none old row w what is other none = λ whole s h. none_said whole (names_in s) row w (ap (λ b. word_in b row) (sym h.kind) ∙ is) other ∙ sym none
 

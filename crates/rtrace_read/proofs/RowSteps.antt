@@ -289,7 +289,7 @@ few_groups g h =
 below_limit : (n : ℕ) → n ≤ GROUPS → (n == GROUPS) ≡ false → n < GROUPS
 below_limit n few free = grind (arith, nat_tests)
 
--- there is room for one more group, where there are not all that there may be
+-- there is room for one more group, where there are fewer than allowed
 pub groups_room : (whole : Bool) (old : ReportReader) (s : SoFar) → Knows whole old s → (g : ReadGroups) → old.groups ≡ Some g → IsTrue (are_groups g) → (length g.groups == GROUPS) ≡ false → length s.groups < GROUPS
 groups_room whole old s h g is right free = at (nat_lt s.last at_groups) (sym h.groups ∙ is) (below_limit (length g.groups) (few_groups g right) free)
   where

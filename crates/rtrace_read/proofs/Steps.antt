@@ -1,4 +1,4 @@
--- What the reader knows behind one line more that adds nothing to the entries.
+-- What the reader knows after one more line that adds nothing to the entries.
 use Rattle.std.proofs.Common.{◌≡◌, ℕ, ◌+◌, ◌≤◌, Bool, true, false, not, ◌&&◌, cond, nat_lt, List, [], drop, Option, Some, None, ◌++◌, ◌∷◌, ◌<◌, refl, sym, ap, subst, ◌∙◌, arith, true≢false, add-one, ◌⊎◌, inl, inr}
 use Rattle.std.proofs.lemmas.Bool.{and_parts, le-ltb, ltb-true, lt-ltb}
 use Rattle.std.proofs.lemmas.List.{map-append}
@@ -25,11 +25,11 @@ use Rattle.rtrace_read.specs.Knows.{Knows, known_groups, due_left, changes_in, e
 use Rattle.rtrace_read.proofs.DueLines.{drop_one, status_before_waits, grant_before_waits}
 use Rattle.rtrace_read.proofs.Codes.{change_right, with_change}
 
--- the place behind the head, where the groups are known
+-- the place after the head, where the groups are known
 pub groups_on : (whole : Bool) (old : ReportReader) (s : SoFar) → Knows whole old s → 4 ≤ s.last → (place : ℕ) → 4 ≤ place → (known_groups s ≡ known_groups (record s { last = place }))
 groups_on whole old s h low place high = ap (λ b. cond b None (Some (read_groups (head_in s)))) (le-ltb s.last at_groups (omega (arith, low)) ∙ sym (le-ltb place at_groups (omega (arith, high))))
 
--- a line behind the head that adds nothing to the entries
+-- a line after the head that adds nothing to the entries
 pub still : (whole : Bool) (old : ReportReader) (s : SoFar) (place told : ℕ) (due : List Line) → Knows whole old s → 4 ≤ s.last → 7 ≤ place → place ≤ 9
     → (whole ≡ false → told ≡ 0)
     → (place ≤ 7 → due ≡ due_left whole told (due_list (changes_in old.machine) (last_ended s)))
@@ -59,7 +59,7 @@ still whole old s place told due h low high most untold changes left = record {
   left = left;
 }
 
--- where a change is due, an event was told
+-- where a change is due, there was an event
 none_early : (whole : Bool) (told : ℕ) (machine : Option Standing) (head : Head) (earlier : List Entry) (latest : Option Entry) → machine ≡ None → latest ≡ None → told ≡ 0
     → due_left whole told (due_list (changes_in machine) (ended_at head earlier latest)) ≡ []
 none_early true told machine head earlier latest none never zero = λ i. drop (zero i) (due_list (changes_in (none i)) (ended_at head earlier (never i)))
@@ -90,7 +90,7 @@ due_more : (whole : Bool) (told : ℕ) (lines : List Line) → drop 1 (due_left 
 due_more true told lines = drop_one lines told ∙ ap (λ n. drop n lines) (sym (add-one told))
 due_more false told lines = refl
 
--- the change that is due was told
+-- the change that is due was given
 pub change_taken : (whole : Bool) (old : ReportReader) (s : SoFar) (line : Line) → Knows whole old s → is_change line ≡ true → (is_change_due s && is_first s.due line) ≡ true
     → (line_code whole s line ≡ None) × Knows whole (record old { told = old.told + 1; last = 7 }) (with_line whole s line)
 change_taken whole old s line h change right =
@@ -133,7 +133,7 @@ module _ (whole : Bool) (old : ReportReader) (s : SoFar) (h : Knows whole old s)
           ended (events_of s.earlier) entry.event (ap (λ (l : Option Entry). events_of (s.earlier ++ option_to_list l)) same ∙ events_push s.earlier entry)
           ∙ ap (ended_at (head_in s) s.earlier) (sym same)
 
-  -- what is due beside a machine that is there
+  -- what is due with a machine that is there
   pub due_beside : (machine : Standing) → old.machine ≡ Some machine → old.whole ≡ true → old.last < 8 → s.due ≡ drop old.told (due_list machine.last (last_ended s))
   due_beside machine is report low =
       let last = h.last in
@@ -165,7 +165,7 @@ module _ (whole : Bool) (old : ReportReader) (s : SoFar) (h : Knows whole old s)
       none_told true never = (λ i. drop old.told (due_list (changes_in (none i)) (ended_at (head_in s) s.earlier (never i)))) ∙ drop-nil old.told
       none_told false never = refl
 
-  -- the tests of lines, by what is beside the reader
+  -- the tests of lines, by the reader's machine and follower
   module _ (machine : Standing) (is : old.machine ≡ Some machine) (report : old.whole ≡ true) (low : old.last < 8) where
     pub status_due_is : (c : StatusChange) → is_first (drop old.told (change_list machine.last)) (status_line c) ≡ (is_change_due s && is_first s.due (status_line c))
     status_due_is c =

@@ -11,7 +11,7 @@ use Rattle.rtrace_read.specs.declared.reading.ReportReader.{ReportReader}
 use Rattle.rtrace_read.specs.Knows.{state_in, changes_in, past_in, StandBehind}
 use Rattle.rtrace_read.specs.LineTakes.{StillDue, AreFirstOf}
 
--- where a follower stands beside a machine, or neither is there
+-- where a follower is beside a machine, or neither is there
 follows_if : (machine : Option Standing) (o : Option Following) (latest : Option Entry) (p : Past) → StandBehind machine o latest p → IfSome o (λ f. Follows f p)
 follows_if None None latest p h = tt
 follows_if (Some m) (Some f) latest p h = h.1

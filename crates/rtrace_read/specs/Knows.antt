@@ -33,7 +33,7 @@ use Rattle.rtrace_read.specs.declared.reading.ReportReader.{ReportReader}
 abbrev pub known_groups : SoFar → Option ReadGroups
 known_groups s = if nat_lt s.last at_groups then None else Some (read_groups (head_in s))
 
--- the state in which a machine stands; before it is made, the one before the first event
+-- the state of a machine; before it is made, the state before the first event
 abbrev pub state_in : SoFar → Option Standing → LockState
 state_in s None = opening_of (head_in s)
 state_in s (Some machine) = machine.state
@@ -43,7 +43,7 @@ abbrev pub changes_in : Option Standing → ChangeLists
 changes_in None = no_changes
 changes_in (Some machine) = machine.last
 
--- the waits that an entry behind earlier ones ended, if it is there
+-- the waits that an entry after earlier ones ended, if there is such an entry
 abbrev pub ended_at : Head → List Entry → Option Entry → List WaitEnd
 ended_at head earlier None = []
 ended_at head earlier (Some entry) = ended_in head earlier entry.event
@@ -52,31 +52,31 @@ ended_at head earlier (Some entry) = ended_in head earlier entry.event
 abbrev pub last_ended : SoFar → List WaitEnd
 last_ended s = ended_at (head_in s) s.earlier s.latest
 
--- the waits of the latest event that are due: the last ones, as many as lines that are due tell waits
+-- the waits of the latest event that are due: the last ones, as many as there are lines of waits due
 abbrev pub waits_due : SoFar → List WaitEnd
 waits_due s = drop (length (last_ended s) - length (filter tells_wait s.due)) (last_ended s)
 
--- those that are due once so many were told; an event list has none
+-- the lines that are due once so many were given; an event list has none
 abbrev pub due_left : Bool → ℕ → List Line → List Line
 due_left whole told lines = if whole then drop told lines else []
 
--- the events so far, as one is told them who follows them
+-- the events so far, as whoever follows them is given them
 abbrev pub past_in : SoFar → Past
 past_in s = record { groups = read_groups (head_in s); seats = length s.tasks; cap = (head_in s).cap; events = events_of (entries_in s) }
 
--- a follower stands beside a machine behind the events so far, of which the latest entry has the last; before the first event there is neither
+-- a follower is beside a machine after the events so far, and the latest entry has the last event; before the first event there is neither
 abbrev pub StandBehind : Option Standing → Option Following → Option Entry → Past → Type 0
 StandBehind None None latest p = (latest ≡ None) × (p.events ≡ [])
 StandBehind (Some machine) (Some following) latest p = IsSome latest × Follows following p
 StandBehind None (Some following) latest p = ⊥
 StandBehind (Some machine) None latest p = ⊥
 
--- of these resources the acts of an entry may be: shows of the first, edits of the second
+-- acts of an entry may be on these resources: shows on the first, edits on the second
 abbrev pub may_do : Set → Set → Act Edit → Bool
 may_do shown edited (Edited place edit done) = contains edited place
 may_do shown edited (Shown place number) = contains shown place
 
--- the latest entry, which may have acts: the reader knows of which resources, and what its acts make of each ledger
+-- the latest entry, which may have acts: the reader knows on which resources, and what its acts make of each ledger
 pub record IsOpen (reading : ReportReader) (s : SoFar) : Type 0 where
   pub entry : Entry
   pub is : s.latest ≡ Some entry

@@ -59,7 +59,7 @@ fn place_of(act: &Act<Edit>) -> u8
     }
 }
 
-// Whether an act may be, where these resources may be shown and those edited.
+// Whether an act is allowed, where these resources may be shown and those edited.
 fn may_do(shown: ResourceSet, edited: ResourceSet, act: &Act<Edit>) -> bool
     requires { place_of act.now < RESOURCES }
     ensures { result ≡ may_do shown edited act.now }

@@ -1,4 +1,4 @@
-// The lines that tell what the latest event changed, and which waits it ended.
+// The lines of what the latest event changed, and of the waits that it ended.
 ghost use Rattle.std.specs.Prelude.{◌≡◌, ◌<◌, ◌^◌, ◌+◌, ◌&&◌, Bool, is_some, OnOk, OnErr, IfOk, IfErr, IfSome, IsTrue};
 ghost use Rattle.rtrace_form.specs.Lines.{Grants};
 ghost use Rattle.rtrace_form.specs.Reports.{status_line};
@@ -18,7 +18,7 @@ use rset::ResourceSet;
 use rtrace_form::{Code, WaitTold};
 
 impl ReportReader {
-    /// Takes a line that tells a change of a status.
+    /// Takes the line of a change of a status.
     ///
     /// # Errors
     ///
@@ -40,7 +40,7 @@ impl ReportReader {
         Ok(())
     }
 
-    /// Takes a line that tells all that a request holds.
+    /// Takes the line of all that a request holds.
     ///
     /// # Errors
     ///
@@ -62,7 +62,7 @@ impl ReportReader {
         Ok(())
     }
 
-    /// Takes a line that tells a wait that is over, and answers which wait it is. Its bound is not compared.
+    /// Takes the line of a wait that is over, and answers which wait it is. Its bound is not compared.
     ///
     /// # Errors
     ///

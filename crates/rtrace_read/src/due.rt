@@ -1,4 +1,4 @@
-// What is due behind an event, and whether a line tells it.
+// What is due after an event, and whether a line is the one due.
 ghost use Rattle.std.specs.Prelude.{◌≡◌, ◌<◌, ◌≤◌, ◌^◌, ◌+◌, ◌-◌, ◌&&◌, ◌==◌, not, drop, length, slice_get, is_some, Some, IfSome, IsTrue};
 ghost use Rattle.std.specs.FinSet.{union};
 ghost use Rattle.rset.specs.Sets.{equals};
@@ -16,7 +16,7 @@ use rcover_laws::WaitEnd;
 use rset::ResourceSet;
 use rtrace_form::{CoverTold, Stage, WaitTold};
 
-/// Whether there are more changes and waits than these.
+/// Whether there are more changes and waits than this many.
 pub fn has_more(changes: &Changes, ends: &[WaitEnd], told: usize) -> bool
     ensures { result ≡ not (is_nil (drop told (due_list changes.now ends.now))) }
 {
@@ -32,7 +32,7 @@ fn count_of(changes: &Changes) -> usize
     changes.statuses.len() + changes.grants.len()
 }
 
-/// The wait at a place, counted from the first change, if this is its line, whatever bound it tells.
+/// The wait at a place, counted from the first change, if this is its line, whatever bound it reports.
 pub fn wait_at(changes: &Changes, ends: &[WaitEnd], told: usize, wait: &WaitTold) -> Option<WaitEnd>
     ensures due { is_some result ≡ is_first (drop told (due_list changes.now ends.now)) (line_told wait.now) }
     ensures first { IfSome result (λ due. (length (change_list changes.now) ≤ told) × (slice_get ends.now (told - length (change_list changes.now)) ≡ Some due)) }
@@ -54,7 +54,7 @@ pub fn wait_at(changes: &Changes, ends: &[WaitEnd], told: usize, wait: &WaitTold
     }
 }
 
-/// Whether the change at a place is this change of a status. Statuses stand before grants.
+/// Whether the change at a place is this change of a status. Statuses come before grants.
 pub fn is_status_at(changes: &Changes, told: usize, change: StatusChange) -> bool
     ensures due { result ≡ is_first (drop told (change_list changes.now)) (status_line change) }
     ensures room { IsTrue result → told + 1 < 2 ^ 64 }
@@ -75,14 +75,14 @@ pub fn is_grant_at(changes: &Changes, told: usize, seat: u8, set: ResourceSet) -
     place < changes.grants.len() && is_same_grant(changes.grants[place], seat, set)
 }
 
-// Whether a grant is told by the line of this seat and set.
+// Whether the line of this seat and set is that of a grant.
 fn is_same_grant(due: GrantChange, seat: u8, set: ResourceSet) -> bool
     ensures { result ≡ is_same_line (grant_line due) (Grants seat set) }
 {
     due.seat == seat && due.reads.union(due.writes) == set
 }
 
-// Whether two changes of a status are told by the same line.
+// Whether two changes of a status have the same line.
 fn is_same(due: StatusChange, change: StatusChange) -> bool
     ensures { result ≡ is_same_line (status_line due) (status_line change) }
 {
@@ -92,14 +92,14 @@ fn is_same(due: StatusChange, change: StatusChange) -> bool
         && satisfied == matches!(change.status, Status::Satisfied)
 }
 
-// Whether a wait that is over is told by the line of this one, whatever bound it tells.
+// Whether this is the line of a wait that is over, whatever bound it reports.
 fn is_same_wait(due: &WaitEnd, wait: &WaitTold) -> bool
     ensures { result ≡ is_same_line (wait_line no_bounds due.now) (line_told wait.now) }
 {
     due.seat == wait.seat && (is_stage(due.which, wait.stage) && is_cover(due, &wait.cover))
 }
 
-// Whether a record of this stage tells which wait of its request it is.
+// Whether a record of this stage is of this wait of a request.
 fn is_stage(which: Which, stage: Stage) -> bool
     ensures { result ≡ same_stage (stage_of which) stage }
 {

@@ -23,11 +23,11 @@ use rset::ResourceSet;
 use rtrace_form::{Code, Refusal, RowErr};
 use std::alloc::{AllocError, Global};
 
-/// One step of the machine, by an event whose request is right by itself, and of what follows it.
+/// One step of the machine, and of what follows it, by an event whose request is right by itself.
 ///
 /// # Errors
 ///
-/// Its refusal. Then the machine stands as before, and the same events are followed.
+/// Its refusal. Then the machine is as before, and the same events are followed.
 pub fn apply(machine: &mut Plain, following: &mut Following, event: &Event) -> Result<(), Refusal>
     requires fits { FitsTold machine.old.state event.now }
     requires known { (p : Past) × Follows following.old p × (machine.old.state ≡ state_of p) × (length p.events < 2 ^ 63) }
@@ -56,12 +56,12 @@ fn is_admitted(groups: &Groups, event: &Event) -> bool
 }
 
 impl ReportReader {
-    /// Takes an event in its place, whose request is right by itself.
+    /// Takes an event in its place. Its request must be right by itself.
     ///
     /// # Errors
     ///
-    /// Its refusal, or want of memory at the first event. Where it is refused, what was due is due still, and no name was
-    /// declared. Where memory is wanting, nothing changes.
+    /// Its refusal, or out of memory at the first event. Where it is refused, what was due is still due, and no name
+    /// was declared. Out of memory, nothing changes.
     pub fn happen(&mut self, alloc: Global, event: &Event) -> Result<(), RowErr>
         requires ready { IsReady self.old }
         requires placed { IsPlaced self.old }
@@ -114,7 +114,8 @@ impl ReportReader {
         }
     }
 
-    // Makes the machine that is not there, and what follows it. Room for them is left out of the path of each event.
+    // Makes the machine, which is not there yet, and what follows it. Room for them is kept out of the path of each
+    // event.
     #[cold]
     #[inline(never)]
     fn make_first(&mut self, alloc: Global) -> Result<(), AllocError>
@@ -139,8 +140,8 @@ impl ReportReader {
         Ok(())
     }
 
-    // What acts behind an event may show, and what they may edit, where acts are told: by what its seat holds before it. Where
-    // none are told, that stays as it is.
+    // What acts after an event may show, and what they may edit, by what its seat holds before it. In an event list,
+    // which has no acts, both stay as they are.
     fn allowed(&self, event: &Event) -> (ResourceSet, ResourceSet)
         ensures listed { self.now.whole ≡ false → result ≡ (self.now.shown, self.now.edited) }
         ensures allowed { self.now.whole ≡ true → IfSome self.now.machine (λ machine. Allows result.0 result.1 event.now (holds_of machine.state.claims (seat_of event.now))) }
@@ -156,7 +157,7 @@ impl ReportReader {
     }
 }
 
-// What acts behind an event may edit, whose seat held this before it.
+// What acts after an event may edit, where its seat held this before it.
 fn edited_by(held: Granted, event: &Event) -> ResourceSet
     ensures { result ≡ edited_by held event.now }
 {

@@ -37,12 +37,12 @@ impl ReportReader {
         Ok(())
     }
 
-    /// Takes a resource, whose ledger opens.
+    /// Takes a resource and opens its ledger.
     ///
     /// # Errors
     ///
-    /// What is wrong with it there, or want of memory. Where it is wrong, what was due is due still, and no name but this one
-    /// was declared. Where memory is wanting, nothing changes but the room for ledgers.
+    /// What is wrong with it there, or out of memory. Where it is wrong, what was due is still due, and no name but
+    /// this one was declared. Out of memory, nothing changes but the room for ledgers.
     pub fn resource(&mut self, name: &[u8]) -> Result<(), RowErr>
         ensures taken { OnOk result (Takes self.old self.new (HasResource name.now)) }
         ensures bad { (code : Code) → result ≡ Err (RowErr.Bad code) → Refuses self.old (HasResource name.now) code }
@@ -52,7 +52,7 @@ impl ReportReader {
         ensures memory { result ≡ Err RowErr.Memory → IsAsBefore self.old self.new }
     {
         let misplaced = self.misplaced(AT_VERSION, AT_RESOURCES);
-        // Room first: behind it nothing but the name takes memory.
+        // Room first: after it nothing but the name takes memory.
         let Ok(()) = self.ledgers.reserve(1) else {
             return Err(RowErr::Memory);
         };
@@ -71,8 +71,8 @@ impl ReportReader {
     ///
     /// # Errors
     ///
-    /// What is wrong with it there, or want of memory. Where it is wrong, what was due is due still, and no name but this one
-    /// was declared. Where memory is wanting, nothing changes.
+    /// What is wrong with it there, or out of memory. Where it is wrong, what was due is still due, and no name but
+    /// this one was declared. Out of memory, nothing changes.
     pub fn task(&mut self, alloc: Global, name: &[u8]) -> Result<(), RowErr>
         ensures taken { OnOk result (Takes self.old self.new (HasTask name.now)) }
         ensures bad { (code : Code) → result ≡ Err (RowErr.Bad code) → Refuses self.old (HasTask name.now) code }
@@ -82,7 +82,7 @@ impl ReportReader {
         ensures memory { result ≡ Err RowErr.Memory → self.new ≡ self.old }
     {
         let misplaced = self.misplaced(AT_RESOURCES, AT_TASKS);
-        // The groups first: behind them nothing but the name takes memory.
+        // The groups first: after them nothing but the name takes memory.
         let Ok(first) = first_groups(alloc, &self.groups, self.resources.len()) else {
             return Err(RowErr::Memory);
         };
@@ -97,11 +97,11 @@ impl ReportReader {
         Ok(())
     }
 
-    /// Takes a read group, where there is room for one more.
+    /// Takes a read group, if there is room for one more.
     ///
     /// # Errors
     ///
-    /// What is wrong with it there, or want of memory. Nothing changes then.
+    /// What is wrong with it there, or out of memory. Nothing changes then.
     pub fn group(&mut self, alloc: Global, set: ResourceSet) -> Result<(), RowErr>
         requires known { (whole : Bool) × (s : SoFar) × Knows whole self.old s }
         requires room { (whole : Bool) (s : SoFar) → Knows whole self.old s → length s.groups < GROUPS }
@@ -144,7 +144,7 @@ impl ReportReader {
     }
 }
 
-// The groups over so many resources, where there are resources and no groups yet.
+// The groups over so many resources, if there are resources and no groups yet.
 fn first_groups(alloc: Global, groups: &Option<Groups>, q: u8) -> Result<Option<Groups>, AllocError>
     requires { q ≤ RESOURCES }
     ensures { IfOk result (λ first. AreMade q groups.now (option_or first groups.now)) }
@@ -164,7 +164,7 @@ fn keep_first(groups: &mut Option<Groups>, first: Option<Groups>)
     }
 }
 
-// Adds a group behind the others. Where there are none yet, they are made over so many resources.
+// Adds a group after the others. Where there are none yet, they are made over so many resources.
 fn add_group(
     alloc: Global,
     groups: &mut Option<Groups>,
@@ -188,7 +188,8 @@ fn add_group(
     }
 }
 
-// A table of names holds as many as there are resources, which must be the limit of tasks too: one function declares both.
+// A table of names holds as many names as there can be resources. That must be the limit of tasks too, since one
+// function declares both.
 const _: () = prove!(rset::SEATS as u16 == rset::RESOURCES);
 
 // Adds a declared name, of a resource or of a task, to its table.

@@ -59,7 +59,7 @@ impl ReportReader {
         Ok(())
     }
 
-    /// How many ledgers were told so far: none before the first one, and none behind the end.
+    /// How many ledgers were given so far: none before the first one, and none after the end.
     pub fn ledgers_told(&self) -> usize
         ensures { result ≡ ledgers_told self.now }
     {
@@ -71,7 +71,7 @@ impl ReportReader {
     }
 }
 
-// Whether the ledger that is due is told by the line of this one.
+// Whether this is the line of the ledger that is due.
 fn is_left(due: usize, left: Ledger, place: u8, ledger: Ledger) -> bool
     ensures { result ≡ is_same_line (Leaves due left) (Leaves place ledger) }
 {

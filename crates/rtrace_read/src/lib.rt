@@ -1,4 +1,6 @@
-//! How the records of a report are read, and what is due beside them.
+//! The reader of event lists and reports, record by record: [`take`] takes a record with a [`ReportReader`] and answers
+//! what it adds to the history ([`TakenRecord`]). It compares what a report says with a machine, the waits that ended
+//! and the ledgers. Bounds of waits are judged above: they depend on the whole history.
 #![tactic(auto)]
 
 mod acts;

@@ -1,4 +1,4 @@
-// Where a line may stand.
+// Where a line may come.
 ghost use Rattle.std.specs.Prelude.{◌≡◌, Bool};
 ghost use Rattle.rtrace_form.specs.SoFar.{SoFar};
 ghost use Rattle.rtrace_form.specs.Faults.{is_change_due};
@@ -10,7 +10,7 @@ use crate::reading::ReportReader;
 use rmodel::Machine;
 use rtrace_form::Code;
 
-// The places of lines, as `rforms` numbers them: where the last one stands, in the order in which they may stand.
+// The places of lines, as `rtrace_form` numbers them: where the last one is, in the order in which they may come.
 
 /// Nothing was read.
 pub const AT_START: u8 = 0;
@@ -27,7 +27,7 @@ pub const AT_GROUPS: u8 = 3;
 /// The last line declares a task.
 pub const AT_TASKS: u8 = 4;
 
-/// The last line tells the cap.
+/// The last line gives the cap.
 pub const AT_CAP: u8 = 5;
 
 /// Acts may follow.
@@ -43,7 +43,7 @@ pub const AT_LEDGERS: u8 = 8;
 pub const AT_END: u8 = 9;
 
 impl ReportReader {
-    /// What is wrong with the place of a line that tells no change and is no act, and may come behind these places.
+    /// What is wrong with the place of a line that is neither a change nor an act, and may come after these places.
     pub fn misplaced(&self, least: u8, most: u8) -> Option<Code>
         ensures { (whole : Bool) (s : SoFar) → Knows whole self.now s → result ≡ place_code s least most }
     {
@@ -57,7 +57,7 @@ impl ReportReader {
         }
     }
 
-    /// Whether a line that tells a change, or a wait that is over, is due.
+    /// Whether a line of a change, or of a wait that is over, is due.
     pub fn is_change_due(&self) -> bool
         ensures { (whole : Bool) (s : SoFar) → Knows whole self.now s → result ≡ is_change_due s }
     {

@@ -1,4 +1,4 @@
-// The records that tell nothing of the history: those of the head, of changes, of ledgers, and the end.
+// The records that add nothing to the history: those of the head, of changes, of ledgers, and the end.
 ghost use Rattle.std.specs.Prelude.{◌≡◌, ◌<◌, ◌==◌, false, Bool, true, length, Some, OnOk, OnErr};
 ghost use Rattle.csv.specs.Records.{fields_of};
 ghost use Rattle.rexpand.specs.declared.TheConstants.{GROUPS};
@@ -19,13 +19,13 @@ use rtrace_form::{
 };
 use std::alloc::Global;
 
-/// Takes a record that tells nothing of the history and no wait, and puts that into `taken`.
+/// Takes a record that adds nothing to the history and is not of a wait, and puts that into `taken`.
 ///
 /// # Errors
 ///
-/// The first thing that is wrong with it, or want of memory in the head. Nothing is said then of `taken`. Where it is wrong,
-/// what was due is due still, and no name but its own was declared. Where memory is wanting, nothing changes in the reader but
-/// the room for ledgers.
+/// The first thing that is wrong with it, or out of memory in the head. Nothing is promised then of `taken`. Where it
+/// is wrong, what was due is still due, and no name but its own was declared. Out of memory, nothing changes in the
+/// reader but the room for ledgers.
 pub fn take_plain(
     reading: &mut ReportReader,
     alloc: Global,
@@ -56,7 +56,7 @@ pub fn take_plain(
     }
 }
 
-// Takes a record that tells nothing of the history.
+// Takes a record that adds nothing to the history.
 fn take_other(
     reading: &mut ReportReader,
     alloc: Global,
@@ -248,7 +248,7 @@ fn take_end(reading: &mut ReportReader, fields: &ByteRecord) -> Result<(), RowEr
     }
 }
 
-// Whether there are as many read groups as there may be.
+// Whether there are as many read groups as allowed.
 fn has_all_groups(reading: &ReportReader) -> bool
     ensures all { (whole : Bool) (s : SoFar) → Knows whole reading.now s → result ≡ (length s.groups == GROUPS) }
     ensures room { (whole : Bool) (s : SoFar) → Knows whole reading.now s → result ≡ false → length s.groups < GROUPS }

@@ -12,32 +12,32 @@ use rset::{NameTable, ResourceSet};
 use rvalue::Ledger;
 use std::alloc::Global;
 
-/// What the lines so far have declared, and where their events lead: as much as is needed to judge the next one.
+/// What the lines so far have declared, and where their events lead: as much as it needs to judge the next one.
 #[derive(Drop)]
 pub struct ReportReader {
-    /// Whether the text is a report, and else an event list.
+    /// Whether the text is a report; otherwise it is an event list.
     pub whole: bool,
-    /// The place of the last line, as `rforms` numbers them.
+    /// The place of the last line, as `rtrace_form` numbers them.
     pub last: u8,
     /// The resources that were declared.
     pub resources: NameTable,
-    /// The read groups, made at the first group or task: no resource is declared behind it.
+    /// The read groups, made at the first group or task: no resource is declared after it.
     pub groups: Option<Groups>,
     /// The tasks that were declared.
     pub tasks: NameTable,
-    /// The cap that was told.
+    /// The cap in the text.
     pub cap: Option<u8>,
     /// The machine, made at the first event. Its changes are those of the latest event.
     pub machine: Option<Plain>,
-    /// What follows the waits beside it, made with it. It has those that the latest event ended.
+    /// What follows the waits beside the machine, made with it. It has those that the latest event ended.
     pub following: Option<Following>,
     /// The ledger of each resource, after the acts so far.
     pub ledgers: Vec<Ledger>,
-    /// What acts behind the latest event that was taken may show; nothing in an event list.
+    /// What acts after the latest event that was taken may show; nothing in an event list.
     pub shown: ResourceSet,
     /// What they may edit.
     pub edited: ResourceSet,
-    /// How many of the latest event's changes, and of the waits that it ended, were told; from the first ledger on, how many
+    /// How many of the latest event's changes and ended waits were reported; from the first ledger on, how many
     /// ledgers.
     pub told: usize,
 }

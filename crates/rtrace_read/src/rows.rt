@@ -20,13 +20,13 @@ use rtrace_form::{
 };
 use std::alloc::Global;
 
-/// Takes the next record, and puts into `taken` what it tells of the history.
+/// Takes the next record, and puts what it adds to the history into `taken`.
 ///
 /// # Errors
 ///
-/// The first thing that is wrong with it, or want of memory: that may come in the head, and at the first event. Nothing
-/// is said then of `taken`. Where a record is wrong, what was due is due still, and no name but its own was declared. Where
-/// memory is wanting, nothing changes in the reader but the room for ledgers.
+/// The first thing that is wrong with it, or out of memory: in the head or at the first event. Nothing is promised then
+/// of `taken`. Where a record is wrong, what was due is still due, and no name but its own was declared. Out of memory,
+/// nothing changes in the reader but the room for ledgers.
 pub fn take(
     reading: &mut ReportReader,
     alloc: Global,
@@ -103,8 +103,8 @@ fn take_event(
     }
 }
 
-// Keeps the event that a record tells, or answers what refuses its request whatever read groups there are. A finish, which
-// has a seat alone, is kept by itself: else each finish would pay for what a request has.
+// Keeps the event in a record, or answers what refuses its request whatever read groups there are. A finish has only a
+// seat and is kept by itself: otherwise each finish would pay for what a request has.
 fn keep_event(
     reading: &ReportReader,
     word: Word,
@@ -196,7 +196,7 @@ fn take_wait(
     }
 }
 
-// Keeps an event as what was taken. Where another one is kept it is written over, and nothing else is moved.
+// Keeps an event as what was taken. Over another event it is written in place, and nothing else is moved.
 #[inline]
 fn keep(taken: &mut TakenRecord, event: Event)
     ensures { taken.new ≡ TakenRecord.Event event }

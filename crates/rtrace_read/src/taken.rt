@@ -1,19 +1,19 @@
-// What a record that was taken tells.
+// What a record that was taken adds to the history.
 use rbound::Bound;
 use rclaim::Event;
 use rcover_laws::WaitEnd;
 use rvalue::{Act, Edit};
 
-/// A wait that the latest event ended, and the bound that a record tells of it.
+/// A wait that the latest event ended, and the bound that a record reports for it.
 #[derive(Clone, Copy)]
 pub struct BoundTold {
     /// The wait.
     pub wait: WaitEnd,
-    /// What is said to be its bound.
+    /// Its reported bound.
     pub bound: Bound,
 }
 
-/// What a record that was taken tells of the history.
+/// What a record that was taken adds to the history.
 #[derive(Drop)]
 pub enum TakenRecord {
     /// This event happened.
@@ -22,6 +22,6 @@ pub enum TakenRecord {
     Act(Act<Edit>),
     /// A wait that the latest event ended has this bound.
     Wait(BoundTold),
-    /// Nothing that stands in the history.
+    /// Nothing of the history.
     Other,
 }

@@ -68,7 +68,7 @@ module _ (whole : Bool) (reading : ReportReader) (s : SoFar) (k : Knows whole re
     pub some_groups : IsSome reading.groups
     some_groups = ap is_some groups_are
 
--- what was made behind a list without events was told all of it
+-- what was made after a list without events was given all of it
 pub told_none : (t : Telling) (reading : ReportReader) (s : SoFar) → Knows false reading s → is_ended s ≡ true → t.names ≡ names_read reading
     → ((groups : ReadGroups) (cap : ℕ) → KnowsGathered t.gathered (begun groups (length reading.tasks) cap) []) → entries_in s ≡ [] → KnowsTelling t s
 unfolding ended_from
@@ -81,7 +81,7 @@ told_none t reading s k ended named told none =
           (subst (λ (seats : ℕ). KnowsGathered t.gathered (begun (read_groups (head_in s)) seats (head_in s).cap) []) (ap (λ (ts : List (List ℕ)). length ts) k.tasks) (told (read_groups (head_in s)) (head_in s).cap));
     }
 
--- the history of what was read to its end was told whole, also when its text is given away
+-- the history of what was read to its end was given whole, also when its text is moved out
 pub told_whole : (text given : List (Option ℕ)) (telling : Telling) (reading : ReportReader) (s : SoFar) → given ≡ text → IsToldToEnd text telling reading s → IsToldWhole given telling.gathered (names_in s) (head_in s) (entries_in s)
 told_whole text given telling reading s same h = record { told = same ∙ h.history; known = h.told.gathered }
 

@@ -29,13 +29,13 @@ use Rattle.rtrace_replay.specs.Replaying.{history_text}
 no_longer : {X : Type 0} (xs : List X) (x : X) → xs ≡ xs ++ x ∷ [] → ⊥
 no_longer {X} xs x e = let more = length-append xs (x ∷ []) in let same : length xs ≡ length (xs ++ x ∷ []) = ap (λ (ys : List X). length ys) e in omega (arith, more, same)
 
--- the latest entry is no entry more
+-- the latest entry is not one more entry
 one_latest : (earlier : List Entry) (latest : Option Entry) (x : Entry) → earlier ≡ earlier ++ option_to_list latest → latest ≡ Some x → ⊥
 one_latest earlier latest x e is = no_longer earlier x (e ∙ ap (λ (o : Option Entry). earlier ++ option_to_list o) is)
 
 -- ---- an event
 
--- a line that makes this the latest entry, behind all before it, declares nothing
+-- a line that makes this the latest entry, after all before it, declares nothing
 adds_event : (s : SoFar) (line : Line) (e : Event) → is_act line ≡ false → (with_line false s line).earlier ≡ entries_in s → (with_line false s line).latest ≡ Some (bare e) → head_in (with_line false s line) ≡ head_in s
 adds_event s (Does act) e plain earlier latest = absurd (true≢false plain)
 adds_event s (HasResource name) e plain earlier latest = absurd (one_latest s.earlier s.latest (bare e) earlier latest)
@@ -53,7 +53,7 @@ adds_event s Ends e plain earlier latest = refl
 
 -- ---- no event
 
--- behind the head nothing declares anything
+-- after the head nothing declares anything
 far_same : (s : SoFar) (line : Line) → IsFine false s line → 6 ≤ s.last → head_in (with_line false s line) ≡ head_in s
 far_same s Opens fine far = absurd (let at = (placed false s Opens fine (none_due false s Opens fine refl refl)).0 in omega (arith, at.high, far))
 far_same s (HasResource name) fine far = absurd (let at = (placed false s (HasResource name) fine (none_due false s (HasResource name) fine refl refl)).0 in omega (arith, at.high, far))
@@ -87,7 +87,7 @@ far_stays s (Waits seat stage cover bound) fine far = omega arith
 far_stays s (Leaves place ledger) fine far = omega arith
 far_stays s Ends fine far = omega arith
 
--- an entry with one act more is another
+-- an entry with one more act is another
 no_act_more : (latest : Option Entry) (act : Act Edit) → IsSome latest → latest ≡ option_map (with_act act) latest → ⊥
 no_act_more None act is e = true≢false (sym is)
 no_act_more (Some x) act is e = no_longer x.acts act (ap acts_of e)
@@ -118,7 +118,7 @@ adds_act s Ends act plain earlier latest is = no_act_more s.latest act is latest
 
 -- ---- texts
 
--- the text of a history with one event more
+-- the text of a history with one more event
 event_more : (head : Head) (names : Names) (earlier : List Entry) (e : Event)
     → open_told names (history_lines true no_bounds head [] (earlier ++ bare e ∷ []))
     ≡ open_told names (history_lines true no_bounds head [] earlier)
@@ -140,7 +140,7 @@ module _ (s : SoFar) (row : Row) (right : code_of false s row ≡ None) where
       let h = clean false s row right in
       subst (λ (o : Option Line). P (with_meaning false s o)) (sym h.means) (each h.line h.fine (no_act (names_in s) row h.line h.means))
 
-  -- a record that tells an event declares nothing
+  -- the record of an event declares nothing
   pub event_head : (e : Event) → (with_row false s row).earlier ≡ entries_in s → (with_row false s row).latest ≡ Some (bare e) → head_in (with_row false s row) ≡ head_in s
   event_head e = of_line (λ t. t.earlier ≡ entries_in s → t.latest ≡ Some (bare e) → head_in t ≡ head_in s) (λ line fine plain earlier latest. adds_event s line e plain earlier latest)
 
@@ -170,7 +170,7 @@ module _ (s : SoFar) (row : Row) (right : code_of false s row ≡ None) where
           let head = of_line (λ t. head_in t ≡ head_in s) (λ line fine plain. far_same s line fine far) in
           (λ i. open_told (record { resources = (head i).resources; tasks = (head i).tasks }) (history_lines true no_bounds (head i) [] (same i)))
 
-  -- behind the head the head stays
+  -- after the head the head stays
   pub far_head : 6 ≤ s.last → head_in (with_row false s row) ≡ head_in s
   far_head far = of_line (λ t. head_in t ≡ head_in s) (λ line fine plain. far_same s line fine far)
 

@@ -15,12 +15,12 @@ use Rattle.rtrace_replay.specs.Stepping.{IsAtHead, AreStepsOf}
 use Rattle.rtrace_replay.specs.declared.steps.Steps.{Steps}
 
 module _ (s : SoFar) (row : Row) where
-  -- the events, with the event behind them
+  -- the events, with the event after them
   pub event_list : (e : Event) (old new : List Event) → (with_row false s row).earlier ≡ entries_in s → (with_row false s row).latest ≡ Some (bare e) → old ≡ events_of (entries_in s) → new ≡ old ++ e ∷ [] → new ≡ events_of (entries_in (with_row false s row))
   event_list e old new earlier latest f g =
       g ∙ ap (λ (es : List Event). es ++ e ∷ []) f ∙ sym (map-append (λ (entry : Entry). entry.event) (entries_in s) (bare e ∷ [])) ∙ sym (λ i. events_of (earlier i ++ option_to_list (latest i)))
 
-  -- and with none behind them
+  -- and with none after them
   pub other_list : (old : List Event) → (with_row false s row).earlier ≡ s.earlier → (with_row false s row).latest ≡ s.latest → old ≡ events_of (entries_in s) → old ≡ events_of (entries_in (with_row false s row))
   other_list old earlier latest f = f ∙ sym (λ i. events_of (earlier i ++ option_to_list (latest i)))
 

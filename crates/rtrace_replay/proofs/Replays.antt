@@ -1,4 +1,4 @@
--- What is known of a replay behind a record.
+-- What is known of a replay after a record.
 use Rattle.std.proofs.Common.{◌≡◌, inl, inr, ◌⊎◌, ℕ, ◌≤◌, length, false, List, [], ◌∷◌, ◌++◌, Option, Some, None, refl, sym, ap, subst, ◌∙◌, true≢false}
 use Rattle.std.proofs.lemmas.List.{map-append}
 use Rattle.std.specs.Prelude.{Result, Err, option_to_list, IfSome, IsSome}
@@ -57,7 +57,7 @@ event_far reading t x k latest = at (up_to_five t.last)
     at (inl near) = absurd (none_some t.latest x (k.idle near).2 latest)
     at (inr far) = far
 
--- a reader that took an event has a machine, and a follower behind these events
+-- a reader that took an event has a machine, and a follower after these events
 both_there : (machine : Option Standing) (following : Option Following) (latest : Option Entry) (p : Past) (x : Entry) → StandBehind machine following latest p → latest ≡ Some x
     → IsSome machine × IsSome following × AreFollowed following p
 both_there None None latest p x h is = absurd (none_some latest x h.0 is)
@@ -69,11 +69,11 @@ module _ (s : SoFar) (row : Row) (right : code_of false s row ≡ None) (before 
   abbrev past : Past
   past = past_in (head_in s) (entries_in s)
 
-  -- names that stood ready are still those that were read
+  -- names that were ready are still those that were read
   names_stay : (telling : Telling) → KnowsTelling telling s → telling.names ≡ names_read reading
   names_stay telling k = k.names ∙ ap (λ head. record { resources = head.resources; tasks = head.tasks }) (sym (far_head s row right k.far)) ∙ sym (names_are reading (with_row false s row) now)
 
-  -- a record that adds no entry leaves what tells events as it was
+  -- a record that adds no entry leaves the `Telling` as it was
   pub telling_kept : (telling : Option Telling) → (with_row false s row).earlier ≡ s.earlier → (with_row false s row).latest ≡ s.latest → IfSome telling (λ t. KnowsTelling t s) → IfSome telling (λ t. KnowsTelling t (with_row false s row))
   telling_kept telling earlier latest = if_some_weaker telling (λ t k.
       let head : head_in (with_row false s row) ≡ head_in s = far_head s row right k.far in
@@ -106,7 +106,7 @@ module _ (s : SoFar) (row : Row) (right : code_of false s row ≡ None) (before 
         let h = both_there reading.machine reading.following (with_row false s row).latest (past_in (head_in (with_row false s row)) (entries_in (with_row false s row))) (bare e) now.stand latest in
         (h.0, h.1, subst (λ (p : Past). AreFollowed reading.following p) (sym past_event) h.2)
 
-    -- before the first event nothing was told
+    -- before the first event nothing was given to it
     pub nothing_told : entries_in s ≡ [] → (past ≡ begun past.groups (length reading.tasks) past.cap) × (all_ended (head_in s) (entries_in s) ≡ [])
     unfolding ended_from
     nothing_told none =
@@ -114,12 +114,12 @@ module _ (s : SoFar) (row : Row) (right : code_of false s row ≡ None) (before 
         ap (λ (h : Head). length h.tasks) (sym (event_head s row right e earlier latest)) ∙ ap (λ (ts : List (List ℕ)). length ts) (sym now.tasks) in
         ((λ i. record { groups = past.groups; seats = tasks i; cap = past.cap; events = events_of (none i) }), ap (all_ended (head_in s)) none)
 
-    -- what told the events so far was told by what the reader has read
+    -- the `Telling` was given the events so far by what the reader has read
     pub still_told : (telling : Option Telling) → IfSome telling (λ t. KnowsTelling t s) → (telling ≡ None → entries_in s ≡ []) → IsTold telling reading past (all_ended (head_in s) (entries_in s))
     still_told None knows untold = nothing_told (untold refl)
     still_told (Some t) knows untold = (names_stay t knows, knows.gathered)
 
-    -- the text, with the event, its changes and the waits that it ended behind it
+    -- the text, with the event, its changes and the waits that it ended after it
     pub event_history : (old new : List (Option ℕ)) → old ≡ history_text s
         → new ≡ old ++ open_told (names_read reading) (Happens e ∷ step_told (changes_in reading.machine) (ended_by (start_of past) past.events e)) → new ≡ history_text (with_row false s row)
     unfolding ended_in
@@ -129,7 +129,7 @@ module _ (s : SoFar) (row : Row) (right : code_of false s row ≡ None) (before 
         let changes = now.changes (bare e) latest ∙ (λ i. changes_between (lock_after (head i) (earlier i)) (next (lock_after (head i) (earlier i)) e)) in
         g ∙ (λ i. f i ++ open_told (names i) (Happens e ∷ step_told (changes i) (ended_by (start_of past) past.events e))) ∙ sym (event_text s row right e earlier latest)
 
-    -- what tells events, behind it
+    -- the `Telling`, after it
     pub told_event : (telling : Option Telling) → IsSome telling → IsTold telling reading (with_event past e) (all_ended (head_in s) (entries_in s) ++ ended_by (start_of past) past.events e)
         → IfSome telling (λ t. KnowsTelling t (with_row false s row))
     told_event None there told = tt
@@ -143,12 +143,12 @@ module _ (s : SoFar) (row : Row) (right : code_of false s row ≡ None) (before 
   pub other_history : (old : List (Option ℕ)) → (with_row false s row).earlier ≡ s.earlier → (with_row false s row).latest ≡ s.latest → old ≡ history_text s → old ≡ history_text (with_row false s row)
   other_history old earlier latest f = f ∙ sym (other_text s row right (no_entries before s was) earlier latest)
 
--- the last of accepted events comes to the state that those before it lead to
+-- the last of accepted events is accepted in the state that those before it lead to
 comes_last : (s : LockState) (es : List Event) (e : Event) → AreAccepted s (es ++ e ∷ []) → Comes (after s es) e
 comes_last s [] e all = all.0
 comes_last s (d ∷ es) e all = comes_last (next s d) es e all.1
 
--- the follower that there is followed them
+-- the follower followed them
 pub followed_by : (o : Option Following) (following : Following) (p : Past) → o ≡ Some following → AreFollowed o p → Follows following p
 followed_by o following p is h = subst (λ (f : Option Following). AreFollowed f p) is h
 
@@ -159,7 +159,7 @@ coming_next following p e ended follows has = record {
   ended = has (with_event p e) follows p.events e refl;
 }
 
--- what was made at the first event was told none before it
+-- what was made at the first event was given none before it
 pub first_told : (t : Telling) (reading : ReportReader) (p : Past) (ws : List WaitEnd) → ((groups : ReadGroups) (cap : ℕ) → KnowsGathered t.gathered (begun groups (length reading.tasks) cap) []) → IsTold None reading p ws
     → KnowsGathered t.gathered p ws
 first_told t reading p ws told none =

@@ -1,4 +1,4 @@
--- Telling the steps of a list, one after another.
+-- Giving an audience the steps of a list, one after another.
 use Rattle.std.proofs.Common.{◌≡◌, ℕ, ◌+◌, ◌<◌, ◌≤◌, List, [], ◌∷◌, drop, get_or, length, map, refl, sym, ap, subst, ◌∙◌, add-one}
 use Rattle.std.proofs.Math.Seq.{drop-cons}
 use Rattle.std.proofs.lemmas.List.{drop_all}
@@ -18,7 +18,7 @@ told_first : (step : Event × ChangeLists) (steps : List (Event × ChangeLists))
 told_first step steps [] = refl
 told_first step steps (w ∷ ws) = ap (λ vs. told_all steps (told step.0 step.1 w) ∷ vs) (told_first step steps ws)
 
--- some events were told: those that are left are accepted, and once they are told too, all are
+-- some events were given: those that are left are accepted, and once they are given too, all are
 pub record IsToldSo (first : LockState) (events : List Event) (watchers : List Seen) (s : LockState) (rest : List Event) (now : List Seen) : Type 0 where
   pub accepted : AreAccepted s rest
   pub all : map (told_all (steps_of first events)) watchers ≡ map (told_all (steps_of s rest)) now

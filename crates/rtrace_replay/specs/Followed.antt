@@ -1,4 +1,4 @@
--- What is known of the events that a reader took, and of what tells them.
+-- What is known of the events that a reader took, and of the `Telling`.
 use Rattle.std.specs.Prelude.{◌≡◌, List, [], length, Option, Some, None, IfSome}
 use Rattle.rcover_laws.specs.declared.wait_end.WaitEnd.{WaitEnd}
 use Rattle.rtrace_read.specs.Follows.{Follows}
@@ -13,7 +13,7 @@ use Rattle.rtrace_replay.specs.declared.replaying.Telling.{Telling}
 abbrev pub AreFollowed : Option Following → Past → Type 0
 AreFollowed following p = IfSome following (λ f. Follows f p)
 
--- what tells events has the names that were read, and was told these events and the waits that they ended; before it is made there is none
+-- the `Telling` has the names that were read, and was given these events and the waits that they ended; before it is made there are none
 abbrev pub IsTold : Option Telling → ReportReader → Past → List WaitEnd → Type 0
 IsTold None reading p ws = (p ≡ begun p.groups (length reading.tasks) p.cap) × (ws ≡ [])
 IsTold (Some telling) reading p ws = (telling.names ≡ names_read reading) × KnowsGathered telling.gathered p ws

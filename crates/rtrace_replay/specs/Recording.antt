@@ -5,7 +5,7 @@ use Rattle.rtrace_form.specs.Waits.{events_of}
 use Rattle.rtrace_replay.specs.Replaying.{KnowsReplay}
 use Rattle.rtrace_replay.specs.declared.recording.Recording.{Recording}
 
--- the same as of a replay, and the events are kept
+-- as for a replay, and the events are kept
 pub record KnowsSteps (recording : Recording) (s : SoFar) : Type 0 where
   pub replay : KnowsReplay recording.replaying s
   pub events : recording.events.items ≡ events_of (entries_in s)

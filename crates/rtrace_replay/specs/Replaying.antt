@@ -17,35 +17,35 @@ use Rattle.rtrace_read.specs.declared.taken.TakenRecord.TheVariants as taken
 use Rattle.rtrace_replay.specs.declared.replaying.Replaying.{Replaying}
 use Rattle.rtrace_replay.specs.declared.replaying.Telling.{Telling}
 
--- the text of the history so far, as a report tells it, with a gap for the bound of each wait
+-- the text of the history so far, as a report has it, with a gap for the bound of each wait
 abbrev pub history_text : SoFar → List (Option ℕ)
 history_text s = open_told (names_in s) (history_lines true no_bounds (head_in s) [] (entries_in s))
 
--- what tells events has the names that were declared, none can follow, and it was told the events so far and the waits that they ended
+-- the `Telling` has the names that were declared, no more can follow, and it was given the events so far and the waits that they ended
 pub record KnowsTelling (telling : Telling) (s : SoFar) : Type 0 where
   pub names : telling.names ≡ names_in s
   pub far : at_acts ≤ s.last
   pub gathered : KnowsGathered telling.gathered (past_in (head_in s) (entries_in s)) (all_ended (head_in s) (entries_in s))
 
--- the reader knows what was said, the text is that of the history so far, and what tells events is there from the first event on
+-- the reader knows what was said, the text is that of the history so far, and the `Telling` is there from the first event on
 pub record KnowsReplay (replaying : Replaying) (s : SoFar) : Type 0 where
   pub reading : Knows false replaying.reading s
   pub history : replaying.history ≡ history_text s
   pub telling : IfSome replaying.telling (λ telling. KnowsTelling telling s)
   pub untold : replaying.telling ≡ None → entries_in s ≡ []
 
--- the list was read to its end, the text is that of its history, and what tells events is there
+-- the list was read to its end, the text is that of its history, and the `Telling` is there
 pub record IsToldToEnd (text : List (Option ℕ)) (telling : Telling) (reading : ReportReader) (s : SoFar) : Type 0 where
   pub knows : Knows false reading s
   pub ended : is_ended s ≡ true
   pub history : text ≡ history_text s
   pub told : KnowsTelling telling s
 
--- a record was refused: it told nothing, what was due to the reader is due still, it knows at most one name more, and the text and what tells events are as they were
+-- a record was refused: it said nothing, what was due to the reader is still due, at most one name was added, and the text and the `Telling` are as they were
 abbrev pub ReplayStays : Replaying → Replaying → Type 0
 ReplayStays was taker =
     (taker ≡ record was { reading = taker.reading; taken = taker.taken }) × (taker.taken ≡ taken.Other) × StillDue was.reading taker.reading × OneMoreAtMost was.reading taker.reading
 
--- where memory is wanting: a reader is as before but for the room for ledgers, or it has taken the record
+-- when memory runs out: a reader is as before but for the room for ledgers, or it has taken the record
 abbrev pub StandsOrTook : ReportReader → ReportReader → Row → Type 0
 StandsOrTook old new row = IsAsBefore old new ⊎ ((what : TakenRecord) × TakesRow old new row what)

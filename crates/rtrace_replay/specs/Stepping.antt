@@ -11,7 +11,7 @@ pub record IsAtHead (report : Report) (steps : Steps) : Type 0 where
   pub state : steps.machine.state ≡ opening_of report.head
   pub events : steps.events.items ≡ events_of report.entries
 
--- each of the events is accepted behind those before it
+-- each of the events is accepted after those before it
 pub record AreStepsOf (report : Report) (steps : Steps) : Type 0 where
   pub at_head : IsAtHead report steps
   pub accepted : AreAccepted steps.machine.state steps.events.items

@@ -1,4 +1,5 @@
-//! How a list of events is replayed, and watched while it is.
+//! Replays an event list: [`replay_of`] makes its report in one pass, without keeping events. [`recorded_replay_of`]
+//! keeps them too, as [`Steps`] for those who watch.
 #![tactic(auto)]
 
 mod recording;

@@ -1,4 +1,4 @@
-// An event list and its report, made in one pass, and its steps for those who watch.
+// The report of an event list, made in one pass, and its steps for those who watch.
 ghost use Rattle.std.specs.Prelude.{◌≡◌, ◌++◌, ◌<◌, ◌^◌, false, true, length, OnOk, IfOk, None, Some};
 ghost use Rattle.csv.specs.Records.{fields_of};
 ghost use Rattle.rtrace_form.specs.Faults.{is_ended};
@@ -25,7 +25,7 @@ use rtrace_read::{ReportReader, TakenRecord};
 use std::alloc::{AllocError, Global};
 use std::mem;
 
-/// A report, and the steps that it tells.
+/// A report, and its steps.
 #[derive(Drop)]
 pub struct Recorded {
     /// The text of the report.
@@ -79,7 +79,7 @@ impl Recording {
         }
     }
 
-    // The report of the list that was taken to its end, and its steps. The events are given away.
+    // The report of the list that was taken to its end, and its steps. The events are moved out.
     fn made(&mut self) -> Result<Recorded, AllocError>
         requires { (s : SoFar) × KnowsSteps self.old s × (is_ended s ≡ true) }
         ensures text { IfOk result (λ made. (s : SoFar) → KnowsSteps self.old s → is_ended s ≡ true
@@ -125,7 +125,7 @@ impl Records for Recording {
     }
 }
 
-// A machine as it stands before the first event of what was read to its end.
+// A machine in the state before the first event of what was read to its end.
 fn machine_of(alloc: Global, reading: &ReportReader) -> Result<Plain, AllocError>
     requires { (s : SoFar) × Knows false reading.now s × (is_ended s ≡ true) }
     ensures { IfOk result (λ machine. (s : SoFar) → Knows false reading.now s → is_ended s ≡ true → machine.state ≡ opening_of (head_in s)) }
@@ -145,7 +145,7 @@ fn machine_of(alloc: Global, reading: &ReportReader) -> Result<Plain, AllocError
 ///
 /// # Errors
 ///
-/// The first fault of a text that is no event list, or want of memory.
+/// The first fault of a text that is not an event list, or out of memory.
 pub fn recorded_replay_of(alloc: Global, bytes: &[u8]) -> Result<Recorded, TextErr>
     ensures made { IfOk result (λ made. (report : Report) × IsTextOf false bytes.now report × (made.replayed.head ++ (made.replayed.history ++ made.replayed.ending) ≡ report_text report) × AreStepsOf report made.steps × ArePartsOf report made.replayed.head made.replayed.history made.replayed.ending) }
     ensures bad { (fault : Fault Code) → result ≡ Err (TextErr.Bad fault) → IsFirstFault false bytes.now fault }

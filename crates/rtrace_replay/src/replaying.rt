@@ -1,4 +1,4 @@
-// An event list and its report, made in one pass.
+// The report of an event list, made in one pass.
 ghost use Rattle.std.specs.Prelude.{◌≡◌, ◌≤◌, ◌++◌, ◌∷◌, [], ◌<◌, ◌^◌, ℕ, List, false, true, length, OnOk, OnErr, IfOk, IsSome, Some, None};
 ghost use Rattle.csv.specs.Records.{fields_of};
 ghost use Rattle.rexpand.specs.Groups.{ReadGroups};
@@ -39,10 +39,10 @@ use rtrace_write::{
 use std::alloc::{AllocError, Global};
 use std::mem;
 
-/// The text of a report, in the parts in which it was made.
+/// The text of a report, in the three parts in which it is made.
 #[derive(Drop)]
 pub struct Replayed {
-    /// What stands before the history.
+    /// What comes before the history.
     pub head: Page,
     /// Each event, what it changes, and the waits that it ends.
     pub history: Page,
@@ -50,7 +50,7 @@ pub struct Replayed {
     pub ending: Page,
 }
 
-// What tells events, made at the first one: behind it no name is declared.
+// What is needed to report events, made at the first event: after it no name is declared.
 #[derive(Drop)]
 struct Telling {
     names: NameRows,
@@ -66,7 +66,7 @@ pub struct Replaying {
     pub reading: ReportReader,
     telling: Option<Telling>,
     history: OpenText,
-    /// What the latest record told: nothing, where it was refused or memory was wanting.
+    /// What the latest record said: nothing, where it was refused or memory ran out.
     pub taken: TakenRecord,
 }
 
@@ -75,7 +75,7 @@ impl Replaying {
     ghost use Rattle.rtrace_form.specs.Faults.{code_of, is_ended};
     ghost use Rattle.rtrace_replay.specs.Replaying.{KnowsReplay};
 
-    /// Nothing was taken, and no record told anything.
+    /// Nothing was taken, and no record said anything.
     pub fn new(alloc: Global) -> Replaying
         ensures knows { KnowsReplay result nothing_yet }
         ensures nothing { result.taken ≡ TakenRecord.Other }
@@ -93,10 +93,10 @@ impl Replaying {
     ///
     /// # Errors
     ///
-    /// The first code of the record, or want of memory. The record has told nothing then. Where it is wrong, what was due to
-    /// the reader is due still, it knows no name more but the record's own, and the text and what tells events are as they
-    /// were. Where memory is wanting, the reader is as before but for the room for ledgers, or it has taken the record; of the
-    /// text and of what tells events nothing is said then.
+    /// The first code of the record, or out of memory; the record has said nothing then. Where it is wrong, what was
+    /// due to the reader is still due, no name was added but the record's own, and the text and the `Telling` are as
+    /// they were. Out of memory, the reader is as before but for the room for ledgers, or it has taken the record;
+    /// nothing is promised then of the text and of the `Telling`.
     pub fn take_record(&mut self, fields: &ByteRecord) -> Result<(), RowErr>
         requires { (s : SoFar) × KnowsReplay self.old s × (length (entries_in s) < 2 ^ 62) }
         ensures taken { OnOk result ((s : SoFar) → KnowsReplay self.old s → (code_of false s (fields_of fields.now) ≡ None) × KnowsReplay self.new (with_row false s (fields_of fields.now))) }
@@ -135,11 +135,11 @@ impl Replaying {
         }
     }
 
-    /// The report of the list that was taken to its end. The text of the history is given away, and all else stays.
+    /// The report of the list that was taken to its end. The text of the history is moved out, and all else stays.
     ///
     /// # Errors
     ///
-    /// Want of memory. The text of the history may be lost then.
+    /// Out of memory. The text of the history may be lost then.
     pub fn made(&mut self) -> Result<Replayed, AllocError>
         requires { (s : SoFar) × KnowsReplay self.old s × (is_ended s ≡ true) }
         ensures text { IfOk result (λ made. (s : SoFar) → KnowsReplay self.old s → is_ended s ≡ true
@@ -157,7 +157,7 @@ impl Replaying {
     }
 }
 
-// Appends an event to the text with what it changed and the waits that it ended, and keeps by what their bounds are found.
+// Appends an event to the text, with what it changed and the waits that it ended, and keeps what gives their bounds.
 fn tell(
     alloc: Global,
     reading: &ReportReader,
@@ -179,7 +179,7 @@ fn tell(
     }
 }
 
-// The same of the first event. Room for what tells events is left out of the path of each one.
+// The same for the first event. Room for the `Telling` is kept out of the path of each event.
 #[cold]
 #[inline(never)]
 fn tell_first(
@@ -204,7 +204,7 @@ fn tell_first(
     Ok(())
 }
 
-// What tells events, made at the first one.
+// The `Telling`, made at the first event.
 fn telling_of(alloc: Global, reading: &ReportReader) -> Result<Telling, AllocError>
     ensures names { IfOk result (λ made. made.names ≡ names_read reading.now) }
     ensures gathered { IfOk result (λ made. (groups : ReadGroups) (cap : ℕ) → KnowsGathered made.gathered (begun groups (length reading.now.tasks) cap) []) }
@@ -215,7 +215,7 @@ fn telling_of(alloc: Global, reading: &ReportReader) -> Result<Telling, AllocErr
     })
 }
 
-// Appends an event, with what it changed by the machine and the waits that it ended by the follower.
+// Appends an event, with what the machine says it changed and the waits that the follower says it ended.
 fn push(
     history: &mut OpenText,
     telling: &mut Telling,
@@ -238,7 +238,7 @@ fn push(
     telling.gathered.tell(event, ended)
 }
 
-// The report of what was read to its end and told whole. The text is given away.
+// The report of what was read to its end. The text is moved out.
 fn made_of(
     alloc: Global,
     text: &mut OpenText,
@@ -288,7 +288,7 @@ impl Records for Replaying {
         ensures bad { (cause : Code) → result ≡ Err (RowErr.Bad cause) → (rows : List Row) → KnowsSaid false KnowsReplay self.old rows → list_code false rows (fields_of fields.now) ≡ Some cause }
         ensures still { (cause : Code) → result ≡ Err (RowErr.Bad cause) → ReplayStays self.old self.new }
 
-        // What it told is kept beside, and no name came in but its own.
+        // What it said is kept too, and no name was added but its own.
         ensures told { OnOk result ((s : SoFar) → KnowsReplay self.old s → Adds self.new.taken s (with_row false s (fields_of fields.now))) }
         ensures names { (cause : Code) → result ≡ Err (RowErr.Bad cause) → NamesStay self.old.reading self.new.reading (fields_of fields.now) }
     {
@@ -319,7 +319,7 @@ fn head_with(alloc: Global, names: &NameRows, reading: &ReportReader) -> Result<
     }
 }
 
-// The text of the history that was told whole, with the bounds of its waits.
+// The text of the whole history, with the bounds of its waits.
 fn history_with(
     alloc: Global,
     text: OpenText,
@@ -345,7 +345,7 @@ fn ending_with(alloc: Global, names: &NameRows, reading: &ReportReader) -> Resul
     requires { length reading.now.ledgers.items ≡ length reading.now.resources }
     ensures { IfOk result (λ page. page ≡ told names.now (leaves_from 0 reading.now.ledgers.items ++ Ends ∷ [])) }
 {
-    // A look at the table tells the proof that it is small.
+    // A look at the table lets the proof see that it is small.
     let _ = reading.resources.len();
     ending_of(alloc, names, &reading.ledgers)
 }
@@ -354,7 +354,7 @@ fn ending_with(alloc: Global, names: &NameRows, reading: &ReportReader) -> Resul
 ///
 /// # Errors
 ///
-/// The first fault of a text that is no event list, or want of memory.
+/// The first fault of a text that is not an event list, or out of memory.
 pub fn replay_of(alloc: Global, bytes: &[u8]) -> Result<Replayed, TextErr>
     ensures made { IfOk result (λ made. (report : Report) × IsTextOf false bytes.now report × (made.head ++ (made.history ++ made.ending) ≡ report_text report) × ArePartsOf report made.head made.history made.ending) }
     ensures bad { (fault : Fault Code) → result ≡ Err (TextErr.Bad fault) → IsFirstFault false bytes.now fault }

@@ -1,4 +1,4 @@
-// The steps of a list, told to those who watch.
+// The steps of a list, for those who watch.
 ghost use Rattle.std.specs.Prelude.{◌≡◌, map};
 ghost use Rattle.rmodel.specs.Changes.{changes_between};
 ghost use Rattle.rmodel.specs.Steps.{AreAccepted, Comes, next};
@@ -10,7 +10,7 @@ use rmodel::Machine;
 use rplain::Plain;
 use rwatch::Audience;
 
-/// The events of a list, each of which is accepted behind those before it, and a machine as it stands before them.
+/// The events of a list, each accepted after those before it, and a machine in the state before them.
 #[derive(Drop)]
 pub struct Steps {
     /// The machine.
@@ -20,7 +20,7 @@ pub struct Steps {
 }
 
 impl Steps {
-    /// Tells each step, in order. No memory is taken.
+    /// Gives the audience each step, in order. No memory is taken.
     pub fn tell<A: Audience>(self, audience: &mut A)
         requires { AreAccepted self.machine.state self.events.items }
         ensures { A.all audience.new ≡ map (told_all (steps_of self.machine.state self.events.items)) (A.all audience.old) }
@@ -30,7 +30,7 @@ impl Steps {
     }
 }
 
-// Steps the machine with each event, and tells the step.
+// Steps the machine with each event, and gives the audience the step.
 fn tell_each<A: Audience>(machine: &mut Plain, events: &[Event], audience: &mut A)
     requires { AreAccepted machine.old.state events.now }
     ensures { A.all audience.new ≡ map (told_all (steps_of machine.old.state events.now)) (A.all audience.old) }
@@ -41,7 +41,7 @@ fn tell_each<A: Audience>(machine: &mut Plain, events: &[Event], audience: &mut 
     }
 }
 
-// The machine takes an event that comes to it.
+// The machine takes an event that it accepts.
 fn apply(machine: &mut Plain, event: Event)
     requires { Comes machine.old.state event }
     ensures state { machine.new.state ≡ next machine.old.state event }

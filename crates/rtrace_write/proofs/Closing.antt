@@ -132,7 +132,7 @@ module _ (names : Names) where
 bounds-append : (xs ys : List Line) → bounds_of (xs ++ ys) ≡ bounds_of xs ++ bounds_of ys
 bounds-append xs ys = filter_map-append bound_told xs ys
 
--- lines of which none tells a wait tell no bound
+-- lines without a wait have no bound
 bounds_none : (lines : List Line) → list_any tells_wait lines ≡ false → bounds_of lines ≡ []
 bounds_none [] none = refl
 bounds_none (Opens ∷ lines) none = bounds_none lines none
@@ -157,7 +157,7 @@ map_joined : (bounds : WaitEnd → Numbers) (us vs : List WaitEnd) → map bound
 map_joined bounds [] vs = refl
 map_joined bounds (u ∷ us) vs = ap (λ (bs : List Numbers). bounds u ∷ bs) (map_joined bounds us vs)
 
--- the bounds that the lines of a history tell are those of the waits that it ended
+-- the bounds on the lines of a history are those of the waits that it ended
 pub bounds_history : (bounds : WaitEnd → Numbers) (head : Head) (earlier entries : List Entry) → bounds_of (history_lines true bounds head earlier entries) ≡ map bounds (ended_from head earlier entries)
 unfolding history_lines ended_from
 bounds_history bounds head earlier [] = refl

@@ -9,7 +9,7 @@ use Rattle.rtrace_form.specs.Heads.{is_nil}
 use Rattle.rtrace_form.specs.Reports.{ledger_after}
 use Rattle.rtrace_write.specs.Report.{ReportFields, HasItsLedgers}
 
--- there is a ledger of each resource, and no more of them than there may be
+-- there is a ledger of each resource, and no more of them than allowed
 pub few_ledgers : (r : ReportFields) (ledgers : List Ledger) → ledgers ≡ r.ledgers → HasItsLedgers r → is_table RESOURCES r.resources ≡ true → length ledgers ≤ RESOURCES
 few_ledgers r ledgers same has table =
     let all : length ledgers ≡ length r.resources = ap (λ (xs : List Ledger). length xs) (same ∙ has) ∙ length-map-range_with_len (ledger_after r.entries) 0 (length r.resources) in

@@ -27,7 +27,7 @@ module _ (bounds : List Numbers) (gaps bytes : List ℕ) where
   pub none_filled : AreRising 0 gaps (length bytes) → IsFilled 0 0 []
   none_filled rising = record { before = omega arith; behind = rising; text = λ i. [] }
 
-  -- what is behind a part of the text, up to a later place
+  -- what is after a part of the text, up to a later place
   part : (at to : ℕ) → at ≤ to → to ≤ length bytes → take to bytes ≡ take at bytes ++ drop at (take to bytes)
   part at to le within =
       let same : take at (take to bytes) ≡ take at bytes =
@@ -42,7 +42,7 @@ module _ (bounds : List Numbers) (gaps bytes : List ℕ) where
     abbrev text : List (Option ℕ)
     text = with_gaps 0 (take i gaps) (take at bytes)
 
-    -- the next gap is behind what was filled, and within the text
+    -- the next gap is after what was filled, and within the text
     pub next_gap : i < length gaps → AreRising at (get_or gaps i 0 ∷ drop (i + 1) gaps) (length bytes)
     next_gap within = subst (λ (places : List ℕ). AreRising at places (length bytes)) (drop_more gaps i 0 within) so.behind
 
@@ -52,7 +52,7 @@ module _ (bounds : List Numbers) (gaps bytes : List ℕ) where
     pub end_within : at ≤ length bytes
     end_within = rising_le at (drop i gaps) (length bytes) so.behind
 
-    -- one gap more
+    -- one more gap
     pub fill_more : (b : Numbers) (now : List ℕ) → i < length gaps → slice_get bounds i ≡ Some b
         → now ≡ sofar ++ (drop at (take (get_or gaps i 0) bytes) ++ bound_text b) → IsFilled (i + 1) (get_or gaps i 0) now
     fill_more b now within bound grown =
@@ -88,7 +88,7 @@ module _ (bounds : List Numbers) (gaps bytes : List ℕ) where
         rising_push_to from [] end to le rising = (omega (arith, le, rising), omega arith)
         rising_push_to from (place ∷ places) end to le rising = (rising.0, rising_push_to place places end to le rising.1)
 
-    -- all gaps, and what is behind the last
+    -- all gaps, and what is after the last
     pub fill_end : (now : List ℕ) → i ≡ length gaps → now ≡ sofar ++ drop at bytes → now ≡ filled bounds (with_gaps 0 gaps bytes)
     fill_end now all grown =
         let front : length (take at bytes) ≡ at = length-take-le at bytes end_within in

@@ -16,7 +16,7 @@ pub rising_longer : (from : ℕ) (places : List ℕ) (end later : ℕ) → end �
 rising_longer from [] end later le rising = omega (arith, le, rising)
 rising_longer from (place ∷ places) end later le rising = (rising.0, rising_longer place places end later le rising.1)
 
--- the end itself is one place more
+-- the end itself is one more place
 pub rising_push : (from : ℕ) (places : List ℕ) (end : ℕ) → AreRising from places end → AreRising from (places ++ end ∷ []) end
 rising_push from [] end rising = (rising, omega arith)
 rising_push from (place ∷ places) end rising = (rising.0, rising_push place places end rising.1)

@@ -17,7 +17,7 @@ use Rattle.rcover.specs.Past.{Past, start_of, with_event}
 use Rattle.rtrace_write.specs.Behind.{ComesNext, bound_by}
 use Rattle.rtrace_write.specs.Gathered.{EndedLast, HadKeyIn}
 
--- ---- one event more
+-- ---- one more event
 
 -- the events with one that comes next are accepted
 pub accepted_next : (p : Past) (e : Event) (ended : List WaitEnd) → AreAccepted (start_of p) p.events → ComesNext p e ended → AreAccepted (start_of p) (p.events ++ e ∷ [])
@@ -44,7 +44,7 @@ had_later p e w key had = record {
   is_key = had.is_key;
 }
 
--- the waits that the last event ended have their keys behind it
+-- the waits that the last event ended have their keys after it
 keys_now : (p : Past) (ended : List WaitEnd) → EndedLast p ended → AllZip (HadKeyIn p) ended (map (key_of p.events) ended)
 keys_now p [] all = tt
 keys_now p (w ∷ ws) all = (
@@ -83,7 +83,7 @@ all_item P [] i d all within = absurd (omega (arith, within))
 all_item P (x ∷ xs) zero d all within = all.0
 all_item P (x ∷ xs) (suc i) d all within = all_item P xs i d all.1 (omega (arith, within))
 
--- one key more
+-- one more key
 pub key_more : (f : WaitEnd → BoundKey) (ended : List WaitEnd) (i : ℕ) (d : WaitEnd) (old sofar now : List BoundKey) (key : BoundKey) → i < length ended
     → sofar ≡ old ++ map f (take i ended) → key ≡ f (get_or ended i d) → now ≡ sofar ++ key ∷ [] → now ≡ old ++ map f (take (i + 1) ended)
 key_more f ended i d old sofar now key within were is grown =
@@ -99,7 +99,7 @@ key_more f ended i d old sofar now key within were is grown =
 pub as_many : (p : Past) (ws : List WaitEnd) (keys : List BoundKey) → AllZip (HadKeyIn p) ws keys → length keys ≡ length ws
 as_many p ws keys had = AllZip-long (HadKeyIn p) ws keys had
 
--- whose key stands at a place
+-- whose key is at a place
 pub record IsFound (p : Past) (ws : List WaitEnd) (i : ℕ) (key : BoundKey) : Type 0 where
   pub wait : WaitEnd
   pub at : slice_get ws i ≡ Some wait
@@ -113,7 +113,7 @@ found_at p (w ∷ ws) (k ∷ keys) (suc i) key had within at =
     let rest = found_at p ws keys i key had.1 (omega (arith, within)) at in
     record { wait = rest.wait; at = rest.at; had = rest.had }
 
--- the bound by all events, from those behind which the key was had on
+-- the bound by all events, from those after which the wait had the key on
 pub found_bound : (p : Past) (w : WaitEnd) (key : BoundKey) (had : HadKeyIn p w key) → bound_by_events p.groups p.seats p.cap (had.before ++ had.rest) w ≡ bound_by p w
 unfolding bound_by
 found_bound p w key had = ap (λ (es : List Event). bound_by_events p.groups p.seats p.cap es w) (sym had.split)

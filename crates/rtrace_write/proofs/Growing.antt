@@ -30,7 +30,7 @@ module _ (names : Names) where
       ∙ ap (λ lines. old ++ told names lines) (sym (map-append g (take i items) (x ∷ [])))
       ∙ ap (λ some. old ++ told names (map g some)) (sym (take_more items i x within ∙ ap (λ y. take i items ++ y ∷ []) at))
 
-  -- the same of items that each have some lines
+  -- the same for items that each have some lines
   pub some_more : {X : Type 0} (g : X → List Line) (items : List X) (i : ℕ) (x : X) (old sofar now : List ℕ) → i < length items → get_or items i x ≡ x
       → sofar ≡ old ++ told names (flat_map g (take i items)) → now ≡ sofar ++ told names (g x) → now ≡ old ++ told names (flat_map g (take (i + 1) items))
   some_more g items i x old sofar now within at e f =
@@ -67,6 +67,6 @@ module _ (names : Names) where
   pub head-lines : (opens : Line) (resources groups tasks cap : List Line) → ((((opens ∷ []) ++ resources) ++ groups) ++ tasks) ++ cap ≡ opens ∷ (resources ++ (groups ++ (tasks ++ cap)))
   head-lines opens resources groups tasks cap = ap (λ lines. opens ∷ lines) (append_assoc (resources ++ groups) tasks cap ∙ append_assoc resources groups (tasks ++ cap))
 
--- what stands at a place does not hang on what stands for nothing
+-- what is at a place does not depend on the default
 pub there : {X : Type 0} (items : List X) (i : ℕ) (d : X) → i < length items → get_or items i (get_or items i d) ≡ get_or items i d
 there items i d within = get_or_from_slice_get items i (get_or items i d) (get_or items i d) (slice_get-get_or items i d within)

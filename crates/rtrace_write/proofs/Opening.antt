@@ -40,7 +40,7 @@ module _ {E : Type 0} (r : Result (Unit {0}) E) (gaps old now more : List ℕ) w
       at (Ok x) stays = tt
       at (Err e) stays = ap (λ (bytes : List ℕ). with_gaps 0 gaps bytes) stays ∙ was
 
--- a text grows by bytes and a gap behind them
+-- a text grows by bytes and a gap after them
 pub gap_put : (gaps places old now more : List ℕ) (text : List (Option ℕ)) → with_gaps 0 gaps old ≡ text → AreRising 0 gaps (length old) → now ≡ old ++ more → places ≡ gaps ++ length now ∷ []
     → with_gaps 0 places now ≡ text ++ (solid more ++ None ∷ [])
 gap_put gaps places old now more text was rising grown put =
@@ -60,7 +60,7 @@ module _ (names : Names) where
   pub open-append : (xs ys : List Line) → open_told names (xs ++ ys) ≡ open_told names xs ++ open_told names ys
   open-append xs ys = flat_map-append (open_line names) xs ys
 
-  -- the lines of a status tell no wait
+  -- the lines of a status have no wait
   pub status_open : (seat : ℕ) (half : Bool) (status : Status) → open_told names (status_lines seat half status) ≡ solid (told names (status_lines seat half status))
   status_open seat half Waiting = refl
   status_open seat half Entitled = sym (map-append Some _ [])
@@ -79,7 +79,7 @@ module _ (names : Names) where
       ∙ ap (λ (lines : List Line). old ++ open_told names lines) (sym (map-append g (take i items) (x ∷ [])))
       ∙ ap (λ some. old ++ open_told names (map g some)) (sym (take_more items i x within ∙ ap (λ y. take i items ++ y ∷ []) at))
 
-  -- the same of items that each have some lines
+  -- the same for items that each have some lines
   pub open_some : {X : Type 0} (g : X → List Line) (items : List X) (i : ℕ) (x : X) (old sofar now : List (Option ℕ)) → i < length items → get_or items i x ≡ x
       → sofar ≡ old ++ open_told names (flat_map g (take i items)) → now ≡ sofar ++ open_told names (g x) → now ≡ old ++ open_told names (flat_map g (take (i + 1) items))
   open_some g items i x old sofar now within at e f =
@@ -93,7 +93,7 @@ module _ (names : Names) where
   pub grew_none : (old now : List (Option ℕ)) (lines : List Line) → now ≡ old → GrewBySome names old now lines
   grew_none old now lines same = record { first = []; rest = lines; are = refl; grown = same ∙ sym (append-nil old) }
 
-  -- no others were appended behind them
+  -- no others were appended after them
   pub grew_less : (old now : List (Option ℕ)) (xs ys : List Line) → GrewBySome names old now xs → GrewBySome names old now (xs ++ ys)
   grew_less old now xs ys h = record { first = h.first; rest = h.rest ++ ys; are = ap (λ (lines : List Line). lines ++ ys) h.are ∙ append_assoc h.first h.rest ys; grown = h.grown }
 
@@ -115,7 +115,7 @@ module _ (names : Names) where
     grown = same ∙ e;
   }
 
-  -- the same of items that each have some lines
+  -- the same for items that each have some lines
   pub grew_fronts : {X : Type 0} (g : X → List Line) (items : List X) (i : ℕ) (old sofar now : List (Option ℕ)) → sofar ≡ old ++ open_told names (flat_map g (take i items)) → now ≡ sofar → GrewBySome names old now (flat_map g items)
   grew_fronts g items i old sofar now e same = record {
     first = flat_map g (take i items);
@@ -126,7 +126,7 @@ module _ (names : Names) where
 
 -- ---- a step
 
--- where there is nothing else to tell, the line of an event is all
+-- where nothing else is reported, the line of an event is all
 pub line_alone : (names : Names) (line : Line) (rest : List Line) (old now : List (Option ℕ)) → now ≡ old ++ open_line names line → rest ≡ [] → now ≡ old ++ open_told names (line ∷ rest)
 line_alone names line rest old now is none =
     is

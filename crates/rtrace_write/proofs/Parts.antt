@@ -16,7 +16,7 @@ leaves_are : (f : ℕ → Ledger) (a n : ℕ) → leaves_from a (map f (range_wi
 leaves_are f a zero = refl
 leaves_are f a (suc n) = ap (λ lines. Leaves a (f a) ∷ lines) (leaves_are f (a + 1) n)
 
--- the lines of all ledgers are those that a report tells
+-- the lines of all ledgers are those of a report
 pub ledgers_are : (head : Head) (entries : List Entry) → leaves_from 0 (map (ledger_after entries) (range_with_len 0 (length head.resources))) ≡ ledger_lines true head entries
 unfolding ledger_lines
 ledgers_are head entries = leaves_are (ledger_after entries) 0 (length head.resources)

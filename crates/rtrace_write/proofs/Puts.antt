@@ -1,4 +1,4 @@
--- Pieces that were put one behind another.
+-- Pieces that were put one after another.
 use Rattle.std.proofs.Common.{◌≡◌, ℕ, List, ◌++◌, sym, ap, ◌∙◌, append_assoc}
 
 pub two : (old p q s t : List ℕ) → p ≡ old ++ s → q ≡ p ++ t → q ≡ old ++ (s ++ t)

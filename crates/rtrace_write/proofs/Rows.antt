@@ -18,7 +18,7 @@ use Rattle.rtrace_form.specs.Texts.{line_text, text_of, behind_comma}
 use Rattle.rtrace_form.specs.Words.{fields_of, yes_or_no}
 use Rattle.rtrace_form.specs.declared.word.Word.TheVariants as word
 
--- the fields behind the first, each behind its comma, and the end of the line
+-- the fields after the first, each after its comma, and the end of the line
 abbrev pub ends : Row → List ℕ
 ends [] = 10 ∷ []
 ends (field ∷ fields) = behind_comma field ++ ends fields
@@ -30,7 +30,7 @@ line_ends (field ∷ fields) = append_assoc (behind_comma field) (flat_map behin
 pub line_is : (first : List ℕ) (fields : Row) → line_text (first ∷ fields) ≡ first ++ ends fields
 line_is first fields = append_assoc first (flat_map behind_comma fields) (10 ∷ []) ∙ ap (λ xs. first ++ xs) (line_ends fields)
 
--- how a claim is named, behind a comma
+-- how a claim is named, after a comma
 abbrev pub if_write : Bool → List ℕ
 if_write true = codes ",write"
 if_write false = codes ",read"
@@ -110,7 +110,7 @@ module _ (names : Names) where
   unfolding write
   shown_is place number = line_is (codes "show") (name_at names.resources place ∷ decimal number ∷ [])
 
-  -- how the line of an edit ends
+  -- the end of the line of an edit
   abbrev pub edited : ℕ → ℕ → Bool → List ℕ
   edited place amount done = name_at names.resources place ++ (behind_comma (decimal amount) ++ (behind_comma (yes_or_no done) ++ 10 ∷ []))
 
@@ -138,7 +138,7 @@ module _ (names : Names) where
   satisfied_is seat true = line_is (codes "now") (name_at names.tasks seat ∷ codes "write" ∷ codes "satisfied" ∷ [])
   satisfied_is seat false = line_is (codes "now") (name_at names.tasks seat ∷ codes "read" ∷ codes "satisfied" ∷ [])
 
-  -- the text of the one line that tells a new status
+  -- the text of the one line of a new status
   pub entitled_told : (seat : ℕ) (half : Bool) → text_of (map (spelled names) (BecomesEntitled seat half ∷ [])) ≡ (codes "now," ++ name_at names.tasks seat) ++ (if_write half ++ codes ",entitled\n")
   entitled_told seat half =
       append-nil (line_text (spelled names (BecomesEntitled seat half))) ∙ entitled_is seat half ∙ sym (append_assoc (codes "now,") (name_at names.tasks seat) (if_write half ++ codes ",entitled\n"))

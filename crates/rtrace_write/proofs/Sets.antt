@@ -9,7 +9,7 @@ use Rattle.rset.proofs.SetLemmas.{rising_empty, rising_injective, all_below_empt
 use Rattle.rtrace_form.specs.Texts.{behind_comma}
 use Rattle.rtrace_form.specs.SetFields.{name_at, joined, set_text}
 
--- names that are written one after another: this byte before the first, and `+` before each other
+-- names that are written one after another: this byte before the first, and `+` before each of the others
 abbrev pub separated : ℕ → List (List ℕ) → List ℕ
 separated c [] = []
 separated c (name ∷ names) = c ∷ (name ++ separated 43 names)
@@ -22,7 +22,7 @@ separated_text : (f : ℕ → List ℕ) (xs : List ℕ) → (xs ≡ [] → ⊥) 
 separated_text f [] some = absurd (some refl)
 separated_text f (x ∷ xs) some = separated_joined 44 (f x) (map f xs)
 
--- the names of a set that is not empty, with a comma before the first, are its text as a field more
+-- the names of a set that is not empty, with a comma before the first, are its text as another field
 pub set_separated : (resources : List (List ℕ)) (s : Set) → all_below RESOURCES s ≡ true → (s ≡ empty → ⊥)
     → separated 44 (map (name_at resources) (rising s)) ≡ behind_comma (set_text resources s)
 unfolding set_text

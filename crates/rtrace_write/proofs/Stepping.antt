@@ -1,4 +1,4 @@
--- A history that is stepped through once more.
+-- A history that is stepped through again.
 use Rattle.std.proofs.Common.{◌≡◌, ℕ, zero, suc, ◌+◌, ◌<◌, ◌^◌, true, List, [], ◌∷◌, ◌++◌, take, length, get_or, Option, refl, sym, ap, subst, ◌∙◌, arith, append_assoc}
 use Rattle.std.proofs.lemmas.List.{append-nil, map-append, take_more, length-map, length-take-le}
 use Rattle.rclaim.specs.declared.event.Event.{Event}
@@ -28,7 +28,7 @@ in_turn_at Fits earlier (x ∷ xs) zero d all within = subst (λ before. Fits be
 in_turn_at Fits earlier (x ∷ xs) (suc i) d all within =
     subst (λ before. Fits before (get_or xs i d)) (append_assoc earlier (x ∷ []) (take i xs)) (in_turn_at Fits (earlier ++ x ∷ []) xs i d all.1 (omega (arith, within)))
 
--- the state behind entries is the one that the lock has after them
+-- the state after entries is the one that the lock has after them
 state_is : (head : Head) (entries : List Entry) → state_of (past_in head entries) ≡ lock_after head entries
 state_is head entries = after_is (opening_of head) (events_of entries)
 
@@ -40,13 +40,13 @@ module _ (head : Head) (entries : List Entry) (i : ℕ) (x : Entry) (within : i 
   abbrev before : Past
   before = past_in head (take i entries)
 
-  -- the event of the entry at a place comes behind those before it
+  -- the event of the entry at a place comes after those before it
   pub comes_here : IsLawful head entries → Comes (state_of before) x.event
   comes_here lawful =
       subst (λ (s : LockState). Comes s x.event) (sym (state_is head (take i entries)))
       (subst (λ (y : Entry). IsRightEntry head (take i entries) y) (sym at) (in_turn_at (IsRightEntry head) [] entries i x lawful within)).comes
 
-  -- there are fewer events than may be
+  -- there are fewer events than the limit
   pub few_events : length entries < 2 ^ 63 → length before.events < 2 ^ 63
   few_events few =
       let events = length-map (take i entries) (λ (entry : Entry). entry.event) in
@@ -69,7 +69,7 @@ module _ (head : Head) (entries : List Entry) (i : ℕ) (x : Entry) (within : i 
   unfolding change_lines wait_lines ended_in
   entry_is = ap (λ (s : LockState). entry_told x (changes_between s (next s x.event)) (ended_by (start_of before) before.events x.event)) (state_is head (take i entries))
 
-  -- the text of one entry more
+  -- the text of one more entry
   pub text_more : (names : Names) (old sofar now : List (Option ℕ))
       → sofar ≡ old ++ open_told names (history_lines true no_bounds head [] (take i entries))
       → now ≡ sofar ++ open_told names (entry_told x (changes_between (state_of before) (next (state_of before) x.event)) (ended_by (start_of before) before.events x.event))

@@ -26,7 +26,7 @@ module _ (a b : List ℕ) where
   prefix_before None after p = (p.0, omega (arith, p.1, length-append a b), tt)
   prefix_before (Some w) after p = (p.0, omega (arith, p.1, length-append a b), p.2 ∙ ap (λ t. Some (w ++ t)) (sym (take-append-le p.0 a b (omega (arith, p.1)))))
 
-  -- a front part of the second, behind the first, is one of both
+  -- a front part of the second, after the first, is one of both
   pub prefix_behind : (before between after : Option (List ℕ)) → Appends before between a → AppendsPrefix between after b → AppendsPrefix before after (a ++ b)
   prefix_behind None between after whole p = (length a + p.0, omega (arith, p.1, length-append a b), tt)
   prefix_behind (Some w) between after whole p = (

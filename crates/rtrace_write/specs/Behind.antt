@@ -1,4 +1,4 @@
--- What is known behind some events of a history.
+-- What is known after some events of a history.
 use Rattle.std.specs.Prelude.{◌≡◌, ℕ, true, Option, List, [], length}
 use Rattle.rclaim.specs.declared.event.Event.{Event}
 use Rattle.rbound.specs.Bounds.{Numbers}
@@ -19,12 +19,12 @@ use Rattle.rtrace_write.specs.declared.gathered.Gathered.{Gathered}
 abbrev pub past_in : Head → List Entry → Past
 past_in head entries = record { groups = read_groups head; seats = length head.tasks; cap = head.cap; events = events_of entries }
 
--- an event comes behind these, and it ends these waits
+-- an event comes after these, and it ends these waits
 pub record ComesNext (p : Past) (e : Event) (ws : List WaitEnd) : Type 0 where
   pub comes : Comes (state_of p) e
   pub ended : ws ≡ ended_by (start_of p) p.events e
 
--- this open text tells these entries, and the waits that they ended were gathered
+-- this open text has the lines of these entries, and the waits that they ended were gathered
 pub record IsToldWhole (text : List (Option ℕ)) (gathered : Gathered) (names : Names) (head : Head) (entries : List Entry) : Type 0 where
   pub told : text ≡ open_told names (history_lines true no_bounds head [] entries)
   pub known : KnowsGathered gathered (past_in head entries) (all_ended head entries)

@@ -1,4 +1,4 @@
--- How proofs tell reports apart: by their parts.
+-- How proofs distinguish reports: by their parts.
 use Rattle.std.specs.Prelude.{◌≡◌, ◌⊎◌, ℕ, List, refl}
 use Rattle.std.specs.Coded.{Coded, code_by, coded_ℕ, coded×, coded⊎, coded_list}
 use Rattle.std.proofs.Common.{inl, inr}
@@ -11,7 +11,7 @@ use Rattle.rvalue.specs.declared.ledger.Ledger.{Ledger}
 use Rattle.rtrace_form.specs.Reports.{Entry}
 use Rattle.rtrace_write.specs.Report.{ReportFields}
 
--- an edit is told by its kind and its amount
+-- an edit is identified by its kind and its amount
 abbrev edit_parts : Edit → ℕ ⊎ (ℕ ⊎ ℕ)
 edit_parts (Add n) = inl n
 edit_parts (Take n) = inr (inl n)

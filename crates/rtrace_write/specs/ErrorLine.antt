@@ -1,4 +1,4 @@
--- The line that tells a fault.
+-- The line of a fault.
 use Rattle.std.specs.Prelude.{ℕ, List, [], ◌∷◌, codes, decimal}
 use Rattle.rclaim.specs.declared.request.RequestErr.TheVariants as cause
 use Rattle.rmodel.specs.declared.refused.Refused.TheVariants as refused
@@ -34,7 +34,7 @@ code_number WrongLedger = 7
 code_number NoEnd = 8
 code_number WrongBound = 9
 
--- what is told behind the code: of a refused event the number of the refusal
+-- the fields after the code: for a refused event the number of the refusal
 abbrev pub refusal_fields : Code → Row
 refusal_fields (Refused refusal) = decimal (refusal_number refusal) ∷ []
 refusal_fields BadField = []

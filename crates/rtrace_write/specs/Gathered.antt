@@ -1,4 +1,4 @@
--- What is gathered of a history beside its text: what it needs, and by what the bound of each wait that it ended is found.
+-- What is kept of a history beside its text: what it needs, and what the bound of each wait that it ended is found by.
 use Rattle.std.specs.Prelude.{List}
 use Rattle.std.specs.List.{AllZip, AllByRecursion}
 use Rattle.rcover_laws.specs.declared.wait_end.WaitEnd.{WaitEnd}
@@ -14,17 +14,17 @@ use Rattle.rtrace_write.specs.declared.gathered.Gathered.{Gathered}
 abbrev pub EndedLast : Past → List WaitEnd → Type 0
 EndedLast p ws = AllByRecursion (IsLastEnded p.groups p.seats p.cap p.events) ws
 
--- a wait had this key behind the event that ended it, which is one of these
+-- a wait had this key after the event that ended it, which is one of these
 abbrev pub HadKeyIn : Past → WaitEnd → BoundKey → Type 0
 HadKeyIn p w key = HadKey p.groups p.seats p.cap p.events w key
 
--- it was told these events one after another, and that they ended these waits
+-- it was given these events one after another, and these waits that they ended
 pub record KnowsGathered (gathered : Gathered) (p : Past) (ws : List WaitEnd) : Type 0 where
   pub accepted : AreAccepted (start_of p) p.events
   pub needs : Knows gathered.needs p.seats p.events
   pub keys : AllZip (HadKeyIn p) ws gathered.keys.items
 
--- these are the bounds of a history of which it was told just these events, and that they ended these waits
+-- these are the bounds of a history of which it was given just these events and these waits that they ended
 pub record AreBoundsIn (bounds : WaitBounds) (gathered : Gathered) (p : Past) (ws : List WaitEnd) : Type 0 where
   pub known : KnowsGathered gathered p ws
   pub are : AreBoundsOf bounds p.groups p.seats p.cap p.events

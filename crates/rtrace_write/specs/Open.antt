@@ -1,4 +1,4 @@
--- The text that tells lines whose bounds are not known yet.
+-- The text of lines whose bounds are not known yet.
 use Rattle.std.specs.Prelude.{◌≡◌, ℕ, List, [], ◌∷◌, ◌++◌, flat_map, Option, None}
 use Rattle.std.specs.List.{filter_map}
 use Rattle.rbound.specs.Bounds.{Numbers}
@@ -9,7 +9,7 @@ use Rattle.rtrace_write.specs.Told.{told_line}
 use Rattle.rtrace_write.specs.Waits.{cover_text}
 use Rattle.rtrace_write.specs.Gaps.{solid}
 
--- the text of one line; in that of a wait a gap stands for its bound
+-- the text of one line; in that of a wait a gap takes the place of its bound
 abbrev pub open_line : Names → Line → List (Option ℕ)
 open_line names (Waits seat stage cover bound) = solid (cover_text names seat stage cover) ++ None ∷ []
 open_line names line = solid (told_line names line)
@@ -25,6 +25,6 @@ pub record GrewBySome (names : Names) (old new : List (Option ℕ)) (lines : Lis
   pub are : lines ≡ first ++ rest
   pub grown : new ≡ old ++ open_told names first
 
--- the bounds that lines tell, in their order
+-- the bounds on these lines, in their order
 abbrev pub bounds_of : List Line → List Numbers
 bounds_of lines = filter_map bound_told lines

@@ -1,4 +1,4 @@
--- Reports: what one says, as contracts see it.
+-- Reports: what a report says, as contracts see it.
 use Rattle.std.specs.Prelude.{◌≡◌, ℕ, List, length, map}
 use Rattle.std.specs.List.{range_with_len}
 use Rattle.rexpand.specs.Groups.{ReadGroups}

@@ -1,4 +1,4 @@
--- The text that tells lines.
+-- The text of lines.
 use Rattle.std.specs.Prelude.{ℕ, ◌+◌, List, [], ◌∷◌, ◌++◌, map}
 use Rattle.rclaim.specs.Changes.{ChangeLists}
 use Rattle.rcover_laws.specs.declared.wait_end.WaitEnd.{WaitEnd}
@@ -17,7 +17,7 @@ told_line names line = line_text (spelled names line)
 abbrev pub told : Names → List Line → List ℕ
 told names lines = text_of (map (spelled names) lines)
 
--- the lines of what an event changed and of the waits that it ended, which tell no bounds yet
+-- the lines of what an event changed and of the waits that it ended, without bounds yet
 abbrev pub step_told : ChangeLists → List WaitEnd → List Line
 step_told changes ended = told_changes changes ++ map (wait_line no_bounds) ended
 
@@ -25,7 +25,7 @@ step_told changes ended = told_changes changes ++ map (wait_line no_bounds) ende
 abbrev pub entry_told : Entry → ChangeLists → List WaitEnd → List Line
 entry_told entry changes ended = Happens entry.event ∷ (map Does entry.acts ++ step_told changes ended)
 
--- the lines that tell ledgers, those of the resources from this number on
+-- the lines of ledgers, those of the resources from this number on
 abbrev pub leaves_from : ℕ → List Ledger → List Line
 leaves_from l [] = []
 leaves_from l (ledger ∷ ledgers) = Leaves l ledger ∷ leaves_from (l + 1) ledgers

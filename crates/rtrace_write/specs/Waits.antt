@@ -7,12 +7,12 @@ use Rattle.rtrace_form.specs.Texts.{behind_comma}
 use Rattle.rtrace_form.specs.Words.{stage_text}
 use Rattle.rtrace_form.specs.declared.word.Stage.{Stage}
 
--- how the line of a wait begins: whose it was, which, and its cover
+-- the beginning of the line of a wait: whose it was, which, and its cover
 abbrev pub cover_text : Names → ℕ → Stage → Numbers → List ℕ
 cover_text names seat stage cover =
     codes "wait," ++ (name_at names.tasks seat ++ (behind_comma (stage_text stage)
     ++ (behind_comma (decimal cover.reads) ++ (behind_comma (decimal cover.writes) ++ behind_comma (decimal cover.units)))))
 
--- how it ends: its bound, and the end of the line
+-- its end: its bound, and the end of the line
 abbrev pub bound_text : Numbers → List ℕ
 bound_text bound = behind_comma (decimal bound.reads) ++ (behind_comma (decimal bound.writes) ++ (behind_comma (decimal bound.units) ++ 10 ∷ []))

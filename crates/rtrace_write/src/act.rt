@@ -56,7 +56,7 @@ fn put_edit(
     }
 }
 
-// Puts how the line of an edit ends: the resource, the amount, and whether the edit was taken.
+// Puts the end of an edit's line: the resource, the amount, and whether the edit was taken.
 fn put_edited(
     page: &mut [u8],
     at: usize,

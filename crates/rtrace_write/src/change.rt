@@ -38,7 +38,7 @@ pub fn put_status(page: &mut [u8], at: usize, names: &NameRows, change: &StatusC
     }
 }
 
-// Puts how the line of a new status begins.
+// Puts the beginning of the line of a new status.
 #[inline]
 fn put_now(page: &mut [u8], at: usize, names: &NameRows, seat: u8) -> usize
     requires { at + 20 ≤ length page.old }

@@ -1,4 +1,4 @@
-// The end of a history: its open text gets the bounds of its waits.
+// The end of a history: its open text is given the bounds of its waits.
 ghost use Rattle.std.specs.Prelude.{◌≡◌, ◌≤◌, [], true, List, IfOk};
 ghost use Rattle.rtrace_form.specs.Fields.{Names};
 ghost use Rattle.rtrace_form.specs.Heads.{Head, read_groups};
@@ -13,12 +13,12 @@ use crate::page::Page;
 use rexpand::Groups;
 use std::alloc::{AllocError, Global};
 
-/// The text of a history that was told whole, with the bounds of the waits that it ended, over its groups and under its cap.
-/// A text that tells no wait is given away as it is, and no bound is sought.
+/// The text of a whole history, with the bounds of the waits that it ended, over its groups and under its cap. A text
+/// without waits is returned as it is, and no bound is computed.
 ///
 /// # Errors
 ///
-/// Want of memory.
+/// Out of memory.
 pub fn close_history(
     alloc: Global,
     text: OpenText,

@@ -1,4 +1,4 @@
-// How a report ends: a ledger of each resource, and `end`.
+// The end of a report: a ledger of each resource, and `end`.
 ghost use Rattle.std.specs.Prelude.{◌≡◌, ◌≤◌, ◌++◌, ◌∷◌, [], length, OnOk, IfOk};
 ghost use Rattle.rset.specs.declared.TheConstants.{RESOURCES};
 ghost use Rattle.rtrace_form.specs.Lines.{Ends};
@@ -13,7 +13,7 @@ use std::alloc::{AllocError, Global};
 ///
 /// # Errors
 ///
-/// Want of memory.
+/// Out of memory.
 pub fn ending_of(alloc: Global, names: &NameRows, ledgers: &[Ledger]) -> Result<Page, AllocError>
     requires { length ledgers.now ≤ RESOURCES }
     ensures { IfOk result (λ page. page ≡ told names.now (leaves_from 0 ledgers.now ++ Ends ∷ [])) }

@@ -76,7 +76,7 @@ fn put_issue(page: &mut [u8], at: usize, names: &NameRows, seat: u8, request: &R
     }
 }
 
-// Puts the length with which the line of an issue ends.
+// Puts the length that ends the line of an issue.
 #[inline]
 fn put_length(page: &mut [u8], at: usize, len: u32) -> usize
     requires { at + 42 ≤ length page.old }

@@ -8,11 +8,11 @@ use itoa::Buffer;
 use rtrace_form::{Code, Fault, Refusal};
 use std::alloc::{AllocError, Global};
 
-/// The line that tells a fault: the record's number, the code, and of a refused event the number of its refusal.
+/// The line of a fault: the record's number, the code, and for a refused event the number of its refusal.
 ///
 /// # Errors
 ///
-/// Want of memory.
+/// Out of memory.
 pub fn error_line(alloc: Global, fault: Fault) -> Result<Vec<u8>, AllocError>
     ensures { IfOk result (λ text. text.items ≡ error_line fault) }
 {
@@ -24,7 +24,7 @@ pub fn error_line(alloc: Global, fault: Fault) -> Result<Vec<u8>, AllocError>
     Ok(text)
 }
 
-// Appends the number of the refusal, where the code tells one.
+// Appends the number of the refusal, where the code has one.
 fn push_refusal(text: &mut Vec<u8>, code: Code) -> Result<(), AllocError>
     ensures { OnOk result (text.new.items ≡ text.old.items ++ flat_map behind_comma (refusal_fields code)) }
 {
@@ -41,7 +41,7 @@ fn push_refusal(text: &mut Vec<u8>, code: Code) -> Result<(), AllocError>
     }
 }
 
-// Appends a number as one field more.
+// Appends a number as another field.
 fn push_number(text: &mut Vec<u8>, number: u64) -> Result<(), AllocError>
     ensures { OnOk result (text.new.items ≡ text.old.items ++ behind_comma (decimal number)) }
 {

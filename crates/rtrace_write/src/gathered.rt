@@ -1,4 +1,4 @@
-// What is gathered of a history beside its text, until the bounds of its waits are known.
+// What is kept of a history beside its text, until the bounds of its waits are known.
 ghost use Rattle.std.specs.Prelude.{◌≡◌, ◌≤◌, ◌<◌, ◌++◌, [], Some, ℕ, List, length, map, slice_get, OnOk, IfOk};
 ghost use Rattle.rbound.specs.Bounds.{numbers_in};
 ghost use Rattle.rexpand.specs.Groups.{ReadGroups};
@@ -16,21 +16,21 @@ use rcover_laws::WaitEnd;
 use rexpand::Groups;
 use std::alloc::{AllocError, Global};
 
-/// Is told a history event by event, with the waits that each event ends. By what it keeps the bounds of all these waits are
-/// found in the end. It takes memory for shapes of requests and for waits, not for events.
+/// Is given a history event by event, with the waits that each event ends. The bounds of all these waits are found from
+/// it in the end. It takes memory for shapes of requests and for waits, not for events.
 #[derive(Drop)]
 pub struct Gathered {
     needs: GrowingNeeds,
-    // By what the bound of each wait is found, in the order in which they ended.
+    // What the bound of each wait is found by, in the order in which the waits ended.
     keys: Vec<BoundKey>,
 }
 
 impl Gathered {
-    /// What was told no event yet, of so many tasks.
+    /// Was given no event yet; there are so many tasks.
     ///
     /// # Errors
     ///
-    /// Want of memory.
+    /// Out of memory.
     pub fn new(alloc: Global, tasks: u8) -> Result<Gathered, AllocError>
         ensures { IfOk result (λ made. (groups : ReadGroups) (cap : ℕ) → KnowsGathered made (begun groups tasks cap) []) }
     {
@@ -40,11 +40,11 @@ impl Gathered {
         })
     }
 
-    /// Is told the next event, and the waits that it ended, by rising stamp.
+    /// Is given the next event, and the waits that it ended, by rising stamp.
     ///
     /// # Errors
     ///
-    /// Want of memory. Nothing is said then of what it knows.
+    /// Out of memory. Nothing is promised then of what it knows.
     pub fn tell(&mut self, event: &Event, ended: &[WaitEnd]) -> Result<(), AllocError>
         requires { (p : Past) × (ws : List WaitEnd) × KnowsGathered self.old p ws × ComesNext p event.now ended.now }
         ensures { OnOk result ((p : Past) (ws : List WaitEnd) → KnowsGathered self.old p ws → ComesNext p event.now ended.now → KnowsGathered self.new (with_event p event.now) (ws ++ ended.now)) }
@@ -55,8 +55,8 @@ impl Gathered {
         self.tell_ended(event, ended)
     }
 
-    // The same of an event that ended waits. Room for their keys is made first: were the two ways alike at their beginning, they
-    // would be made one, and an event that ends none would pay for both.
+    // The same for an event that ended waits. Room for their keys is made first: if the two paths began alike, the
+    // compiler would join them, and an event that ends no wait would pay for both.
     #[inline(never)]
     fn tell_ended(&mut self, event: &Event, ended: &[WaitEnd]) -> Result<(), AllocError>
         requires { (p : Past) × (ws : List WaitEnd) × KnowsGathered self.old p ws × ComesNext p event.now ended.now }
@@ -67,7 +67,7 @@ impl Gathered {
         keep_keys(&mut self.keys, &self.needs, ended)
     }
 
-    // The bounds of the waits of a history that was told whole, over its groups and under its cap.
+    // The bounds of the waits of a whole history, over its groups and under its cap.
     pub(crate) fn bounds(
         &self,
         alloc: Global,

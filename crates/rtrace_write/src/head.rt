@@ -1,4 +1,4 @@
-// How a report begins: what its head declares.
+// The beginning of a report: what its head declares.
 ghost use Rattle.std.specs.Prelude.{◌≡◌, ◌++◌, map, OnOk, IfOk, Some};
 ghost use Rattle.rtrace_form.specs.Lines.{HasResource, HasGroup, HasTask};
 ghost use Rattle.rtrace_form.specs.Reports.{declared_lines};
@@ -13,7 +13,7 @@ use std::alloc::{AllocError, Global};
 ///
 /// # Errors
 ///
-/// Want of memory.
+/// Out of memory.
 pub fn head_of(
     alloc: Global,
     names: &NameRows,

@@ -1,5 +1,5 @@
-// The text of a history: a machine of its own steps through it once more, and tells what each event changes; a follower
-// beside it tells which waits each event ends.
+// The text of a whole history: a machine of its own steps through it for the changes of each event, and a follower
+// beside it for the waits that each event ends.
 ghost use Rattle.std.specs.Prelude.{◌≡◌, ◌<◌, ◌^◌, ◌++◌, [], true, List, length, OnOk, IfOk};
 ghost use Rattle.rcover_laws.specs.Ended.{ended_by};
 ghost use Rattle.rcover_laws.specs.declared.wait_end.WaitEnd.{WaitEnd};
@@ -35,7 +35,7 @@ use std::alloc::{AllocError, Global};
 ///
 /// # Errors
 ///
-/// Want of memory.
+/// Out of memory.
 pub fn history_of(alloc: Global, names: &NameRows, report: &Report) -> Result<Page, AllocError>
     requires may { MayBeWritten (told_by report.now) }
     requires over { IsOverResources report.now }
@@ -45,8 +45,8 @@ pub fn history_of(alloc: Global, names: &NameRows, report: &Report) -> Result<Pa
     history_with(alloc, names, &mut gathered, report)
 }
 
-// The same by what was told no event. What a function here owns it lends to the next one, so that to each there is one way
-// out on which it is dropped.
+// The same, from a `Gathered` that was given no event. Each function here lends what it owns to the next, so that each
+// has one exit on which it is dropped.
 fn history_with(
     alloc: Global,
     names: &NameRows,
@@ -81,7 +81,7 @@ fn push_history(
     push_followed(alloc, text, names, &mut following, gathered, report)
 }
 
-// The same by a follower that followed no event, beside a machine of its own.
+// The same, with a follower that followed no event and a machine of its own.
 fn push_followed(
     alloc: Global,
     text: &mut OpenText,
@@ -148,7 +148,7 @@ fn push_next(
     gathered.tell(&entry.event, following.ended())
 }
 
-// The machine takes an event that comes to it, and the follower follows it.
+// The machine takes an event that it accepts, and the follower follows it.
 fn advance(machine: &mut Plain, following: &mut Following, event: &Event)
     requires { (p : Past) × AreBehind machine.old.state following.old p × Comes (state_of p) event.now × (length p.events < 2 ^ 63) }
     ensures { (p : Past) → AreBehind machine.old.state following.old p → Comes (state_of p) event.now → TookNext machine.new following.new p event.now }

@@ -1,4 +1,6 @@
-//! How a report is written, and the line of a fault.
+//! The writer of reports. A [`Report`] is written by [`write_report`]. Where a list is read and its report made in one
+//! pass, the history grows in an [`OpenText`], a [`Gathered`] keeps what gives its bounds, and [`write_parts`] writes
+//! the three parts. [`error_line`] is the line of a fault.
 #![tactic(auto)]
 
 mod act;

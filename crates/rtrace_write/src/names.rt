@@ -1,4 +1,4 @@
-// The names of a text, as its lines take them.
+// The names of a text, ready to be put on its lines.
 ghost use Rattle.std.specs.Prelude.{◌≡◌, ◌≤◌, ◌<◌, ◌+◌, ◌++◌, length, take, vec_len, IfOk};
 ghost use Rattle.rtrace_form.specs.SetFields.{name_at};
 ghost use Rattle.rset.specs.declared.TheConstants.{LONGEST_NAME, RESOURCES};
@@ -8,7 +8,7 @@ use rset::{LONGEST_NAME, NameTable};
 use std::alloc::{AllocError, Global};
 use std::marker::Model;
 
-/// A name in the front of a row of fixed length, so that it is copied at one go.
+/// A name at the front of a row of fixed length, so that it is copied in one step.
 #[derive(Drop)]
 struct NameRow {
     bytes: [u8; LONGEST_NAME],
@@ -76,7 +76,7 @@ impl NameRows {
     ///
     /// # Errors
     ///
-    /// Want of memory.
+    /// Out of memory.
     pub fn new(
         alloc: Global,
         resources: &NameTable,
@@ -125,7 +125,7 @@ impl NameRows {
     }
 }
 
-// Puts the name with a number; nothing where there is none.
+// Puts the name with a number; nothing where there is no such name.
 #[inline]
 fn put_name_at(page: &mut [u8], at: usize, rows: &[NameRow], n: u8) -> usize
     requires { at + LONGEST_NAME ≤ length page.old }

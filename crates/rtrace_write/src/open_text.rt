@@ -25,7 +25,7 @@ use rvalue::{Act, Edit};
 use std::alloc::{AllocError, Global};
 use std::marker::Model;
 
-/// A text that grows by lines. In those that tell waits the bounds are gaps, until it is closed.
+/// A text that grows by lines. On the lines of waits the bounds are gaps, until it is closed.
 #[derive(Drop)]
 pub struct OpenText {
     page: Page,
@@ -106,7 +106,7 @@ impl OpenText {
         Ok(())
     }
 
-    // The text, whose gaps are filled with the bounds of the waits that were gathered. A text without a gap is given away as
+    // The text, with its gaps filled by the bounds of the waits that were gathered. A text without a gap is returned as
     // it is.
     pub(crate) fn closed(
         self,
@@ -149,7 +149,7 @@ fn fill(
     Ok(Page::of(closed))
 }
 
-// Appends the bytes from one place to another, and a bound behind them.
+// Appends the bytes from one place to another, and a bound after them.
 fn push_part(
     closed: &mut Vec<u8>,
     text: &[u8],

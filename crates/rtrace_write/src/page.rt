@@ -25,13 +25,13 @@ use rvalue::{Act, Edit, Ledger};
 use std::alloc::{AllocError, Global};
 use std::marker::Model;
 
-/// How many bytes are made ahead, beside the room for a line. They are zeroes at first: so few of them are still near
-/// the processor when they are written.
+/// How many bytes are made ahead, besides the room for a line. They are zeroes at first; there are so few of them that
+/// they are still near the processor when they are written.
 const AHEAD: usize = 1024;
 
 /// A text that grows by lines.
 ///
-/// Bytes are made ahead, so that room is tested once a line. Contracts see the text alone.
+/// Bytes are made ahead, so room is tested once per line. Contracts see only the text.
 #[derive(Drop)]
 pub struct Page {
     bytes: Vec<u8>,
@@ -85,7 +85,7 @@ impl Page {
     ///
     /// # Errors
     ///
-    /// Want of memory. The text is then as it was.
+    /// Out of memory. The text is then as it was.
     pub fn push<const N: usize>(&mut self, piece: &[u8; N]) -> Result<(), AllocError>
         requires { N ≤ LINE_ROOM }
         ensures ok { OnOk result (self.new ≡ self.old ++ piece.now) }
@@ -134,7 +134,7 @@ impl Page {
     ///
     /// # Errors
     ///
-    /// Want of memory. The text is then as it was.
+    /// Out of memory. The text is then as it was.
     pub fn push_event(&mut self, names: &NameRows, event: &Event) -> Result<(), AllocError>
         ensures ok { OnOk result (self.new ≡ self.old ++ told_line names.now (Happens event.now)) }
         ensures err { OnErr result (self.new ≡ self.old) }
@@ -148,7 +148,7 @@ impl Page {
     ///
     /// # Errors
     ///
-    /// Want of memory. The text is then as it was.
+    /// Out of memory. The text is then as it was.
     pub fn push_act(&mut self, names: &NameRows, act: &Act<Edit>) -> Result<(), AllocError>
         ensures ok { OnOk result (self.new ≡ self.old ++ told_line names.now (Does act.now)) }
         ensures err { OnErr result (self.new ≡ self.old) }
@@ -162,7 +162,7 @@ impl Page {
     ///
     /// # Errors
     ///
-    /// Want of memory. The text is then as it was.
+    /// Out of memory. The text is then as it was.
     pub fn push_status(&mut self, names: &NameRows, change: &StatusChange) -> Result<(), AllocError>
         ensures ok { OnOk result (self.new ≡ self.old ++ told names.now (status_lines change.now.seat change.now.write_half change.now.status)) }
         ensures err { OnErr result (self.new ≡ self.old) }
@@ -176,7 +176,7 @@ impl Page {
     ///
     /// # Errors
     ///
-    /// Want of memory. The text is then as it was.
+    /// Out of memory. The text is then as it was.
     pub fn push_grant(&mut self, names: &NameRows, change: &GrantChange) -> Result<(), AllocError>
         ensures ok { OnOk result (self.new ≡ self.old ++ told_line names.now (grant_line change.now)) }
         ensures err { OnErr result (self.new ≡ self.old) }
@@ -186,11 +186,11 @@ impl Page {
         Ok(())
     }
 
-    /// Appends how the line of a wait begins, up to its cover.
+    /// Appends the beginning of the line of a wait, up to its cover.
     ///
     /// # Errors
     ///
-    /// Want of memory. The text is then as it was.
+    /// Out of memory. The text is then as it was.
     pub fn push_cover(&mut self, names: &NameRows, wait: &WaitEnd) -> Result<(), AllocError>
         ensures ok { OnOk result (self.new ≡ self.old ++ cover_text names.now wait.now.seat (stage_of wait.now.which) (cover_of wait.now)) }
         ensures err { OnErr result (self.new ≡ self.old) }
@@ -200,7 +200,8 @@ impl Page {
         Ok(())
     }
 
-    // Appends the line of what is left in a resource. `rexpected` spells it too: a field more goes into both.
+    // Appends the line of what is left in a resource. `rnlp_cli` spells it too (`due_line`): a further field goes into
+    // both.
     pub(crate) fn push_ledger(
         &mut self,
         names: &NameRows,
@@ -226,7 +227,7 @@ impl Page {
     }
 }
 
-// Makes the bytes longer, if there is no room for a line behind those that are used.
+// Makes the bytes longer, if there is no room for a line after those that are used.
 #[inline]
 fn make_room(bytes: &mut Vec<u8>, used: usize) -> Result<(), AllocError>
     requires { used ≤ vec_len bytes.old }
@@ -240,7 +241,7 @@ fn make_room(bytes: &mut Vec<u8>, used: usize) -> Result<(), AllocError>
     lengthen(bytes, used)
 }
 
-// Makes the bytes longer by room for lines. It is left out of the path of each line.
+// Makes the bytes longer by room for lines. It is kept out of the path of each line.
 #[cold]
 #[inline(never)]
 fn lengthen(bytes: &mut Vec<u8>, used: usize) -> Result<(), AllocError>

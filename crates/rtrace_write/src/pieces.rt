@@ -1,6 +1,7 @@
-// Pieces of lines, put at a place of a page. Each answers the place behind it.
+// Pieces of lines, put at a place of a page. Each answers the place after it.
 //
-// A place goes by value from piece to piece, and the room was made ahead, so that a piece of known length is a store or two.
+// A place goes by value from piece to piece, and the room was made ahead, so a piece of known length takes a store or
+// two.
 ghost use Rattle.std.specs.Prelude.{◌≡◌, ◌++◌, ◌+◌, ◌≤◌, length, take, decimal};
 ghost use Rattle.rtrace_form.specs.Texts.{behind_comma};
 ghost use Rattle.rtrace_form.specs.SetFields.{set_text};
@@ -9,10 +10,10 @@ use crate::names::NameRows;
 use itoa::Buffer;
 use rset::ResourceSet;
 
-/// More than a number takes as one field more.
+/// More than a number takes as another field.
 pub const NUMBER_ROOM: usize = 41;
 
-/// The most that a set takes as one field more: the names of all resources, each behind its separator.
+/// The most that a set takes as another field: the names of all resources, each after its separator.
 pub const SET_ROOM: usize = 64 * 17;
 
 /// Puts bytes of known length.
@@ -36,7 +37,7 @@ pub fn put_bytes(page: &mut [u8], at: usize, bytes: &[u8]) -> usize
     at + bytes.len()
 }
 
-/// Puts a number as one field more.
+/// Puts a number as another field.
 #[inline]
 pub fn put_number(page: &mut [u8], at: usize, number: u64) -> usize
     requires { at + NUMBER_ROOM ≤ length page.old }
@@ -49,7 +50,7 @@ pub fn put_number(page: &mut [u8], at: usize, number: u64) -> usize
     put_digits(page, at, number)
 }
 
-// Puts a number of several digits as one field more.
+// Puts a number of several digits as another field.
 fn put_digits(page: &mut [u8], at: usize, number: u64) -> usize
     requires { at + NUMBER_ROOM ≤ length page.old }
     ensures text { take result page.new ≡ take at page.old ++ behind_comma (decimal number) }
@@ -60,7 +61,7 @@ fn put_digits(page: &mut [u8], at: usize, number: u64) -> usize
     put_bytes(page, at, digits.format(number).as_bytes())
 }
 
-/// Puts a set as one field more.
+/// Puts a set as another field.
 pub fn put_set(page: &mut [u8], at: usize, names: &NameRows, set: ResourceSet) -> usize
     requires { at + SET_ROOM ≤ length page.old }
     ensures text { take result page.new ≡ take at page.old ++ behind_comma (set_text names.now.resources set) }

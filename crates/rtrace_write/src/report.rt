@@ -4,16 +4,16 @@ use rset::NameTable;
 use rvalue::{Edit, History, Ledger};
 use std::marker::Model;
 
-/// What a report says: names, groups and a cap, what happened, and what is left in each resource.
+/// What a report says: names, groups and a cap, the history, and what is left in each resource.
 ///
-/// An event list is a report without acts, whose ledgers are as they open.
+/// An event list is a report without acts, whose ledgers are unchanged.
 #[derive(Drop)]
 pub struct Report {
     /// The resources, numbered in the order of the text.
     pub resources: NameTable,
     /// The read groups, in the order of the text.
     pub groups: Groups,
-    /// The tasks, numbered as the resources are; each has the seat of its number.
+    /// The tasks, numbered like the resources; each has the seat of its number.
     pub tasks: NameTable,
     /// How many requests may be incomplete at once.
     pub cap: u8,

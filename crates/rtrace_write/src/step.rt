@@ -19,7 +19,7 @@ use std::alloc::AllocError;
 ///
 /// # Errors
 ///
-/// Want of memory. The text may then have grown by the first of these lines (`GrewBySome`).
+/// Out of memory. The text may then have grown by the first of these lines (`GrewBySome`).
 pub fn push_step(
     text: &mut OpenText,
     names: &NameRows,
@@ -37,12 +37,12 @@ pub fn push_step(
     push_told(text, names, changes, ended)
 }
 
-/// Appends the lines of an entry whose event made these changes and ended these waits: the event, the acts, the changes, and
-/// the waits, whose bounds stay open.
+/// Appends the lines of an entry whose event made these changes and ended these waits: the event, the acts, the
+/// changes, and the waits, whose bounds stay open.
 ///
 /// # Errors
 ///
-/// Want of memory. The text may then have grown by the first of these lines (`GrewBySome`).
+/// Out of memory. The text may then have grown by the first of these lines (`GrewBySome`).
 pub fn push_entry(
     text: &mut OpenText,
     names: &NameRows,

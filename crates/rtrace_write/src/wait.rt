@@ -1,4 +1,4 @@
-// The lines of waits, each in two pieces: the bound stands behind the rest of its line once it is known.
+// The lines of waits, each in two pieces: the bound follows the rest of its line once it is known.
 ghost use Rattle.std.specs.Prelude.{◌≡◌, ◌++◌, ◌+◌, ◌≤◌, length, take, OnOk, OnErr};
 ghost use Rattle.rbound.specs.Bounds.{numbers_in};
 ghost use Rattle.rtrace_form.specs.Texts.{behind_comma};
@@ -16,7 +16,7 @@ use std::alloc::AllocError;
 /// Room for a bound and the end of its line.
 const BOUND_ROOM: usize = 3 * NUMBER_ROOM + 1;
 
-/// Puts how the line of a wait begins: whose it was, which, and its cover.
+/// Puts the beginning of the line of a wait: whose it was, which, and its cover.
 pub fn put_cover(page: &mut [u8], at: usize, names: &NameRows, wait: &WaitEnd) -> usize
     requires { at + LINE_ROOM ≤ length page.old }
     ensures text { take result page.new ≡ take at page.old ++ cover_text names.now wait.now.seat (stage_of wait.now.which) (cover_of wait.now) }
@@ -30,7 +30,7 @@ pub fn put_cover(page: &mut [u8], at: usize, names: &NameRows, wait: &WaitEnd) -
     put_number(page, at, wait.units)
 }
 
-// Puts which wait of its request it was, as one field more.
+// Puts which wait of its request it was, as another field.
 fn put_stage(page: &mut [u8], at: usize, which: Which) -> usize
     requires { at + 6 ≤ length page.old }
     ensures text { take result page.new ≡ take at page.old ++ behind_comma (stage_text (stage_of which)) }
@@ -43,11 +43,11 @@ fn put_stage(page: &mut [u8], at: usize, which: Which) -> usize
     }
 }
 
-/// Appends how the line of a wait ends: with its bound.
+/// Appends the end of the line of a wait: its bound.
 ///
 /// # Errors
 ///
-/// Want of memory. The text is then as it was.
+/// Out of memory. The text is then as it was.
 pub fn push_bound(text: &mut Vec<u8>, bound: Bound) -> Result<(), AllocError>
     ensures ok { OnOk result (text.new.items ≡ text.old.items ++ bound_text (numbers_in bound)) }
     ensures err { OnErr result (text.new.items ≡ text.old.items) }

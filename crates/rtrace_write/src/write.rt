@@ -20,7 +20,7 @@ use thiserror::Error;
 /// Why a report was not written.
 #[derive(Clone, Copy, Debug, PartialEq, Eq, Error)]
 pub enum WriteErr {
-    /// The sink failed, behind a front part of the text.
+    /// The sink failed, after a front part of the text.
     #[error("writing failed")]
     WriteFault,
     /// Memory ran out, before the first byte.
@@ -44,12 +44,12 @@ impl From<WriteFault> for WriteErr {
     }
 }
 
-/// Writes a report, in its one spelling. All of the text is made before the first byte of it is written.
+/// Writes a report, in its one spelling. All of the text is made before its first byte is written.
 ///
 /// # Errors
 ///
-/// `WriteFault` where the sink failed, and then a front part of the text was written, and not all of it; want of memory,
-/// and then nothing was written.
+/// `WriteFault` where the sink failed: then a front part of the text was written, and not all of it. Out of memory:
+/// then nothing was written.
 pub fn write_report<K: Sink>(alloc: Global, report: &Report, sink: &mut K) -> Result<(), WriteErr>
     requires may { MayBeWritten (told_by report.now) }
     requires over { IsOverResources report.now }
@@ -97,11 +97,11 @@ fn parts_of(alloc: Global, report: &Report) -> Result<Parts, AllocError>
     })
 }
 
-/// Writes three parts of a text, one behind another, so that none of them is copied.
+/// Writes three parts of a text, one after another, so that none of them is copied.
 ///
 /// # Errors
 ///
-/// The sink failed, and then a front part of the text was written, and not all of it.
+/// The sink failed: then a front part of the text was written, and not all of it.
 pub fn write_parts<K: Sink>(
     sink: &mut K,
     head: &[u8],

@@ -60,7 +60,7 @@ module _ (whole : Bool) (rs : List (List ℕ)) (gs : List Set) (ts : List (List 
       )
       at _ i same e = absurd (true≢false (sym i))
 
-  -- the ledgers behind the first
+  -- the ledgers after the first
   rest_run : (earlier : List Entry) (latest : Option Entry) (due : List Line) → AreLedgers due → Runs whole (alive 8 earlier latest due) due (alive 8 earlier latest [])
   rest_run earlier latest [] all = runs_none whole (alive 8 earlier latest [])
   rest_run earlier latest (line ∷ due) all =

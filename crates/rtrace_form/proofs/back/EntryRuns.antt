@@ -80,7 +80,7 @@ dues_are : (whole : Bool) (head : Head) (earlier : List Entry) (e : Event) → A
 dues_are whole head earlier e =
     all_both _ (change_lines whole (lock_after head earlier) e) (wait_lines whole no_bounds head earlier e) (changes_are whole (lock_after head earlier) e) (waits_due whole head earlier e)
 
--- ---- where lines of entries may stand
+-- ---- where lines of entries may come
 
 event_stands : (e : Event) (p : ℕ) → 4 ≤ p → p ≤ 7 → ((stands (event_word e)).least ≤ p) × (p ≤ (stands (event_word e)).most)
 event_stands (event.Issue seat r) p low high = (low, high)
@@ -106,7 +106,7 @@ act_room s (Edited place (edit.Add n) done) = refl
 act_room s (Edited place (edit.Take n) done) = refl
 act_room s (Edited place (edit.Set n) done) = refl
 
--- acts stand only with events behind which they may stand
+-- acts come only with events that they may follow
 acts_place : (e : Event) (act : Act Edit) → stands_with e act ≡ true → event_place e ≡ 6
 acts_place (event.Finish seat) act h = refl
 acts_place (event.Rise seat) act h = refl
@@ -132,7 +132,7 @@ module _ (whole : Bool) (rs : List (List ℕ)) (gs : List Set) (ts : List (List 
   abbrev pub head_of : Head
   head_of = record { resources = rs; groups = gs; tasks = ts; cap = cap_or ts told }
 
-  -- what is said behind that head
+  -- what is said after that head
   abbrev pub living : ℕ → List Entry → Option Entry → List Line → SoFar
   living place earlier latest due = record { last = place; resources = rs; groups = gs; tasks = ts; cap = told; earlier = earlier; latest = latest; due = due }
 
@@ -229,7 +229,7 @@ module _ (whole : Bool) (rs : List (List ℕ)) (gs : List Set) (ts : List (List 
             (runs_both whole (living (event_place e) done (Some (bare e)) changes) (living q done (Some entry) changes) (living end done (Some entry) []) (map Does entry.acts) changes a c),
       )
 
-  -- these lines lead behind these entries
+  -- these lines lead to after these entries
   pub record Reaches (s : SoFar) (lines : List Line) (entries : List Entry) : Type 0 where
     pub place : ℕ
     pub earlier : List Entry

@@ -26,7 +26,7 @@ follows whole s line low high more =
     in_order (may_follow s.last (stands (word_of line))) (is_ledger_more whole s line) (is_change_due s)
     (and_from _ _ (le-leb (stands (word_of line)).least s.last low) (le-leb s.last (stands (word_of line)).most high)) more
 
--- a line that tells no change, in its place where none is due
+-- a line that is no change, in its place where none is due
 pub plain_fine : (whole : Bool) (s : SoFar) (line : Line) → s.due ≡ [] → is_change line ≡ false
     → (stands (word_of line)).least ≤ s.last → s.last ≤ (stands (word_of line)).most → is_ledger_more whole s line ≡ false
     → is_badly_declared s line ≡ false → refused s line ≡ None → is_wrong_act s line ≡ false → is_wrong_ledger whole s line ≡ false → IsFine whole s line

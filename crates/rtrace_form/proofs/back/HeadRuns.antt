@@ -79,7 +79,7 @@ module _ (whole : Bool) where
   cap_place None = (omega arith, omega arith)
   cap_place (Some n) = (omega arith, omega arith)
 
-  -- the lines of a head lead behind it
+  -- the lines of a head lead to after it
   pub head_run : (rs : List (List ℕ)) (gs : List Set) (ts : List (List ℕ)) (told : Option ℕ)
       → is_table RESOURCES rs ≡ true → are_read_groups gs ≡ true → is_table SEATS ts ≡ true → is_nil rs ≡ false → is_nil ts ≡ false
       → Runs whole nothing_yet (declared_lines rs gs ts told) (heading (last_place 4 5 (option_to_list told)) rs gs ts told)

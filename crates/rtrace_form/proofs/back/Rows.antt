@@ -113,7 +113,7 @@ right_bounds true rows told r all is =
     ∙ ap (option_map wrong_bound) (none_other 1 lines)
 right_bounds false rows told r all is = no_wrong_bound rows
 
--- for a head whose cap is the one that is told, or else the number of tasks
+-- for a head whose cap is the one in the text, or else the number of tasks
 clean_told : (whole : Bool) (rows : List Row) (told : Option ℕ) (rs : List (List ℕ)) (gs : List Set) (ts : List (List ℕ)) (entries : List Entry)
     → AllZip (λ row line. meaning whole (names_of (head_of whole rs gs ts told)) row ≡ Some line) rows (lines_of whole (bound_in (head_of whole rs gs ts told) entries) told (record { head = head_of whole rs gs ts told; entries = entries }))
     → IsHead (head_of whole rs gs ts told) told → IsLawful (head_of whole rs gs ts told) entries

@@ -34,7 +34,7 @@ module _ (whole : Bool) where
     leads = all_lead s xs ys ∙ ap (λ (v : SoFar). fold (with_line whole) v ys) a.leads ∙ b.leads;
   }
 
--- the place behind items of one kind: that before them, where there is none
+-- the place after items of one kind: the one before them, where there are no items
 abbrev pub last_place : {X : Type 0} → ℕ → ℕ → List X → ℕ
 last_place before own [] = before
 last_place before own (x ∷ xs) = own

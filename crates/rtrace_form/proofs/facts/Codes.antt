@@ -1,4 +1,4 @@
--- No record by itself tells a wrong bound, so one is told only where no record has a fault.
+-- No record by itself has a wrong bound, so `WrongBound` is reported only where no record has a fault.
 use Rattle.std.proofs.Common.{◌≡◌, ℕ, ◌+◌, Bool, true, false, not, cond, List, [], ◌∷◌, Option, Some, None, refl, sym, ap, ◌∙◌, true≢false}
 use Rattle.std.specs.Prelude.{option_map}
 use Rattle.rtrace_form.specs.Records.{Row}
@@ -19,7 +19,7 @@ abbrev tells_bound : Code → Bool
 tells_bound WrongBound = true
 tells_bound _ = false
 
--- no wrong bound is told
+-- no wrong bound is reported
 abbrev IsOther : Option Code → Type 0
 IsOther None = Unit {0}
 IsOther (Some c) = tells_bound c ≡ false
@@ -80,7 +80,7 @@ rows_other whole n s (row ∷ rows) =
     at None later p q = q
     at (Some c) later p q = p
 
--- *A wrong bound is told only where no record has another fault*
+-- *A wrong bound is reported only where no record has another fault*
 pub told_last : (whole : Bool) (rows : List Row) (line : ℕ) → first_fault whole rows ≡ Some (line, WrongBound) → first_record_fault whole rows ≡ None
 told_last whole rows line h = at (first_record_fault whole rows) (rows_other whole 1 nothing_yet rows) h
   where

@@ -1,4 +1,4 @@
--- An event that is read and not refused comes to the lock; and one that comes is not refused.
+-- An event that is read and not refused is accepted by the lock; and one that is accepted is not refused.
 use Rattle.std.proofs.Common.{◌≡◌, ◌≢◌, ℕ, ◌^◌, ◌<◌, ◌≤◌, Bool, true, false, not, ◌==◌, cond, List, length, Option, Some, None, refl, sym, ap, subst, ◌∙◌, arith, IsTrue}
 use Rattle.std.proofs.lemmas.Bool.{true≢false}
 use Rattle.std.proofs.lemmas.Bool.Decides.{nat_tests}
@@ -107,7 +107,7 @@ kind_below q Mixed reads writes first n later a b = (all_below_difference q read
 kind_below q Upgrade reads writes first n later a b = (a, all_below_empty q)
 kind_below q Nested reads writes first n later a b = (all_below_difference q reads writes a, b)
 
--- the event of a line comes where it is not refused
+-- the event of a line is accepted where it is not refused
 abbrev pub MayCome : LockState → Line → Type 0
 MayCome s (Happens e) = refusal_in s e ≡ None → Comes s e
 MayCome s _ = Unit {0}

@@ -21,7 +21,7 @@ any-append : {X : Type 0} (p : X → Bool) (xs ys : List X) → list_any p (xs +
 any-append p [] ys = refl
 any-append p (x ∷ xs) ys = ap (λ b. p x || b) (any-append p xs ys) ∙ or_assoc (p x) (list_any p xs) (list_any p ys)
 
--- where names differ and another follows, it is none of those before it
+-- where names differ and another follows, it is not any of those before it
 knows-front : (before after : List (List ℕ)) (name : List ℕ) → all_differ (before ++ name ∷ after) ≡ true → knows before name ≡ false
 unfolding all_differ knows
 knows-front [] after name h = refl
@@ -48,7 +48,7 @@ three true true false h = absurd (true≢false (sym h))
 three true false c h = absurd (true≢false (sym h))
 three false b c h = absurd (true≢false (sym h))
 
--- a name inside a table was none that the names before it refuse
+-- a name in a table is not refused by the names before it
 pub table-front : (limit : ℕ) (before after : List (List ℕ)) (name : List ℕ) → is_table limit (before ++ name ∷ after) ≡ true → is_bad_name limit before name ≡ false
 unfolding is_table
 table-front limit before after name h =
@@ -77,7 +77,7 @@ table-empty limit = table_empty limit
 
 -- ---- read groups
 
--- a group among others has a member, and there was room for it behind those before it
+-- a group among others has a member, and there was room for it after those before it
 pub groups-front : (before after : List Set) (group : Set) → are_read_groups (before ++ group ∷ after) ≡ true → ((len group == 0) ≡ false) × ((length before == GROUPS) ≡ false)
 groups-front before after group h =
     let parts = both_of (list_all has_member (before ++ group ∷ after)) _ h in

@@ -7,7 +7,7 @@ pub when_not : {C : Type 0} (b : Bool) (c : C) → when b c ≡ None → b ≡ f
 when_not true c h = absurd (some_none (sym h))
 when_not false c h = refl
 
--- none of both is there
+-- neither is there
 pub or_none : {X : Type 0} (a b : Option X) → or_else a b ≡ None → (a ≡ None) × (b ≡ None)
 or_none None b h = (refl, h)
 or_none (Some x) b h = absurd (some_none (sym h))

@@ -53,7 +53,7 @@ name_bytes (c ∷ cs) h =
     let letter = (and_parts (is_letter c) _ parts.0).0 in
     and_from (is_name_byte c) (list_all is_name_byte cs) (or_left _ _ (or_left _ _ letter)) parts.1
 
--- a text that begins with a name is no dash
+-- a text that begins with a name is not a dash
 not_dash : (name rest : List ℕ) → is_name name ≡ true → bytes_eq (name ++ rest) (codes "-") ≡ false
 unfolding is_name
 not_dash [] rest h = absurd (true≢false (sym h))

@@ -1,4 +1,4 @@
--- One line more in the history: an event, an act, a change.
+-- One more line in the history: an event, an act, a change.
 use Rattle.std.proofs.Common.{◌≡◌, ℕ, ◌≤◌, ◌<◌, ◌^◌, ◌==◌, ◌&&◌, ◌⊎◌, not, cond, Bool, true, false, List, [], ◌∷◌, ◌++◌, drop, length, map, Option, Some, None, refl, sym, ap, subst, ◌∙◌, arith, inl, inr, append_assoc, length-append, true≢false, nat_lt}
 use Rattle.std.specs.Prelude.{option_map, option_to_list}
 use Rattle.std.proofs.lemmas.Bool.{and_parts, eqb-true, ltb-true}
@@ -28,7 +28,7 @@ use Rattle.rtrace_form.proofs.lists.BlankLines.{without_bound, AreBlank, blank_b
 use Rattle.rtrace_form.proofs.forth.Stands.{Stands, IsNext, IsDeclared, IsOpen, front_of, front_before, front_lines, lawful_so_far}
 use Rattle.rtrace_form.proofs.forth.HeadSteps.{few_more}
 
--- what is declared stays so, behind the head
+-- what is declared stays so, after the head
 pub declared_later : (s : SoFar) → IsDeclared s → (place : ℕ) (earlier : List Entry) (latest : Option Entry) (due : List Line) → 4 ≤ s.last → 5 ≤ place
     → IsDeclared (record s { last = place; earlier = earlier; latest = latest; due = due })
 declared_later s d place earlier latest due low high = record {
@@ -55,14 +55,14 @@ event_high (event.Finish seat) = omega arith
 event_high (event.Rise seat) = omega arith
 event_high (event.Ask seat part) = omega arith
 
--- an event may stand behind the head and the history
+-- an event may come after the head and the history
 event_between : (s : SoFar) (e : Event) → IsBetween s (stands (word_of (Happens e))) → (4 ≤ s.last) × (s.last ≤ 7)
 event_between s (event.Issue seat r) at = (at.low, at.high)
 event_between s (event.Finish seat) at = (at.low, at.high)
 event_between s (event.Rise seat) at = (at.low, at.high)
 event_between s (event.Ask seat part) at = (at.low, at.high)
 
--- an act may stand where acts do
+-- an act may come where acts do
 act_between : (s : SoFar) (act : Act Edit) → IsBetween s (stands (word_of (Does act))) → s.last ≡ 6
 act_between s (Shown place number) at = omega (arith, at.low, at.high)
 act_between s (Edited place (edit.Add n) done) at = omega (arith, at.low, at.high)
@@ -83,7 +83,7 @@ due_first true true false a h e = absurd (true≢false h)
 due_first true false f a h e = absurd (true≢false h)
 due_first false d f a h e = absurd (true≢false (sym e))
 
--- the lines of an open entry are those of the history, with its changes behind them
+-- the lines of an open entry are those of the history, with its changes after them
 open_history : (whole : Bool) (s : SoFar) (lines : List Line) → IsOpen whole s lines → lines ++ s.due ≡ front_of whole s
 open_history whole s lines o =
     let head = head_lines (head_in s) s.cap in
@@ -170,7 +170,7 @@ module _ (whole : Bool) (s : SoFar) (lines : List Line) (h : Stands whole s line
         ended = λ place. absurd (omega (arith, place));
       }
 
-  -- a line that tells a change or a wait is the one that is due, but for its bound
+  -- a line of a change or a wait is the one that is due, but for its bound
   pub change_step : (line : Line) → is_change line ≡ true → IsFine whole s line → Stands whole (record s { last = at_changes; due = drop 1 s.due }) (lines ++ without_bound line ∷ [])
   change_step line change fine =
       let both = due_first (is_change line) (is_change_due s) (is_first s.due line) (is_act_here s line) fine.change change in

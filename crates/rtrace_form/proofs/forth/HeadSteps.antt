@@ -1,4 +1,4 @@
--- One line more in the head.
+-- One more line in the head.
 use Rattle.std.proofs.Common.{◌≡◌, ℕ, ◌≤◌, Bool, List, [], ◌∷◌, ◌++◌, length, refl, sym, ap, ◌∙◌, arith, length-append}
 use Rattle.rset.specs.Sets.{Set}
 use Rattle.rset.specs.declared.TheConstants.{RESOURCES, SEATS}

@@ -63,7 +63,7 @@ start whole = record {
   ended = λ e. absurd (omega (arith, e));
 }
 
--- what lines that end have said, where they tell no bounds
+-- what lines that end have said, where they have no bounds
 pub record AreLines (whole : Bool) (s : SoFar) (lines : List Line) : Type 0 where
   pub are : lines ≡ lines_of whole no_bounds s.cap (told_in s)
   pub head : IsHead (head_in s) s.cap

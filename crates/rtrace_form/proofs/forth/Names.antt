@@ -1,4 +1,4 @@
--- By which names a record is told: it is read by all names as by those that were declared before it, since what it needs has then been declared whole.
+-- The names by which a record is read: it says the same by all names as by those declared before it, since what it needs has then been declared.
 use Rattle.std.proofs.Common.{◌≡◌, ◌≤◌, Bool, List, [], ◌∷◌, fold, Some, refl, sym, ap, subst, ◌∙◌, arith}
 use Rattle.std.specs.Prelude.{option_map}
 use Rattle.rclaim.specs.declared.event.Event.{Event}
@@ -46,7 +46,7 @@ read_same a b (Number ∷ fs) (x ∷ row) agree = ap (paired (number_told x)) (r
 read_same a b (Length ∷ fs) (x ∷ row) agree = ap (paired (length_told x)) (read_same a b fs row agree.1)
 read_same a b (Limit ∷ fs) (x ∷ row) agree = ap (paired (cap_told x)) (read_same a b fs row agree.1)
 
--- a record needs the resources only behind them, and the tasks only behind them
+-- a record needs the resources only after they are declared, and the tasks only after they are
 module _ (a b : Names) where
   needs : (w : Word) → (3 ≤ (stands w).own → a.resources ≡ b.resources) → (5 ≤ (stands w).own → a.tasks ≡ b.tasks) → AgreeOnAll a b (fields_of w)
   needs word.Version r t = (tt, (tt, tt))
@@ -83,7 +83,7 @@ means_same whole a b row line r t h =
     let agree = needs a b told.of (λ e. r (subst (λ (w : Word). 3 ≤ (stands w).own) (sym of) e)) (λ e. t (subst (λ (w : Word). 5 ≤ (stands w).own) (sym of) e)) in
     ap (meant_as b row) told.is ∙ ap (option_map (line_by told.of)) (sym (read_same a b (fields_of told.of) row agree) ∙ told.reads) ∙ ap (λ (l : Line). Some l) told.tells
 
--- the place behind a line is its own
+-- the place after a line is its own
 pub own_place : (whole : Bool) (s : SoFar) (line : Line) → (with_line whole s line).last ≡ (stands (word_of line)).own
 own_place whole s Opens = refl
 own_place whole s (HasResource name) = refl
@@ -113,7 +113,7 @@ event_far whole s (event.Finish seat) = omega arith
 event_far whole s (event.Rise seat) = omega arith
 event_far whole s (event.Ask seat part) = omega arith
 
--- behind the resources no line declares one
+-- after the resources no line declares one
 resources_stay : (whole : Bool) (s : SoFar) (line : Line) → 3 ≤ s.last → IsNext whole s line → ((with_line whole s line).resources ≡ s.resources) × (3 ≤ (with_line whole s line).last)
 resources_stay whole s Opens far next = absurd (let at = (placed whole s Opens next.fine (none_due whole s Opens next.fine refl refl)).0 in omega (arith, at.high, far))
 resources_stay whole s (HasResource name) far next = absurd (let at = (placed whole s (HasResource name) next.fine (none_due whole s (HasResource name) next.fine refl refl)).0 in omega (arith, at.high, far))
@@ -129,7 +129,7 @@ resources_stay whole s (Waits seat which cover bound) far next = (refl, omega ar
 resources_stay whole s (Leaves place ledger) far next = (refl, omega arith)
 resources_stay whole s Ends far next = (refl, omega arith)
 
--- behind the tasks no line declares one
+-- after the tasks no line declares one
 tasks_stay : (whole : Bool) (s : SoFar) (line : Line) → 5 ≤ s.last → IsNext whole s line → ((with_line whole s line).tasks ≡ s.tasks) × (5 ≤ (with_line whole s line).last)
 tasks_stay whole s Opens far next = absurd (let at = (placed whole s Opens next.fine (none_due whole s Opens next.fine refl refl)).0 in omega (arith, at.high, far))
 tasks_stay whole s (HasResource name) far next = absurd (let at = (placed whole s (HasResource name) next.fine (none_due whole s (HasResource name) next.fine refl refl)).0 in omega (arith, at.high, far))
@@ -153,7 +153,7 @@ pub tasks_kept : (whole : Bool) (s : SoFar) (lines : List Line) → 5 ≤ s.last
 tasks_kept whole s [] far next = refl
 tasks_kept whole s (line ∷ lines) far next = let one = tasks_stay whole s line far next.0 in tasks_kept whole (with_line whole s line) lines one.1 next.1 ∙ one.0
 
--- a line behind the resources declares none, and one behind the tasks no task
+-- a line after the resources declares no resource, and one after the tasks no task
 pub resources_same : (whole : Bool) (s : SoFar) (line : Line) → 3 ≤ (stands (word_of line)).own → (with_line whole s line).resources ≡ s.resources
 resources_same whole s (HasResource name) far = absurd (omega (arith, far))
 resources_same whole s _ far = refl

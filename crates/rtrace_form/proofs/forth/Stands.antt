@@ -14,7 +14,7 @@ use Rattle.rtrace_form.proofs.facts.Fine.{IsFine}
 use Rattle.rtrace_form.proofs.facts.Coming.{MayCome}
 use Rattle.rtrace_form.proofs.lists.Places.{up_to_five}
 
--- a line may come next: nothing is wrong with it, and its event comes to the lock, while stamps are left
+-- a line may come next: nothing is wrong with it, and its event is accepted by the lock, while stamps are left
 pub record IsNext (whole : Bool) (s : SoFar) (line : Line) : Type 0 where
   pub room : is_group_more s (word_of line) ≡ false
   pub fine : IsFine whole s line
@@ -45,14 +45,14 @@ front_of whole s = head_lines (head_in s) s.cap ++ history_lines whole no_bounds
 abbrev pub front_before : Bool → SoFar → List Line
 front_before whole s = head_lines (head_in s) s.cap ++ history_lines whole no_bounds (head_in s) [] s.earlier
 
--- the latest entry may have acts, and nothing that is due behind it was told
+-- the latest entry may have acts, and nothing that is due after it was given
 pub record IsOpen (whole : Bool) (s : SoFar) (lines : List Line) : Type 0 where
   pub entry : Entry
   pub is : s.latest ≡ Some entry
   pub are : lines ≡ front_before whole s ++ Happens entry.event ∷ map Does entry.acts
   pub due : s.due ≡ due_lines whole no_bounds (head_in s) s.earlier entry.event
 
--- these lines have led to the state; they tell no bounds
+-- these lines have led to the state; they have no bounds
 pub record Stands (whole : Bool) (s : SoFar) (lines : List Line) : Type 0 where
   pub declared : IsDeclared s
   pub none : s.last ≡ 0 → lines ≡ []
@@ -83,7 +83,7 @@ module _ (whole : Bool) (s : SoFar) (lines : List Line) (h : Stands whole s line
   no_history entries none =
       sym (append-nil (head_lines (head_in s) s.cap)) ∙ ap (λ (xs : List Entry). head_lines (head_in s) s.cap ++ history_lines whole no_bounds (head_in s) [] xs) (sym none)
 
-  -- behind the head and before the ledgers, where no change is due, the lines are those of the head and of the history
+  -- after the head and before the ledgers, where no change is due, the lines are those of the head and of the history
   pub front_lines : 4 ≤ s.last → s.last ≤ 7 → s.due ≡ [] → lines ≡ front_of whole s
   front_lines tasks early none = elim (up_to_five s.last) [
     | inl low ↦ h.heads (omega (arith, tasks)) low ∙ no_history (entries_in s) (no_entries low)

@@ -17,7 +17,7 @@ use Rattle.rtrace_form.specs.declared.word.Word.TheVariants as word
 use Rattle.rtrace_form.proofs.fields.ReadBack.{read_back}
 use Rattle.rtrace_form.proofs.lines.WordBack.{word_back}
 
--- the request that the record of a request in normal form tells is that request
+-- the request in the record of a request in normal form is that request
 request_back : (kind : Kind) (seat : ℕ) (reads writes first : Set) (len later : ℕ) → FitsKind kind reads writes → FitsFirst kind (union reads writes) first → FitsLater kind later
     → line_by (word.Issue kind) (issue_values kind seat reads writes first len later)
     ≡ Happens (Issue seat (record { kind = kind; reads = reads; writes = writes; first = first; len = len; later = later }))
@@ -53,7 +53,7 @@ line_back (Waits seat which cover bound) normal = refl
 line_back (Leaves place ledger) normal = refl
 line_back Ends normal = refl
 
--- what is spelled of a line that may be written is read again as the same line
+-- a line that may be written is read back from its spelling
 pub meaning_back : (names : Names) (line : Line) → AreTables names → IsWritable names line → meaning true names (spelled names line) ≡ Some line
 unfolding meaning
 meaning_back names line tables h =

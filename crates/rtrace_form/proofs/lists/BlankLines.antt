@@ -1,4 +1,4 @@
--- Lines without the bounds that they tell: those of a report are the same whatever the bounds are.
+-- Lines without their bounds: those of a report are the same whatever the bounds are.
 use Rattle.std.proofs.Common.{◌≡◌, ℕ, Bool, true, false, List, [], ◌∷◌, ◌++◌, drop, length, map, Option, refl, ap, ◌∙◌}
 use Rattle.std.specs.Prelude.{flat_map, option_to_list}
 use Rattle.std.specs.List.{range_with_len}
@@ -19,7 +19,7 @@ use Rattle.rtrace_form.specs.Lines.{Line, Opens, HasResource, HasGroup, HasTask,
 use Rattle.rtrace_form.specs.Waits.{ended_in, no_bounds}
 use Rattle.rtrace_form.specs.Reports.{Entry, Report, declared_lines, head_lines, status_lines, grant_line, change_lines, wait_line, wait_lines, due_lines, entry_lines, history_lines, ledger_lines, ledger_after, lock_after, lines_of}
 
--- a line, without the bound that it tells if it tells a wait
+-- a line, without its bound if it is of a wait
 abbrev pub without_bound : Line → Line
 without_bound (Waits seat which cover bound) = Waits seat which cover no_wait
 without_bound line = line
@@ -28,7 +28,7 @@ without_bound line = line
 abbrev pub blank : List Line → List Line
 blank lines = map without_bound lines
 
--- none of them tells a bound
+-- none of them has a bound
 abbrev pub AreBlank : List Line → Type 0
 AreBlank lines = blank lines ≡ lines
 
@@ -105,7 +105,7 @@ unfolding ledger_lines
 ledgers_blank true head entries = blank_mapped (λ l. Leaves l (ledger_after entries l)) (λ l. Leaves l (ledger_after entries l)) (λ l. refl) (range_with_len 0 (length head.resources))
 ledgers_blank false head entries = refl
 
--- the lines of a head and a history, where no bound is told
+-- the lines of a head and a history, without bounds
 pub front_blank : (whole : Bool) (head : Head) (told : Option ℕ) (entries : List Entry) → AreBlank (head_lines head told ++ history_lines whole no_bounds head [] entries)
 front_blank whole head told entries =
     let history = history_lines whole no_bounds head [] entries in

@@ -30,11 +30,11 @@ cap_more rs gs ts n =
     ∙ ap (λ lines. map HasResource rs ++ lines) (append_assoc (map HasGroup gs) (map HasTask ts ++ []) (HasCap n ∷ []) ∙ ap (λ lines. map HasGroup gs ++ (lines ++ HasCap n ∷ [])) (append-nil (map HasTask ts)))
     )
 
--- the lines of a head of which nothing is declared
+-- the lines of a head that declares nothing
 pub open_lines : (rs : List (List ℕ)) (gs : List Set) (ts : List (List ℕ)) (told : Option ℕ) → rs ≡ [] → gs ≡ [] → ts ≡ [] → told ≡ None → declared_lines rs gs ts told ≡ Opens ∷ []
 open_lines rs gs ts told p q r t = λ i. declared_lines (p i) (q i) (r i) (t i)
 
--- the same, where what comes behind is empty by an equation
+-- the same, where what follows is empty by an equation
 module _ (lines : List Line) (rs : List (List ℕ)) (gs : List Set) (ts : List (List ℕ)) (told : Option ℕ) (are : lines ≡ declared_lines rs gs ts told) where
   pub grown_resource : (name : List ℕ) → gs ≡ [] → ts ≡ [] → told ≡ None → lines ++ HasResource name ∷ [] ≡ declared_lines (rs ++ name ∷ []) gs ts told
   grown_resource name q r t =

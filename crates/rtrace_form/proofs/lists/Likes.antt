@@ -13,7 +13,7 @@ use Rattle.rtrace_form.proofs.lists.BlankLines.{without_bound, blank, first_line
 use Rattle.rtrace_form.proofs.lists.SameLines.{numbers_are, numbers_itself}
 use Rattle.rtrace_form.proofs.lists.ToldWaits.{all_told}
 
--- a line with this bound, if it tells a wait
+-- a line with this bound, if it is of a wait
 with_bound : Option Numbers → Line → Line
 with_bound (Some b) (Waits seat which cover bound) = Waits seat which cover b
 with_bound _ line = line
@@ -27,7 +27,7 @@ told_is : (line : Line) → is_some (bound_told line) ≡ tells_wait (without_bo
 told_is (Waits seat which cover bound) = refl
 told_is _ = refl
 
--- both tell a bound, or neither does
+-- both have a bound, or neither has
 both_tell : (x y : Line) → without_bound x ≡ without_bound y → is_some (bound_told x) ≡ is_some (bound_told y)
 both_tell x y e = told_is x ∙ ap tells_wait e ∙ sym (told_is y)
 
@@ -36,7 +36,7 @@ same_line x y e same = sym (bound_back x) ∙ (λ i. with_bound (same i) (e i)) 
 
 -- ---- numbered bounds
 
--- the bounds that lines tell, numbered from n on
+-- the bounds on lines, numbered from n on
 abbrev pub told_from : ℕ → List Line → List (ℕ × Numbers)
 told_from n [] = []
 told_from n (line ∷ lines) = or_more n (bound_told line) (told_from (n + 1) lines)
@@ -67,7 +67,7 @@ first_and_rest n (Some x) None told dues e h = absurd (true≢false e)
 first_and_rest n (Some x) (Some y) told dues e h =
     let parts = go_on (same_numbers x y) n (first_other told dues) h in (ap (λ (b : Numbers). Some b) (numbers_are x y parts.0), parts.1)
 
--- *Lines that are the same without their bounds, where no bound is another, are the same*
+-- *Lines that are the same without their bounds, and whose bounds do not differ, are the same*
 pub likes_are : (n : ℕ) (xs ys : List Line) → blank xs ≡ blank ys → first_other (told_from n xs) (bounds_in ys) ≡ None → xs ≡ ys
 unfolding is_nothing first_line
 likes_are n [] [] e h = refl
@@ -80,7 +80,7 @@ likes_are n (x ∷ xs) (y ∷ ys) e h =
     let rest = likes_are (n + 1) xs ys (ap (drop 1) e) parts.1 in
     λ i. first i ∷ rest i
 
--- and of lines no bound is another than itself
+-- and no bound of lines differs from itself
 pub none_other : (n : ℕ) (xs : List Line) → first_other (told_from n xs) (bounds_in xs) ≡ None
 unfolding first_other
 none_other n [] = refl
@@ -104,7 +104,7 @@ of_waits : (bounds : WaitEnd → Numbers) (ws : List WaitEnd) → bounds_in (map
 of_waits bounds [] = refl
 of_waits bounds (w ∷ ws) = ap (λ (bs : List Numbers). bounds w ∷ bs) (of_waits bounds ws)
 
--- *The bounds that the lines of a report tell are those that are due*
+-- *The bounds on the lines of a report are those that are due*
 pub bounds_are_due : (told : Option ℕ) (r : Report) → bounds_in (lines_of true (bound_in r.head r.entries) told r) ≡ bounds_due r.head r.entries
 bounds_are_due told r =
     only_waits (lines_of true (bound_in r.head r.entries) told r) ∙ ap bounds_in (all_told (bound_in r.head r.entries) told r) ∙ of_waits (bound_in r.head r.entries) (all_ended r.head r.entries)

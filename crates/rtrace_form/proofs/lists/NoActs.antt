@@ -1,4 +1,4 @@
--- An event list has no acts and tells no waits, since it has no word for them.
+-- An event list has no acts and no waits, since it has no word for them.
 use Rattle.std.proofs.Common.{◌≡◌, ℕ, ◌+◌, Bool, true, false, cond, List, [], ◌∷◌, ◌++◌, map, Option, Some, None, refl, sym, ap, subst, ◌∙◌, true≢false}
 use Rattle.std.specs.Prelude.{find, option_map, option_and_then}
 use Rattle.std.specs.List.{AllByRecursion, AllZip}
@@ -81,7 +81,7 @@ list_fault_alone rows = ap (or_else (first_record_fault false rows)) (no_wrong_b
     alone None = refl
     alone (Some fault) = refl
 
--- its lines tell none
+-- its lines have none
 pub none_told : (names : Names) (rows : List Row) (lines : List Line) → AllZip (λ row line. meaning false names row ≡ Some line) rows lines → (n : ℕ) → told_from n lines ≡ []
 none_told names [] [] said n = refl
 none_told names [] (line ∷ lines) said n = absurd said

@@ -35,7 +35,7 @@ second_false : (a b : Bool) → (a && b) ≡ false → a ≡ true → b ≡ fals
 second_false true b h e = h
 second_false false b h e = absurd (true≢false (sym e))
 
--- where the last line stands among these
+-- where the last line is among these
 pub record IsBetween (s : SoFar) (stand : Stand) : Type 0 where
   pub low : stand.least ≤ s.last
   pub high : s.last ≤ stand.most
@@ -45,7 +45,7 @@ pub no_change : (s : SoFar) → is_change_due s ≡ false → s.last < 8 → s.d
 no_change s none early = nil_is s.due (second_false (nat_lt s.last at_ledgers) (not (is_nil s.due)) none (lt-ltb s.last 8 early))
 
 module _ (whole : Bool) (s : SoFar) (line : Line) (fine : IsFine whole s line) where
-  -- a line that tells no change and is no act in its place comes where no change is due
+  -- a line that is neither a change nor an act, in its place, comes where no change is due
   pub none_due : is_change line ≡ false → is_act_here s line ≡ false → is_change_due s ≡ false
   none_due plain idle = not_due (is_change_due s) (is_act_here s line) (plain_case (is_change line) (is_change_due s) (is_first s.due line) (is_act_here s line) fine.change plain) idle
 

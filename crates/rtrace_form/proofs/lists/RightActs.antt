@@ -78,7 +78,7 @@ in_turn_at : {X : Type 0} (Fits : List X → X → Type 0) (earlier xs : List X)
 in_turn_at Fits earlier [] y ys all = subst (λ before. Fits before y) (sym (append-nil earlier)) all.0
 in_turn_at Fits earlier (x ∷ xs) y ys all = subst (λ before. Fits before y) (append_assoc earlier (x ∷ []) xs) (in_turn_at Fits (earlier ++ x ∷ []) xs y ys all.1)
 
--- each act of an entry that is right is right behind those before it
+-- each act of a right entry is right after those before it
 pub right_at : (head : Head) (earlier : List Entry) (entry : Entry) (before after : List (Act Edit)) (act : Act Edit) → IsRightEntry head earlier entry → entry.acts ≡ before ++ act ∷ after
     → is_right head earlier (record { event = entry.event; acts = before }) act ≡ true
 right_at head earlier entry before after act right are =
@@ -95,7 +95,7 @@ pub right_stands : (head : Head) (earlier : List Entry) (entry : Entry) (before 
 right_stands head earlier entry before after act right are =
     all_at (λ a. IsTrue (stands_with entry.event a)) before act after (subst (λ (acts : List (Act Edit)). AllByRecursion (λ a. IsTrue (stands_with entry.event a)) acts) are right.stand)
 
--- an entry without an act is right where its event comes
+-- an entry without an act is right where its event is accepted
 pub right-bare : (head : Head) (earlier : List Entry) (entry : Entry) → entry.acts ≡ [] → Comes (lock_after head earlier) entry.event → IsRightEntry head earlier entry
 right-bare head earlier entry none comes = record {
   comes = comes;

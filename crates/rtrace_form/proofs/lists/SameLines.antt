@@ -1,4 +1,4 @@
--- A line that is due is the one that stands there, where the test says so; of a wait all but the bound is.
+-- A line that is due is the one that is there, where the test says so; for a wait this holds of all but the bound.
 use Rattle.std.proofs.Common.{◌≡◌, ℕ, Bool, true, false, ◌==◌, ◌&&◌, List, [], ◌∷◌, drop, refl, sym, ap, ◌∙◌, true≢false}
 use Rattle.std.proofs.lemmas.Bool.{and_parts, and_from, eqb-true, eq-eqb}
 use Rattle.rset.specs.Sets.{equals}
@@ -58,7 +58,7 @@ line_is (Leaves place ledger) (Leaves other left) h =
     let parts = and_parts (place == other) (same_ledger ledger left) h in λ i. Leaves (eqb-true place other parts.0 i) (ledger_is ledger left parts.1 i)
 line_is _ _ h = absurd (true≢false (sym h))
 
--- the line is the first of those that are due, where these tell no bounds
+-- the line is the first of those that are due, where these have no bounds
 pub first_is : (due : List Line) (line : Line) → AreBlank due → is_first due line ≡ true → due ≡ without_bound line ∷ drop 1 due
 first_is [] line blank h = absurd (true≢false (sym h))
 first_is (first ∷ due) line blank h = ap (λ x. x ∷ due) (sym (first_blank first due blank) ∙ line_is first line h)

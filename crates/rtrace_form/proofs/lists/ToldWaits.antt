@@ -1,4 +1,4 @@
--- The lines of an entry that tell waits are those of the waits that its event ends.
+-- The lines of waits in an entry are those of the waits that its event ends.
 use Rattle.std.proofs.Common.{◌≡◌, ℕ, ◌||◌, cond, Bool, true, false, List, [], ◌∷◌, ◌++◌, length, filter, map, Option, refl, sym, ap, ◌∙◌, append_assoc, true≢false}
 use Rattle.std.specs.Prelude.{flat_map, option_to_list}
 use Rattle.std.specs.List.{range_with_len, list_any}
@@ -25,7 +25,7 @@ is_filled : List Line → Bool
 is_filled [] = false
 is_filled (line ∷ lines) = true
 
--- those of these lines that tell waits
+-- the lines of waits among these
 abbrev waits : List Line → List Line
 waits lines = filter tells_wait lines
 
@@ -111,7 +111,7 @@ all_told bounds told r =
     (both history (ledgers ++ Ends ∷ []) ws [] (history_told bounds r.head [] r.entries) (both ledgers (Ends ∷ []) [] [] (ledgers_none r.head r.entries) refl))
     ∙ append-nil ws
 
--- ---- one entry more
+-- ---- one more entry
 
 ended_push : (head : Head) (earlier entries : List Entry) (entry : Entry) → ended_from head earlier (entries ++ entry ∷ []) ≡ ended_from head earlier entries ++ ended_in head (earlier ++ entries) entry.event
 unfolding ended_from
@@ -121,6 +121,6 @@ ended_push head earlier (x ∷ entries) entry =
     (ended_push head (earlier ++ x ∷ []) entries entry ∙ ap (λ (before : List Entry). ended_from head (earlier ++ x ∷ []) entries ++ ended_in head before entry.event) (append_assoc earlier (x ∷ []) entries))
     ∙ sym (append_assoc (ended_in head earlier x.event) (ended_from head (earlier ++ x ∷ []) entries) (ended_in head (earlier ++ x ∷ entries) entry.event))
 
--- *With one entry more a history ends the waits that its event ends*
+-- *With one more entry a history ends the waits that its event ends*
 pub all_ended_push : (head : Head) (entries : List Entry) (entry : Entry) → all_ended head (entries ++ entry ∷ []) ≡ all_ended head entries ++ ended_in head entries entry.event
 all_ended_push head entries entry = ended_push head [] entries entry

@@ -1,4 +1,4 @@
--- What is known of an event list or a report by its records, told by what they have said.
+-- What is known of an event list or a report by its records, in terms of what they have said.
 use Rattle.std.proofs.Common.{◌≡◌, ℕ, suc, ◌+◌, ◌≤◌, Bool, List, [], ◌∷◌, ◌++◌, length, fold, Option, Some, None, refl, sym, ap, ◌∙◌, arith, length-append}
 use Rattle.std.proofs.lemmas.List.Sums.{fold_push}
 use Rattle.std.specs.Prelude.{option_map, option_to_list}
@@ -27,11 +27,11 @@ module _ {R S Q C : Type 0} (code : S → R → Option C) (next : S → R → S)
 
 -- ---- what records have said
 
--- one record more says what it adds
+-- one more record says what it adds
 pub read_more : (whole : Bool) (rows : List Row) (row : Row) → read_all whole (followed rows row) ≡ with_row whole (read_all whole rows) row
 read_more whole rows row = fold_push (with_row whole) nothing_yet rows row
 
--- and tells its bound, if it tells one, by the names so far
+-- and has its bound, if it is of a wait, by the names so far
 pub bounds_more : (whole : Bool) (rows : List Row) (row : Row)
     → bounds_said whole 1 nothing_yet (followed rows row) ≡ bounds_said whole 1 nothing_yet rows ++ or_more (length rows + 1) (bound_said whole (names_in (read_all whole rows)) row) []
 unfolding bounds_said
@@ -95,7 +95,7 @@ entries_rows : (whole : Bool) (s : SoFar) (rows : List Row) → length (entries_
 entries_rows whole s [] = omega arith
 entries_rows whole s (row ∷ rows) = let one = entries_row whole s row in let rest = entries_rows whole (with_row whole s row) rows in omega (arith, one, rest)
 
--- records tell no more entries than there are records
+-- records have no more entries than there are records
 pub entries_few : (whole : Bool) (rows : List Row) → length (entries_in (read_all whole rows)) ≤ length rows
 entries_few whole rows = let few = entries_rows whole nothing_yet rows in omega (arith, few)
 
@@ -116,7 +116,7 @@ pub list_bound : {T : Type 0} (whole : Bool) (Knows : T → SoFar → Type 0) (b
 list_bound whole Knows bytes taker h fault wrong =
     (h.rows, h.are, ap (λ o. or_else o (first_wrong_bound whole h.rows)) (sym (list_faults whole h.rows) ∙ h.right) ∙ wrong)
 
--- the records of a text that was taken tell the lines of what the taker knows, but for the bounds of waits
+-- the records of a text that was taken say the lines of what the taker knows, but for the bounds of waits
 pub list_told : {T : Type 0} (whole : Bool) (Knows : T → SoFar → Type 0) (bytes : List ℕ) (taker : T) (h : HasTaken (list_code whole) (is_list_done whole) NoEnd (KnowsSaid whole Knows) bytes taker)
     → HaveTold whole h.rows (read_all whole h.rows)
 list_told whole Knows bytes taker h = let few = h.few in have_told whole h.rows (omega (arith, few)) (sym (list_faults whole h.rows) ∙ h.right)

@@ -1,4 +1,4 @@
--- Where the taking of a text has come, and what one record more says.
+-- Where the taking of a text has come, and what one more record says.
 use Rattle.std.proofs.Common.{◌≡◌, ℕ, suc, ◌+◌, ◌^◌, ◌<◌, Bor, Bool, true, false, cond, List, [], ◌∷◌, ◌++◌, length, fold, Option, Some, None, refl, sym, ap, subst, ◌∙◌, arith, append_assoc, length-append}
 use Rattle.std.proofs.lemmas.Bool.{true≢false}
 use Rattle.std.proofs.lemmas.List.{append-nil}
@@ -22,7 +22,7 @@ use Rattle.rtrace_form.specs.declared.fault.Fault.{Fault}
 use Rattle.rtrace_form.proofs.facts.Walks.{clean_none}
 use Rattle.rtrace_form.proofs.texts.Records.{rows_around}
 
--- ---- items before and behind
+-- ---- items before and after
 
 module _ {R S C : Type 0} (code : S → R → Option C) (next : S → R → S) (is_done : S → Bool) (no_end : C) where
   pub clean_push : (s : S) (xs : List R) (x : R) → AllClean code next s xs → code (fold next s xs) x ≡ None → AllClean code next s (xs ++ x ∷ [])
@@ -43,7 +43,7 @@ module _ {R S C : Type 0} (code : S → R → Option C) (next : S → R → S) (
       shifted : (n k : ℕ) → (n + 1) + k ≡ n + suc k
       shifted n k = omega arith
 
--- records that follow others one after another are behind them
+-- records that follow others one after another come after them
 pub followed_all : (before rows : List Row) → fold followed before rows ≡ before ++ rows
 followed_all before [] = sym (append-nil before)
 followed_all before (row ∷ rows) = followed_all (before ++ row ∷ []) rows ∙ append_assoc before (row ∷ []) rows
@@ -60,7 +60,7 @@ found_next cfg s s2 left (Some ys) fields h =
     ] refl h
 
 module _ {C T : Type 0} (code : List Row → Row → Option C) (is_done : List Row → Bool) (no_end : C) (Knows : T → List Row → Type 0) where
-  -- behind `earlier` ones the reader has read the records `before` of these bytes, none of which has a fault, the taker knows them, and the bytes `left` are to go on with
+  -- after `earlier` records the reader has read the records `before` of these bytes, which have no fault, the taker knows them, and the bytes `left` are still to be read
   pub record IsAt (earlier : List Row) (bytes : List ℕ) (reader : Reader (Bor (List ℕ))) (taker : T) (line : ℕ) (before : List Row) (left : List ℕ) : Type 0 where
     pub counted : length (earlier ++ before) + 1 ≡ line
     pub clean : AllClean code followed earlier before
@@ -148,7 +148,7 @@ module _ {C T : Type 0} (code : List Row → Row → Option C) (is_done : List R
             ∙ ap (λ n. Some (n, cause)) number,
       )
 
-  -- and the taker stands where it was refused
+  -- and the taker is where it was refused
   pub at_refused : (Stays : T → T → Type 0) (earlier : List Row) (bytes : List ℕ) (old new : Reader (Bor (List ℕ))) (taker now : T) (line : ℕ) (before : List Row) (left : List ℕ) (fields : Row)
       → IsAt earlier bytes old taker line before left → ReadRecord (λ s. Some s.now) old new true fields → Stays taker now → IsRefusedAt Knows Stays earlier bytes line now
   at_refused Stays earlier bytes old new taker now line before left fields h read stays =
@@ -165,7 +165,7 @@ module _ {C T : Type 0} (code : List Row → Row → Option C) (is_done : List R
   pub text_ended : (Stays : T → T → Type 0) (bytes : List ℕ) (line : ℕ) (now : T) → HasTakenPart code Knows [] bytes now line → StandsAt Knows Stays bytes line now
   text_ended Stays bytes line now h = record { before = h.rows; behind = []; are = subst (AreRowsOf bytes) (sym (append-nil h.rows)) h.are; was = now; knows = h.knows; counted = h.counted; left = refl }
 
-  -- the first fault of all of a text, as a part behind nothing
+  -- the first fault of a whole text, as a part after nothing
   pub fault_of_all : (bytes : List ℕ) (fault : Fault C) → IsFaultBehind code is_done no_end [] bytes fault → IsFaultOf code is_done no_end bytes fault
   fault_of_all bytes fault h = (h.0, h.1, ap (fault_of code is_done no_end) (sym (append-nil h.0)) ∙ h.2 [])
 

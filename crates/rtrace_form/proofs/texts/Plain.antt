@@ -71,7 +71,7 @@ joined_plain [] all = refl
 joined_plain (name ∷ []) all = name_plain name all.0
 joined_plain (name ∷ next ∷ names) all = joint_plain name (join_with_byte 43 (next ∷ names)) (name_plain name all.0) (joined_plain (next ∷ names) all.1)
 
--- the parts of a record that do not follow from what it tells: its words, and a name that it declares
+-- the parts of a record that do not follow from what it says: its words, and a name that it declares
 abbrev PlainWith : {Rest : Type 0} → (f : Field) → (Rest → Type 0) → With f Rest → Type 0
 PlainWith (Said word) rest v = IsPlain word × rest v
 PlainWith Fresh rest v = IsPlain v.0 × rest v.1

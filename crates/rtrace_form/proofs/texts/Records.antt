@@ -29,7 +29,7 @@ shorter cfg s fields field (c ∷ rest) p e =
       | false ↦ λ e. let less = shorter cfg (step cfg s c).0 _ _ rest p e in omega arith
     ] e
 
--- at the end of a text one record more may end, and then none
+-- at the end of a text one more record may end, and then none
 last_state : (cfg : Config) (s : State) (p : Read) → next_record cfg s [] [] [] ≡ Some p → next_record cfg p.1 [] [] p.2 ≡ None
 unfolding next_record
 last_state cfg s p e =
@@ -38,7 +38,7 @@ last_state cfg s p e =
       | false ↦ λ e. absurd (some_none (sym e))
     ] e
 
--- the records behind one that was read
+-- the records after one that was read
 more_rows : (cfg : Config) (s : State) (xs : List ℕ) (p : Read) → next_record cfg s [] [] xs ≡ Some p → (rows : List Row) × AreRecords cfg p.1 p.2 rows → (rows : List Row) × AreRecords cfg s xs rows
 unfolding Reached
 more_rows cfg s xs p e later = (p.0 ∷ later.0, (later.1.0, later.1.1, (p, e, refl, later.1.2), later.1.3))
@@ -80,7 +80,7 @@ rows_unique cfg s xs (r ∷ rows) (q ∷ more) a b =
     (subst (λ (p : Read). AreRecords cfg p.1 p.2 more) (sym same) (b.0, b.1, b.2.3, b.3)) in
     (λ i. head i ∷ tail i)
 
--- records that were read, one that comes next, and all that come behind them
+-- records that were read, one that comes next, and all that follow
 pub rows_around : (cfg : Config) (s t : State) (xs ys : List ℕ) (before : List Row) (p : Read) → Reached cfg s xs before t ys → next_record cfg t [] [] ys ≡ Some p
     → (rest : List Row) × AreRecords cfg s xs (before ++ p.0 ∷ rest)
 unfolding Reached

@@ -1,4 +1,4 @@
--- While an ask is pending, what is asked for is the last set for which its seat asked; so a history tells it by the number of the ask.
+-- While an ask is pending, what is asked for is the last set for which its seat asked; so a history gives it by the number of the ask.
 use Rattle.std.proofs.Common.{◌≡◌, ◌<◌, ℕ, true, List, [], ◌∷◌, ◌++◌, length, Some, refl, sym, ap, subst, ◌∙◌, arith, length-append}
 use Rattle.std.specs.Prelude.{slice_index_or}
 use Rattle.std.specs.List.{slice_get}
@@ -25,7 +25,7 @@ use Rattle.rcover_laws.proofs.told.Waits.{ask_waits}
 use Rattle.rcover_laws.proofs.past.KnownAsks.{IsKnown, known_claims}
 use Rattle.rcover_laws.proofs.past.Asks.{asked_count, request_asks, last_at}
 
--- ---- what a history tells of a pending ask
+-- ---- what a history says of a pending ask
 
 module _ (groups : ReadGroups) (seats cap : ℕ) (es rest : List Event) (accepted : AreAccepted (opening groups seats cap) es)
     (x : Claimed) (there : Among x (after (opening groups seats cap) es).claims) where

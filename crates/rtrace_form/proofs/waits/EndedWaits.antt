@@ -35,7 +35,7 @@ use Rattle.rtrace_form.specs.Waits.{cover_of}
 use Rattle.rtrace_form.proofs.facts.Choices.{some_none, some_is}
 use Rattle.rtrace_form.proofs.waits.AskedSets.{asked_at}
 
--- ---- lengths by the events so far are none above those by the whole history
+-- ---- no length by the events so far is above the one by the whole history
 
 length_grows : (es ds : List Event) (k : ℕ) (c : Claim) → length_from es k c ≤ length_from (es ++ ds) k c
 length_grows [] ds k c = omega arith

@@ -1,4 +1,4 @@
--- The lines of the waits of a lawful history may be written, and each tells a cover within its bound.
+-- The lines of the waits of a lawful history may be written, and each has a cover within its bound.
 use Rattle.std.proofs.Common.{◌≡◌, ◌≤◌, ◌<◌, true, List, [], ◌∷◌, ◌++◌, length, sym, ap, subst, ◌∙◌, arith}
 use Rattle.std.specs.List.{AllByRecursion}
 use Rattle.std.proofs.lemmas.List.{map-append}
@@ -25,7 +25,7 @@ use Rattle.rtrace_form.proofs.waits.SmallBounds.{AreTellable, bound_tellable}
 abbrev bound_by : Head → List Event → WaitEnd → Numbers
 bound_by head events w = bound_of (record { groups = read_groups head; tasks = history_needs (length head.tasks) events }) head.cap w.seat (number_from events w.stamp w.seat) w.which
 
--- a wait of a history: it is of a task of the head, its cover is within its bound, and both may be told
+-- a wait of a history: it is of a task of the head, its cover is within its bound, and both may be written
 pub record IsGoodWait (head : Head) (entries : List Entry) (w : WaitEnd) : Type 0 where
   pub seated : w.seat < length head.tasks
   pub within : IsWithin (cover_of w) (bound_in head entries w)

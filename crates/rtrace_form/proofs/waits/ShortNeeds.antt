@@ -1,4 +1,4 @@
--- What tasks need by accepted events lasts no longer than a request may.
+-- What tasks need by accepted events lasts no longer than a request is allowed to.
 use Rattle.std.proofs.Common.{◌≤◌, ℕ, suc, ◌==◌, Bool, true, false, ◌&&◌, cond, List, [], ◌∷◌, arith}
 use Rattle.std.specs.List.{AllByRecursion, range_with_len}
 use Rattle.rset.specs.Sets.{Set}
@@ -15,7 +15,7 @@ use Rattle.rmodel.proofs.ListFacts.{all_append, all_map}
 use Rattle.rbound.specs.Needs.{Needed, RequestNeeds, length_of, needed_of, needed_by_task, needed_from, all_needed}
 use Rattle.rcover_laws.specs.History.{asks_of, requests_of, history_needs}
 
--- a request lasts no longer than it may
+-- a request lasts no longer than allowed
 pub record IsShort (r : RequestFields) : Type 0 where
   pub len : r.len ≤ LENGTH_LIMIT
   pub later : r.later ≤ LENGTH_LIMIT
@@ -83,7 +83,7 @@ module _ (groups : List Set) where
   tasks_short task (ns ∷ needs) short =
       all_append (λ (n : Needed). n.len ≤ LENGTH_LIMIT) (needed_by_task groups task 0 ns) (needed_from groups (suc task) needs) (task_short task 0 ns short.0) (tasks_short (suc task) needs short.1)
 
-  -- *What a history of accepted events makes needed lasts no longer than a request may*
+  -- *What a history of accepted events needs lasts no longer than a request is allowed to*
   pub needs_short : (seats : ℕ) (s : LockState) (es : List Event) → AreAccepted s es → AreShort (all_needed groups (history_needs seats es))
   needs_short seats s es accepted =
       tasks_short 0 (history_needs seats es) (all_map (λ task. requests_of task es) AreShortRequests (range_with_len 0 seats) (λ task there. requests_short task es (events_short s es accepted)))

@@ -1,4 +1,4 @@
--- The numbers of a bound are small, where what is needed lasts no longer than a request may.
+-- The numbers of a bound are small, where what is needed lasts no longer than a request is allowed to.
 use Rattle.std.proofs.Common.{◌≤◌, ◌<◌, ◌^◌, ℕ, zero, suc, ◌+◌, ◌-◌, ◌*◌, Bool, true, false, cond, max, List, [], ◌∷◌, length, map, Option, Some, None, arith}
 use Rattle.std.specs.List.{AllByRecursion, list_any, slice_get}
 use Rattle.std.proofs.Math.Nat.{mul-le-mul_left}
@@ -15,7 +15,7 @@ use Rattle.rbound.specs.declared.which.Which.{Which}
 use Rattle.rbound.specs.declared.which.Which.TheVariants as which
 use Rattle.rtrace_form.proofs.waits.ShortNeeds.{AreShort}
 
--- numbers that a field may tell
+-- numbers that a field may hold
 pub record AreTellable (n : Numbers) : Type 0 where
   pub reads : n.reads < 2 ^ 64
   pub writes : n.writes < 2 ^ 64
@@ -100,7 +100,7 @@ module _ (ns : List Needed) (short : AreShort ns) (tasks cap : ℕ) (some : 1 �
   part_tellable task number None = record { reads = omega arith; writes = omega arith; units = omega arith }
   part_tellable task number (Some part) = ask_tellable part (write_need ns task number)
 
--- *A bound may be told*
+-- *A bound may be written*
 pub bound_tellable : (n : TaskNeeds) (cap task number : ℕ) (w : Which) → AreShort (needed_in n) → 1 ≤ cap → cap ≤ SEATS → AreTellable (bound_of n cap task number w)
 bound_tellable n cap task number which.First short some few = first_tellable (needed_in n) short (length n.tasks) cap some few (first_need (needed_in n) task number)
 bound_tellable n cap task number which.Rise short some few = rise_tellable (needed_in n) short (length n.tasks) cap some few (write_need (needed_in n) task number)

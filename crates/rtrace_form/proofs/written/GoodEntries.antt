@@ -1,4 +1,4 @@
--- All lines of a report that may be written may be written.
+-- All lines of a report that may be written may be written themselves.
 use Rattle.std.proofs.Common.{◌≡◌, ℕ, zero, suc, ◌+◌, ◌≤◌, ◌<◌, true, List, [], ◌∷◌, ◌++◌, length, map, Some, refl, sym, subst, ◌∙◌, arith, append_assoc, IsTrue}
 use Rattle.std.specs.List.{AllByRecursion, range_with_len}
 use Rattle.rset.specs.Sets.{Set, all_below}

@@ -1,4 +1,4 @@
--- Lines that may be written: those of a head, of an event that comes, of acts and of changes.
+-- Lines that may be written: those of a head, of an accepted event, of acts and of changes.
 use Rattle.std.proofs.Common.{◌≡◌, ℕ, ◌≤◌, ◌<◌, ◌^◌, Bool, true, false, cond, List, [], ◌∷◌, ◌++◌, length, map, Option, Some, None, refl, sym, ap, subst, ◌∙◌, IsTrue, ◌⊎◌, inl, inr}
 use Rattle.std.specs.Prelude.{flat_map, filter_map}
 use Rattle.std.specs.List.{AllByRecursion, list_all, cons_option}
@@ -109,7 +109,7 @@ module _ (head : Head) where
 
   -- ---- acts
 
-  -- the number of a show is one that a field may tell
+  -- the number of a show is one that a field may hold
   abbrev pub IsShort : Act Edit → Type 0
   IsShort (Shown place number) = number < 2 ^ 64
   IsShort (Edited place e done) = Unit {0}

@@ -1,4 +1,4 @@
--- Ledgers stay within what a field may tell.
+-- Ledgers stay within what a field may hold.
 use Rattle.std.proofs.Common.{◌≡◌, ℕ, ◌+◌, ◌≤◌, Bool, true, false, cond, List, [], ◌∷◌, fold, nat_lt, refl, arith}
 use Rattle.std.proofs.lemmas.Bool.{and_parts, leb-true, ltb-true}
 use Rattle.rvalue.specs.declared.ledger.Ledger.{Ledger}

@@ -26,7 +26,7 @@ use Rattle.rtrace_form.proofs.facts.ReadGood.{read_good}
 
 -- ---- what a line says is within its limits
 
--- the group of a line is of resources that there are, its cap is within bounds, and the amount of its act may be told
+-- the group of a line is of resources that there are, its cap is within bounds, and the amount of its act may be written
 abbrev IsLimited : Names → Line → Type 0
 IsLimited names (HasGroup group) = IsTrue (all_below (length names.resources) group)
 IsLimited names (HasCap n) = (1 ≤ n) × (n ≤ SEATS)

@@ -1,4 +1,4 @@
--- Each change in a lawful history has its line, since none is told to wait.
+-- Each change in a lawful history has its line, since no change is to waiting.
 use Rattle.std.proofs.Common.{◌≡◌, ℕ, Bool, true, cond, List, [], ◌∷◌, ◌++◌, map, length, refl, sym, ap, subst, true≢false}
 use Rattle.std.specs.Prelude.{flat_map}
 use Rattle.rclaim.specs.declared.changes.StatusChange.{StatusChange}

@@ -1,4 +1,4 @@
--- Each wait that a report tells is within its bound.
+-- Each wait in a report is within its bound.
 use Rattle.std.proofs.Common.{◌≡◌, ℕ, Bool, true, List, [], ◌∷◌, ◌++◌, length, map, Some, ◌∙◌, refl, append_assoc}
 use Rattle.std.specs.Prelude.{flat_map}
 use Rattle.std.specs.List.{AllByRecursion, range_with_len}

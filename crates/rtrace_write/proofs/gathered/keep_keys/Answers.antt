@@ -7,7 +7,7 @@ use Rattle.rcover.specs.Past.{Past}
 use Rattle.rtrace_write.proofs.Gathering.{all_item, key_more}
 use Rattle.rtrace_write.proofs.gathered.keep_keys.Goals as goal
 
--- what stands where there is no wait
+-- what is there where there is no wait
 abbrev nobody : WaitEnd
 nobody = record { seat = 0; stamp = 0; which = First; reads = 0; writes = 0; units = 0 }
 
