@@ -21,7 +21,7 @@ pub none_taken : (edit : Transfer) (acts : List (Act Transfer)) (places left : L
 none_taken edit acts places left all = record { before = []; members = all; acts = sym (append-nil acts) }
 
 module _ (edit : Transfer) (earlier : List (Act Transfer)) (guard : GuardFields Account Transfer) (places left : List ℕ) (so_far : HasTaken edit earlier guard.acts places left) where
-  -- none is left
+  -- no place is left
   pub all_taken : left ≡ [] → guard.acts ≡ earlier ++ each_taken places edit
   all_taken none =
       so_far.acts ∙ ap (λ (xs : List ℕ). earlier ++ each_taken xs edit) (sym (append-nil so_far.before) ∙ ap (λ (xs : List ℕ). so_far.before ++ xs) (sym none) ∙ sym so_far.members)

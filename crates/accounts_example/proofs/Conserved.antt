@@ -1,4 +1,4 @@
--- What is left in the four accounts of a runtime that was closed, whose seats have only moved amounts among them.
+-- What is left in the four accounts of a closed runtime whose seats have only moved amounts among them.
 use Rattle.std.proofs.Common.{◌≡◌, ℕ, ◌+◌, ◌<◌, ◌==◌, List, [], ◌∷◌, ◌++◌, take, replicate, Some, refl, sym, ap, subst, ◌∙◌, arith, append-nil, append_assoc}
 use Rattle.std.proofs.lemmas.Bool.{eq-eqb}
 use Rattle.std.proofs.lemmas.List.Sums.{sum_by-cons}
@@ -52,7 +52,7 @@ module _ (b : Beginning Account) (values_are : b.values ≡ replicate RESOURCES 
 
 module _ (group : Set) (site : Site) (seats : List (SeatOf Account Transfer)) (rest : All (HasOnlyMoved group site) seats) (all : (n : ℕ) → n < site.passes → Any (λ seat. seat.number ≡ n) seats) (some : 0 < site.passes)
     (entries : List (EntryFields Transfer)) (values : List Account) (closed : All (λ seat. IsClosedBy account_after is_taken (λ (account : Account). account.put_in) entries values seat) seats) where
-  -- the seat of a number, with what is known of it
+  -- the seat with a number, and what is known about it
   record HasNumber (n : ℕ) : Type 0 where
     pub seat : SeatOf Account Transfer
     pub moving : HasOnlyMoved group site seat

@@ -1,4 +1,4 @@
--- What is known of a seat goes on with what it does.
+-- What is known about a seat, after what it does next.
 use Rattle.std.proofs.Common.{◌≡◌, ℕ, ◌+◌, ◌%◌, Bool, true, false, List, [], ◌∷◌, get_or, Option, Some, None, refl, sym, subst, ◌∙◌, inl, inr}
 use Rattle.std.specs.List.{AllByRecursion}
 use Rattle.std.specs.Prelude.{All, IfSome, IsNone, IsTrue, IsSomeAnd}

@@ -1,4 +1,4 @@
--- Sums of 64 bits, and the values that a guard lends.
+-- Sums modulo 2^64, and the values that a guard lends.
 use Rattle.std.proofs.Common.{◌≡◌, ℕ, ◌+◌, ◌%◌, ◌^◌, ◌<◌, List, [], ◌∷◌, Some, sym, ap, ◌∙◌, arith}
 use Rattle.std.specs.List.{sum_by}
 use Rattle.std.proofs.Math.Nat.{mod-add-mod}
@@ -8,7 +8,7 @@ use Rattle.rvalue.specs.Histories.{value_of}
 use Rattle.rstate.specs.Histories.{Beginning}
 use Rattle.rguard.specs.Guards.{GuardFields, HasValue}
 
--- so much was added up, and so much is left to add
+-- the sum so far, and what is left to add
 module _ (f : ℕ → ℕ) (sum total : ℕ) (left : List ℕ) (due : (sum + sum_by f left) % 2 ^ 64 ≡ total) where
   -- the first of the numbers that are left is added
   pub one_more : (n : ℕ) (more : List ℕ) (l : ℕ) → left ≡ l ∷ more → n ≡ f l → ((sum + n) % 2 ^ 64 + sum_by f more) % 2 ^ 64 ≡ total
@@ -18,7 +18,7 @@ module _ (f : ℕ → ℕ) (sum total : ℕ) (left : List ℕ) (due : (sum + sum
       together : (whole rest first : ℕ) → whole ≡ first + rest → n ≡ first → sum + n + rest ≡ sum + whole
       together whole rest first is same = omega arith
 
-  -- none is left
+  -- nothing is left
   pub all_added : left ≡ [] → sum < 2 ^ 64 → sum ≡ total
   all_added none fits = small sum (sum_by f left) (ap (sum_by f) none) fits ∙ due
     where

@@ -1,4 +1,4 @@
--- What the four accounts have together stays as it is, whatever moves of 1 are made among them.
+-- What the four accounts have together stays the same, whatever moves of 1 are made among them.
 use Rattle.std.proofs.Common.{◌≡◌, ◌⊎◌, ℕ, zero, suc, ◌+◌, ◌-◌, ◌^◌, ◌<◌, ◌≤◌, ◌==◌, ◌||◌, ◌&&◌, not, nat_cmp, Bool, true, false, cond, nat_lt, nat_le, List, [], ◌∷◌, ◌++◌, map, fold, refl, sym, ap, subst, ◌∙◌, arith, inl, inr}
 use Rattle.std.proofs.lemmas.Bool.{true≢false, eqb-true, eq-eqb, leb-true, or_cases, or_left}
 use Rattle.std.specs.FinSet.{insert, empty, remove, contains}
@@ -16,7 +16,7 @@ use Rattle.accounts_example.specs.declared.account.Transfer.TheVariants.{Deposit
 
 -- ---- one account
 
--- 1 where it is so
+-- 1 if this is so, else 0
 abbrev pub one_if : Bool → ℕ
 one_if so = cond so 1 0
 
@@ -71,7 +71,7 @@ put_before v false = refl
 abbrev pub all_four : (ℕ → ℕ) → ℕ
 all_four f = f 0 + f 1 + f 2 + f 3
 
--- no account gave more than was put in, and together they have the 4,000 with which they open
+-- no account gave more than was put in, and together they have the 4,000 that they open with
 pub record AreWhole (accounts : ℕ → Account) : Type 0 where
   pub covered : (l : ℕ) → l < 4 → (accounts l).taken_out ≤ (accounts l).put_in
   pub together : all_four (λ l. (accounts l).put_in) ≡ 4000 + all_four (λ l. (accounts l).taken_out)
@@ -119,7 +119,7 @@ module _ (before after : ℕ → Account) (from to : ℕ) (from_there : from < 4
       sum : (n : ℕ) → 4000 + n + 1 ≡ 4000 + (n + 1)
       sum n = omega arith
 
--- what the accounts have together, where they are whole
+-- what the accounts have together, if they are whole
 pub balances : (accounts : ℕ → Account) → AreWhole accounts → all_four (λ l. balance_of (accounts l)) ≡ 4000
 balances accounts whole =
     left (accounts 0).put_in (accounts 1).put_in (accounts 2).put_in (accounts 3).put_in (accounts 0).taken_out (accounts 1).taken_out (accounts 2).taken_out (accounts 3).taken_out
@@ -130,7 +130,7 @@ balances accounts whole =
 
 -- ---- a move
 
--- a set of one has that as its members, by rising number
+-- a set with one member has that member as its list
 one_member : (n : ℕ) → n < 4 → rising (insert empty n) ≡ n ∷ []
 one_member n less =
     rising_next (insert empty n) n (omega arith) (contains_insert empty n n ∙ or_left (n == n) (contains {R = nat_cmp} empty n) (eq-eqb n n refl)) (λ m there. let is = only m there in omega arith)
@@ -149,7 +149,7 @@ one_member n less =
     none : (l : ℕ) → contains {R = nat_cmp} (remove (insert empty n) n) l ≡ false
     none l = contains_remove (insert empty n) n l ∙ (λ i. not (l == n) && contains_insert empty n l i) ∙ (λ i. not (l == n) && (l == n || contains_empty l i)) ∙ either (l == n)
 
--- these two acts have right answers, so that both were taken
+-- these two acts have right answers, so both were taken
 by_move : (before : ℕ → Account) (from to : ℕ) → from < 4 → to < 4
     → AnswersAreRight account_after is_taken (λ (account : Account). account.put_in) before (Edited from (Withdraw 1) true ∷ Edited to (Deposit 1) true ∷ []) → AreWhole before
     → AreWhole (λ l. fold account_after (before l) (edits_in (Edited from (Withdraw 1) true ∷ Edited to (Deposit 1) true ∷ []) l))

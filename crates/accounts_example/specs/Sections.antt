@@ -1,4 +1,4 @@
--- What a section of the example does: the acts that its finish tells, and what its guard sees.
+-- What a section of the example does: the acts of its finish, and what its guard sees.
 use Rattle.std.specs.Prelude.{◌≡◌, ◌⊎◌, ℕ, ◌%◌, ◌^◌, true, false, List, [], ◌∷◌, ◌++◌, map}
 use Rattle.std.specs.List.{sum_by}
 use Rattle.std.specs.FinSet.{contains}
@@ -14,11 +14,12 @@ use Rattle.accounts_example.specs.declared.account.Account.{Account}
 use Rattle.accounts_example.specs.declared.account.Transfer.{Transfer}
 use Rattle.accounts_example.specs.declared.account.Transfer.TheVariants.{Deposit, Withdraw}
 
--- a transfer on each of these accounts, by rising number, each of which was taken
+-- a transfer on each of these accounts, by rising number, all of them taken
 abbrev pub taken_by_each : Set → Transfer → List (Act Transfer)
 taken_by_each set transfer = map (λ l. Edited l transfer true) (rising set)
 
--- the edits stopped at the next member of the set: those before it, by rising number, took this transfer, one after another, and it did not take it, or there is no act on it
+-- the edits stopped at the next member of the set: those before it, by rising number, took this transfer, one after
+-- another; it did not take it, or there is no act on it
 pub record StopsAmong (set : Set) (transfer : Transfer) (earlier later : List (Act Transfer)) : Type 0 where
   pub before : List ℕ
   pub next : ℕ
@@ -30,16 +31,16 @@ pub record StopsAmong (set : Set) (transfer : Transfer) (earlier later : List (A
 abbrev pub move_acts : Set → Set → List (Act Transfer)
 move_acts from to = taken_by_each from (Withdraw 1) ++ taken_by_each to (Deposit 1)
 
--- what is in these accounts together, as sums of 64 bits go
+-- what is in these accounts together, modulo 2^64
 abbrev pub balance_of_all : Set → (ℕ → Account) → ℕ
 balance_of_all set accounts = sum_by (λ l. balance_of (accounts l)) (rising set) % 2 ^ 64
 
--- so much is in these accounts together, as the guard sees them
+-- this much is in these accounts together, as the guard sees them
 abbrev pub IsSumSeen : Set → GuardFields Account Transfer → ℕ → Type 0
 IsSumSeen set guard total =
     (accounts : ℕ → Account) → ((l : ℕ) → contains set l ≡ true → HasValue account_after guard l (accounts l)) → AsSeen guard.seat (λ b. total ≡ balance_of_all set accounts)
 
--- the seat made one section that read these accounts: its guard held them all, and saw so much in them together
+-- the seat made one section that read these accounts: its guard held them all, and saw this much in them together
 pub record HasRead (set : Set) (total : ℕ) (seat later : SeatOf Account Transfer) : Type 0 where
   pub guard : GuardFields Account Transfer
   pub entered : HasEntered (read_of set) seat guard

@@ -19,7 +19,7 @@ pub struct Account {
 pub enum Transfer {
     /// Puts this amount in.
     Deposit(u64),
-    /// Takes this amount out, where the account has it.
+    /// Takes this amount out, if the account has it.
     Withdraw(u64),
 }
 
@@ -44,7 +44,7 @@ impl Editable for Account {
     ghost untaken = { untaken_leaves };
 
     fn apply(&mut self, transfer: &Transfer) -> bool {
-        // A look at it tells the proof that it is a number of 64 bits.
+        // Reading it shows the proof that it is a number of 64 bits.
         let put_in = self.put_in;
         match *transfer {
             Transfer::Deposit(amount) => match put_in.checked_add(amount) {

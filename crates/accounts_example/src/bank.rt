@@ -24,7 +24,8 @@ use std::thread::Threads;
 // How many accounts the threads use.
 const ACCOUNTS: u8 = 4;
 
-// A thread: its seat, which is away only while it is at work, from which account to which it moves amounts, and whether all went well.
+// A thread: its seat, which is away only while it is at work, the accounts it moves amounts between, and whether all
+// went well.
 #[derive(Drop)]
 struct Job<S: Kept> {
     seat: Option<Pass<S>>,
@@ -35,8 +36,8 @@ struct Job<S: Kept> {
 
 type Task<M> = Job<State<Account, M>>;
 
-// What a thread does again and again: it moves 1 from an account to another, and then looks at all of them. Whether it was moved, and the
-// look saw what they had together at first, is answered.
+// What a thread does again and again: it moves 1 from one account to another, and then looks at all of them. Answers
+// whether the amount was moved and the look saw what they had together at first.
 fn turn<R: Wait, M: Machine>(
     rt: &R,
     alloc: Global,
@@ -116,7 +117,7 @@ fn run_all<R: Threads + Wait + Sync, M: Machine>(
     jobs
 }
 
-// What each thread is to do: it moves amounts from its own account to the next one. Its seat has done nothing yet.
+// What each thread is to do: move amounts from its own account to the next one. Its seat has done nothing yet.
 fn jobs_for(
     alloc: Global,
     lock: &Rnlp<Account, Plain>,
@@ -127,7 +128,7 @@ fn jobs_for(
     requires new { All IsNew seats.items }
     ensures { IfOk result (λ v. All (λ j. IsSomeAnd j.seat (HasOwnAccount group lock.now j.from) × (j.from < 4) × (j.to ≡ (j.from + 1) % 4)) v.items) }
 {
-    // For the proof: the clauses speak of the lock, and of the set as one of resources.
+    // For the proof: the clauses mention the lock, and the set as a set of resources.
     let _ = lock;
     let _ = group.len();
     let mut jobs = Vec::new(alloc);
@@ -143,7 +144,7 @@ fn jobs_for(
     Ok(jobs)
 }
 
-// Whether all sections of all threads did all.
+// Whether all sections of all threads did everything.
 fn are_done<M: Machine>(jobs: &[Task<M>]) -> bool
     ensures { IsTrue result → All (λ j. IsTrue j.done) jobs.now }
 {
@@ -191,7 +192,7 @@ fn are_in_order<M: Machine>(seats: &[Seat<Account, M>]) -> bool
     true
 }
 
-// What is in the first of these accounts together, as sums of 64 bits go. None where there are fewer.
+// What is in the first of these accounts together, modulo 2^64. None if there are fewer.
 fn sum_of_first(accounts: &[Arc<Account, Global>], count: usize) -> Option<u64>
     ensures { IfSome result (λ sum. sum ≡ sum_by balance_of (take count (map arc_value accounts.now)) % 2 ^ 64) }
 {
@@ -206,7 +207,8 @@ fn sum_of_first(accounts: &[Arc<Account, Global>], count: usize) -> Option<u64>
     Some(sum)
 }
 
-// Closes the runtime, whose seats made all of their turns: what is in the four accounts together. None if a seat is not there.
+// Closes the runtime, whose seats made all of their turns: what is in the four accounts together. None if a seat is
+// missing.
 fn sum_left<M: Machine>(
     lock: Rnlp<Account, M>,
     group: ResourceSet,
@@ -232,8 +234,9 @@ fn sum_left<M: Machine>(
     sum_of_first(values.as_slice(), usize::from(ACCOUNTS))
 }
 
-/// What is in the four accounts together once each thread has moved amounts so often: what was in them at first, whatever the threads did.
-/// None if a section found no memory, an account did not have the 1 that was to be taken, or a look saw another sum.
+/// What is in the four accounts together after each thread has moved amounts this often: what was in them at first,
+/// whatever the threads did. None if a section found no memory, an account did not have the 1 to be taken, or a look
+/// saw another sum.
 pub fn moved<R: Threads + Wait + Sync>(rt: &R, alloc: Global, times: u32) -> Option<u64>
     ensures { IfSome result (λ sum. sum ≡ 4000) }
 {

@@ -1,4 +1,5 @@
-//! An example to start from: four threads move amounts between accounts, and each of them reads the same sum at every look.
+//! An example to start from: four threads move amounts between accounts, and each of them reads the same sum at every
+//! look.
 #![tactic(auto)]
 
 mod account;

@@ -27,7 +27,8 @@ pub type Place<M> = Seat<Account, M>;
 /// What is in each account at first.
 pub const OPENING: u64 = 1_000;
 
-/// A runtime over an account for each resource, at which a set is declared, and its seats, none of which has done anything.
+/// A runtime over an account for each resource, where a set is declared, and its seats, none of which has done
+/// anything.
 pub fn opened(
     alloc: Global,
     group: ResourceSet,
@@ -48,12 +49,12 @@ pub fn opened(
     Ok((lock, seats))
 }
 
-// All resources, of which the set is declared.
+// All resources, with the set declared.
 fn declared(alloc: Global, group: ResourceSet) -> Result<Groups, AllocError>
     ensures { IfOk result (λ groups. groups ≡ record { q = RESOURCES; groups = group ∷ [] }) }
 {
     let mut groups = Groups::new(alloc, RESOURCES as u8)?;
-    // A look at a set tells the proof that it is one of resources.
+    // Reading a set shows the proof that it is a set of resources.
     let _ = group.len();
     match groups.declare(group) {
         Ok(()) => Ok(groups),
@@ -73,7 +74,7 @@ fn accounts(alloc: Global) -> Result<Vec<Account>, AllocError>
     vec![in alloc; account; RESOURCES as usize]
 }
 
-/// A guard to write these resources; or the seat, where there was no memory or the set is empty.
+/// A guard to write these resources; or the seat, if there was no memory or the set is empty.
 pub fn to_write<'a, R: Wait, M: Machine>(
     rt: &R,
     alloc: Global,
@@ -96,7 +97,7 @@ pub fn to_write<'a, R: Wait, M: Machine>(
     };
     match lock.acquire(rt, alloc, seat, request) {
         Ok(Guard::Write(guard)) => {
-            // A look at its seat tells the proof what is known of every seat.
+            // Reading its seat shows the proof what is known about every seat.
             let _ = guard.seat();
             Ok(guard)
         }
@@ -105,7 +106,8 @@ pub fn to_write<'a, R: Wait, M: Machine>(
     }
 }
 
-/// A guard to read the resources that are declared together; or the seat, where there was no memory or none is declared.
+/// A guard to read the resources that are declared together; or the seat, if there was no memory or nothing is
+/// declared.
 pub fn to_read<'a, R: Wait, M: Machine>(
     rt: &R,
     alloc: Global,
@@ -136,7 +138,8 @@ pub fn to_read<'a, R: Wait, M: Machine>(
     }
 }
 
-/// Edits each of these resources, by rising number, until one does not take the edit or no memory is found, and answers whether all took it.
+/// Edits each of these resources, by rising number, until one does not take the edit or there is no memory, and answers
+/// whether all took it.
 pub fn edit_each<M: Machine>(
     alloc: Global,
     guard: &mut WriteGuard<'_, Account, M>,
@@ -157,7 +160,7 @@ pub fn edit_each<M: Machine>(
     true
 }
 
-/// What is in these resources together, as sums of 64 bits go.
+/// What is in these resources together, modulo 2^64.
 pub fn sum_of<M: Machine>(guard: &ReadGuard<'_, Account, M>, set: ResourceSet) -> u64
     requires { HoldsAll set guard.now.seat }
     ensures { IsSumSeen set guard.now result }
@@ -169,7 +172,8 @@ pub fn sum_of<M: Machine>(guard: &ReadGuard<'_, Account, M>, set: ResourceSet) -
     sum
 }
 
-/// Ends a section that writes: its acts are told if all of it was done, and none of them else. Whether they were told is answered.
+/// Ends a section that writes: with its acts if all of it was done, otherwise without acts. Answers whether it ended
+/// with its acts.
 pub fn ended<R: Wait, M: Machine>(
     rt: &R,
     alloc: Global,
@@ -183,7 +187,7 @@ pub fn ended<R: Wait, M: Machine>(
     ensures told { IsTrue result.1 → IsTrue done × HasFinished guard.entry.acts guard.entry result.0 }
     ensures untold { result.1 ≡ false → HasFinished [] guard.entry result.0 }
 {
-    // For the proof: the clauses speak of the lock, and of the set as one of resources.
+    // For the proof: the clauses mention the lock, and the set as a set of resources.
     let _ = lock;
     let _ = group.len();
     if !done {
@@ -195,8 +199,8 @@ pub fn ended<R: Wait, M: Machine>(
     }
 }
 
-/// One section that reads the resources that are declared together: what is in them. None where there was no memory or
-/// none is declared.
+/// One section that reads the resources that are declared together: what is in them. None if there was no memory or
+/// nothing is declared.
 pub fn read_in<R: Wait, M: Machine>(
     rt: &R,
     alloc: Global,
@@ -218,8 +222,8 @@ pub fn read_in<R: Wait, M: Machine>(
     }
 }
 
-/// One section that takes 1 from each of some resources, and then adds 1 to each of others: all of it, or else nothing. Whether it was
-/// done is answered.
+/// One section that takes 1 from each of some resources, and then adds 1 to each of others: all of it, or nothing.
+/// Answers whether it was done.
 pub fn move_in<R: Wait, M: Machine>(
     rt: &R,
     alloc: Global,

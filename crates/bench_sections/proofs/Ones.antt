@@ -1,4 +1,4 @@
--- What entries that only add 1s make of the ledgers.
+-- What entries that only add 1s do to the ledgers.
 use Rattle.std.proofs.Common.{◌≡◌, ℕ, zero, suc, ◌+◌, ◌-◌, ◌*◌, ◌<◌, ◌≤◌, ◌==◌, Bool, true, false, cond, List, [], ◌∷◌, ◌++◌, map, length, fold, refl, sym, ap, subst, ◌∙◌, arith, append-nil, append_assoc, length-append}
 use Rattle.std.specs.List.{AllByRecursion, range_with_len, sum_by}
 use Rattle.std.proofs.lemmas.Bool.{eqb-true}
@@ -22,12 +22,12 @@ use Rattle.rguard.specs.Seats.{bare}
 use Rattle.rguard.specs.Sections.{sections_of}
 use Rattle.bench_sections.proofs.Sums.{sum_of_none, sum_of_both, sum_at_one}
 
--- the act adds 1 to the ledger of a resource, which takes it
+-- the act adds 1 to the ledger of a resource, and is taken
 abbrev pub IsOne : Act Edit → Type 0
 IsOne (Edited place edit done) = (place < RESOURCES) × (edit ≡ Add 1) × (done ≡ true)
 IsOne (Shown place number) = ⊥
 
--- the entry does nothing else, and nothing where no section ends with it
+-- the entry does nothing else, and nothing at all if no section ends with it
 pub record AddsOnes (entry : EntryFields Edit) : Type 0 where
   pub each : AllByRecursion IsOne entry.acts
   pub ends : is_finish entry.event ≡ false → entry.acts ≡ []
@@ -133,7 +133,7 @@ module _ (seat : ℕ) (request : RequestFields) (acts : List (Act Edit)) where
       more : (c n : ℕ) → c * n + (0 + 0 + n) ≡ suc c * n
       more c n = omega arith
 
--- the edits of so many numbers from the first on, which are of resources
+-- the edits of this many numbers from the first on, which are all resources
 pub ones_from : (n first : ℕ) → n ≤ RESOURCES - first → AllByRecursion IsOne (map (λ l. Edited l (Add 1) true) (range_with_len first n))
 ones_from zero first within = tt
 ones_from (suc n) first within = ((omega arith, refl, refl), ones_from n (first + 1) (omega arith))

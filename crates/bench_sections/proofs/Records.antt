@@ -1,4 +1,4 @@
--- The set of the records from one on, as a loop makes it.
+-- The set of the records from some number on, as a loop makes it.
 use Rattle.std.proofs.Common.{◌≡◌, ◌⊎◌, ℕ, zero, suc, ◌+◌, ◌-◌, ◌<◌, ◌≤◌, ◌==◌, ◌||◌, min, true, false, cond, [], ◌∷◌, refl, ap, ◌∙◌, inl, inr, arith}
 use Rattle.std.specs.FinSet.{empty, contains, insert}
 use Rattle.std.specs.List.{range_with_len}
@@ -8,7 +8,7 @@ use Rattle.rset.specs.Sets.{Set, members_from, rising}
 use Rattle.rset.proofs.SetMembers.{contains_empty, contains_insert}
 use Rattle.bench_sections.specs.Measure.{records_from}
 
--- the members of the set are so many numbers from the first on, as far as they are of resources
+-- the members of the set are this many numbers from the first on, as far as there are resources
 pub record HasFrom (first count : ℕ) (set : Set) : Type 0 where
   pub inside : (l : ℕ) → first ≤ l → l < first + count → l < RESOURCES → contains set l ≡ true
   pub before : (l : ℕ) → l < first → contains set l ≡ false
@@ -17,7 +17,7 @@ pub record HasFrom (first count : ℕ) (set : Set) : Type 0 where
 pub has_none : (first : ℕ) → HasFrom first 0 empty
 has_none first = record { inside = λ l low high small. absurd (omega arith); before = λ l low. contains_empty l; behind = λ l high. contains_empty l }
 
--- one more number, which is of a resource
+-- one more number, which is a resource
 pub has_next : (first count l : ℕ) (set : Set) → l ≡ first + count → HasFrom first count set → HasFrom first (count + 1) (insert set l)
 has_next first count l set is has = record {
   inside = λ k low high small. contains_insert set l k ∙ elim (cases_eq k l) [
@@ -31,7 +31,7 @@ has_next first count l set is has = record {
     absent : (k : ℕ) → (k ≡ l → ⊥) → contains set k ≡ false → contains (insert set l) k ≡ false
     absent k other none = contains_insert set l k ∙ (λ i. ne_eqb k l other i || none i)
 
--- one more number, which is of none
+-- one more number, which is not a resource
 pub has_no_next : (first count : ℕ) (set : Set) → RESOURCES ≤ first + count → HasFrom first count set → HasFrom first (count + 1) set
 has_no_next first count set none has = record {
   inside = λ k low high small. has.inside k low (omega arith) small;

@@ -1,4 +1,4 @@
--- What is known of the seats as they begin, in their order, and once their jobs have run.
+-- What is known about the seats as they begin, in their order, and after their jobs have run.
 use Rattle.std.proofs.Common.{Bool, List, get_or, Option, Some, None}
 use Rattle.std.specs.Prelude.{All, IsTrue, IsSomeAnd}
 use Rattle.rlock.specs.Known.{Site}

@@ -25,14 +25,14 @@ module _ {X : Type 0} where
   sum_of_map f g [] = refl
   sum_of_map f g (y ∷ ys) = sum_by-cons f (g y) (map g ys) ∙ ap (λ n. f (g y) + n) (sum_of_map f g ys) ∙ sym (sum_by-cons (λ z. f (g z)) y ys)
 
--- functions that agree on the range have one sum
+-- functions that agree on the range have the same sum
 pub sum_alike : (f g : ℕ → ℕ) (n a : ℕ) → ((k : ℕ) → a ≤ k → k < a + n → f k ≡ g k) → sum_by f (range_with_len a n) ≡ sum_by g (range_with_len a n)
 sum_alike f g zero a alike = refl
 sum_alike f g (suc n) a alike =
     sum_by-cons f a (range_with_len (a + 1) n) ∙ (λ i. alike a (omega arith) (omega arith) i + sum_alike f g n (a + 1) (λ k low high. alike k (omega arith) (omega arith)) i)
     ∙ sym (sum_by-cons g a (range_with_len (a + 1) n))
 
--- what stands at one number, outside the range and inside it
+-- what is at one number, outside the range and inside it
 sum_beside : (s w n a : ℕ) → s < a → sum_by (λ k. cond (s == k) w 0) (range_with_len a n) ≡ 0
 sum_beside s w n a low =
     sum_alike (λ k. cond (s == k) w 0) (λ k. 0) n a (λ k from below. ap (λ (b : Bool). cond b w 0) (ne_eqb s k (λ e. absurd (omega arith)))) ∙ sum_of_none (range_with_len a n)

@@ -1,17 +1,17 @@
--- What words tell, by what std says of `parse` and of a slice of five.
+-- What words mean, by what std says about `parse` and about a slice of five.
 use Rattle.std.proofs.Common.{◌≡◌, ℕ, ◌<◌, ◌^◌, List, [], ◌∷◌, map, length, get_or, Result, Ok, sym, ap, subst, arith}
 use Rattle.std.specs.Str.Parse.{IsNumeral, digits_value, without_leading_plus, ParsesUnsigned}
 use Rattle.std.proofs.lemmas.Result.{OkIff-at_ok}
 use Rattle.bench_sections.specs.Words.{Tells, IsAskedBy, AsksFor}
 use Rattle.bench_sections.specs.declared.words.Asked.{Asked}
 
--- a word that parses tells the number, which fits
+-- a word that parses has the number, which fits
 pub told : {E : Type 0} (k : ℕ) (word : List ℕ) (r : Result ℕ E) (n : ℕ) → ParsesUnsigned k 10 word r → r ≡ Ok n → Tells word n × (n < 2 ^ k)
 told k word r n parsed is =
     let it = OkIff-at_ok r (IsNumeral 10 (without_leading_plus word) × (digits_value 10 (without_leading_plus word) < 2 ^ k)) (digits_value 10 (without_leading_plus word)) n parsed is in
     ((it.0.0, sym it.1), subst (λ m. m < 2 ^ k) (sym it.1) it.0.1)
 
--- what five texts ask for their words ask for
+-- what five texts ask for is what their words ask for
 pub five_ask : {A : Type 0} (f : A → List ℕ) (texts : List A) (threads sections resources place : A) (asked : Asked) → length texts ≡ 5
     → threads ≡ get_or texts 1 threads → sections ≡ get_or texts 2 sections → resources ≡ get_or texts 3 resources → place ≡ get_or texts 4 place
     → IsAskedBy (f threads) (f sections) (f resources) (f place) asked → AsksFor (map f texts) asked

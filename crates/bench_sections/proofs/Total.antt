@@ -1,4 +1,4 @@
--- What is left in the ledgers of a runtime that was closed, whose seats have made all sections that were asked for.
+-- What is left in the ledgers of a closed runtime whose seats have made all sections that were asked for.
 use Rattle.std.proofs.Common.{◌≡◌, ℕ, ◌+◌, ◌-◌, ◌*◌, ◌%◌, ◌^◌, ◌<◌, ◌≤◌, ◌==◌, length-append, List, [], ◌∷◌, ◌++◌, map, length, get_or, replicate, Some, true, refl, sym, ap, subst, ◌∙◌, arith, append-nil, append_assoc}
 use Rattle.std.proofs.Math.Nat.{min-le_right, mul-le-mul_left, mul-le-mul_right}
 use Rattle.std.proofs.lemmas.Bool.{eq-eqb}
@@ -39,7 +39,7 @@ balance ledger = ledger.balance
 -- ---- the history
 
 module _ (b : Beginning Ledger) (values_are : b.values ≡ replicate RESOURCES opening_ledger) where
-  -- entries that may follow one another and only add 1s: each ledger has one for each edit of it
+  -- entries that may follow one another and only add 1s: each ledger has 1 for each edit of it
   grows_by_all : (earlier entries : List (EntryFields Edit)) → AllInTurn (MayFollow value_after is_taken balance b) earlier entries → AllByRecursion AddsOnes entries → (l : ℕ)
       → (ledger_after (earlier ++ entries) l).balance ≡ (ledger_after earlier l).balance + length (edits_on entries l)
   grows_by_all earlier [] turns adds l = ap (λ (es : List (EntryFields Edit)). (ledger_after es l).balance) (append-nil earlier) ∙ omega arith
@@ -54,7 +54,7 @@ module _ (b : Beginning Ledger) (values_are : b.values ≡ replicate RESOURCES o
 
 -- ---- the end
 
--- what is asked for is a number of 64 bits
+-- what is asked for fits in 64 bits
 ones_fit : (asked : Asked) → asked.threads ≤ SEATS → asked.sections < 2 ^ 32 → ones_asked asked < 2 ^ 64
 ones_fit asked few fits =
     let each = sum_by-le (λ n. asked.sections * record_count asked n) (asked.sections * RESOURCES) (range_with_len 0 asked.threads) (λ k d less. of_one (get_or (range_with_len 0 asked.threads) k d)) in
@@ -72,7 +72,7 @@ module _ (asked : Asked) (site : Site) (seats : List (SeatOf Ledger Edit)) (made
   abbrev by : ℕ → List (EntryFields Edit)
   by n = entries_by (λ (entry : EntryFields Edit). seat_of entry.event) n end.entries
 
-  -- the seat of a number, with what is known of it
+  -- the seat with a number, and what is known about it
   record HasNumber (n : ℕ) : Type 0 where
     pub seat : SeatOf Ledger Edit
     pub all : HasMadeAll asked site seat
@@ -137,7 +137,7 @@ module _ (asked : Asked) (site : Site) (seats : List (SeatOf Ledger Edit)) (made
       all_at AddsOnes (by n) entry (by_adds n (all_at (λ (e : EntryFields Edit). seat_of e.event < asked.threads) end.entries entry there here))
       (in_filter (λ (e : EntryFields Edit). seat_of e.event == n) end.entries entry here (eq-eqb n n refl)))
 
-  -- each ledger has one for each edit of it
+  -- each ledger has 1 for each edit of it
   balance_at : (l : ℕ) → (ledger_after end.entries l).balance ≡ length (edits_on end.entries l)
   balance_at l = grows_by_all began opens [] end.entries left.lawful all_add l ∙ omega arith
 
@@ -155,7 +155,7 @@ module _ (asked : Asked) (site : Site) (seats : List (SeatOf Ledger Edit)) (made
       ∙ sym (sum_by_number (λ (entry : EntryFields Edit). seat_of entry.event) act_count asked.threads end.entries there)
       ∙ sum_alike (λ n. sum_by act_count (by n)) (λ n. asked.sections * record_count asked n) asked.threads 0 (λ n low high. by_count n (omega arith))
 
-  -- and the sum of 64 bits is just that
+  -- and the sum modulo 2^64 is just that
   pub sum_is : asked.threads ≤ SEATS → asked.sections < 2 ^ 32 → sum ≡ ones_asked asked
   sum_is few fits = end.total ∙ ap (λ n. n % 2 ^ 64) together ∙ itself (ones_asked asked) (ones_fit asked few fits)
     where

@@ -17,19 +17,21 @@ use Rattle.rguard.specs.Sections.{write_of, sections_of}
 use Rattle.bench_sections.specs.Sections.{one_added}
 use Rattle.bench_sections.specs.declared.words.Asked.{Asked}
 
--- the numbers of the records from this one on: so many, as far as there are any
+-- the numbers of the records from this one on: this many, as far as there are any
 abbrev pub records_from : ℕ → ℕ → List ℕ
 records_from first count = range_with_len first (min count (RESOURCES - first))
 
--- the first record of the thread: the first of all, or, where the threads are apart, the one behind those of the threads before it
+-- the first record of the thread: the first of all, or, if the threads are apart, the one after those of the threads
+-- before it
 abbrev pub first_record : Asked → ℕ → ℕ
 first_record asked n = if asked.apart then n * asked.resources else 0
 
--- how many records the thread has: as many as are asked for, as far as there are any
+-- how many records the thread has: as many as asked for, as far as there are any
 abbrev pub record_count : Asked → ℕ → ℕ
 record_count asked n = min asked.resources (RESOURCES - first_record asked n)
 
--- how many 1s the sections add that are asked for: for each thread, the number of its sections times the number of its records
+-- how many 1s the sections that are asked for add: for each thread, the number of its sections times the number of its
+-- records
 abbrev pub ones_asked : Asked → ℕ
 ones_asked asked = sum_by (λ n. asked.sections * record_count asked n) (range_with_len 0 asked.threads)
 
@@ -45,7 +47,8 @@ IsNew seat = (seat.mine ≡ []) × OpensWithLedgers seat
 abbrev pub HasCapOfSeats : SeatOf Ledger Edit → Type 0
 HasCapOfSeats seat = AsSeen seat (λ b. b.cap ≡ b.seats)
 
--- a seat at rest that has made so many whole sections and nothing else, each of which added 1 to each of the records of its thread, the members of this set
+-- a resting seat that has made this many whole sections and nothing else, each of which added 1 to each of the records
+-- of its thread, the members of this set
 pub record HasMade (asked : Asked) (site : Site) (set : Set) (count : ℕ) (seat : SeatOf Ledger Edit) : Type 0 where
   pub rests : Rests (no_groups RESOURCES) site seat
   pub opens : OpensWithLedgers seat
@@ -57,12 +60,12 @@ pub record HasMadeAll (asked : Asked) (site : Site) (seat : SeatOf Ledger Edit) 
   pub set : Set
   pub sections : HasMade asked site set asked.sections seat
 
--- a seat at rest, which has made all of them where all was done
+-- a resting seat, which has made all of them if all was done
 pub record HasRun (asked : Asked) (site : Site) (done : Bool) (seat : SeatOf Ledger Edit) : Type 0 where
   pub rests : Rests (no_groups RESOURCES) site seat
   pub made : IsTrue done → HasMadeAll asked site seat
 
--- so much is in all ledgers of a lock that was closed by these seats, numbered below this number, as sums of 64 bits go
+-- this much is in all ledgers of a lock that was closed by these seats, numbered below this number, modulo 2^64
 pub record IsSumLeft (seats : List (SeatOf Ledger Edit)) (count sum : ℕ) : Type 0 where
   pub entries : List (EntryFields Edit)
   pub values : List Ledger

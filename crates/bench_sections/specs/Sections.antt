@@ -1,4 +1,4 @@
--- What a section does: the acts that its finish tells.
+-- What a section does: the acts of its finish.
 use Rattle.std.specs.Prelude.{true, List, map}
 use Rattle.rset.specs.Sets.{Set, rising}
 use Rattle.rvalue.specs.declared.act.Act.{Act}

@@ -5,11 +5,11 @@ use Rattle.std.specs.Str.Parse.{IsNumeral, digits_value, without_leading_plus}
 use Rattle.rset.specs.declared.TheConstants.{SEATS, RESOURCES}
 use Rattle.bench_sections.specs.declared.words.Asked.{Asked}
 
--- the word is a decimal numeral, before which a plus may stand, and tells this number
+-- the word is a decimal numeral with this value; a plus may come before it
 abbrev pub Tells : List ℕ → ℕ → Type 0
 Tells word number = IsNumeral 10 (without_leading_plus word) × (digits_value 10 (without_leading_plus word) ≡ number)
 
--- what five words ask for: behind the program's name, three numbers and a word, which is `apart` or means `hot`
+-- what five words ask for: after the program's name, three numbers and a word, which is `apart` or means `hot`
 pub record IsAskedBy (threads sections resources place : List ℕ) (asked : Asked) : Type 0 where
   pub threads_are : Tells threads asked.threads
   pub some : 0 < asked.threads

@@ -55,7 +55,7 @@ fn opened(
     Ok((lock, seats))
 }
 
-// So many resources from this one on, as far as there are any.
+// This many resources from this one on, as far as there are any.
 fn resources_from(first: u32, count: u8) -> ResourceSet
     ensures { rising result ≡ records_from first count }
 {
@@ -140,7 +140,7 @@ fn jobs_for<M: Machine>(
     requires new { All IsNew seats.items }
     ensures { IfOk result (λ v. All (λ j. IsSomeAnd j.seat (HasMade asked.now lock.now j.set 0)) v.items) }
 {
-    // For the proof, whose clauses speak of the lock.
+    // For the proof, whose clauses mention the lock.
     let _ = lock;
     let mut jobs = Vec::new(alloc);
     for seat in seats {
@@ -154,7 +154,7 @@ fn jobs_for<M: Machine>(
     Ok(jobs)
 }
 
-// Whether all sections of all threads did all.
+// Whether all sections of all threads did everything.
 fn are_done<M: Machine>(jobs: &[Task<M>]) -> bool
     ensures { IsTrue result → All (λ j. IsTrue j.done) jobs.now }
 {
@@ -176,7 +176,7 @@ fn seats_of(
     requires { All (λ j. IsSomeAnd j.seat (HasMadeAll asked.now lock.now)) jobs.items }
     ensures { IfOk result (λ v. All (HasMadeAll asked.now lock.now) v.items) }
 {
-    // For the proof, whose clauses speak of both.
+    // For the proof, whose clauses mention both.
     let _ = lock;
     let _ = asked;
     let mut seats = Vec::new(alloc);
@@ -200,7 +200,7 @@ fn are_in_order<M: Machine>(seats: &[Seat<Ledger, M>]) -> bool
     true
 }
 
-// What is in these ledgers together, as sums of 64 bits go.
+// What is in these ledgers together, modulo 2^64.
 fn sum_of(ledgers: &[Arc<Ledger, Global>]) -> u64
     ensures { result ≡ sum_by (λ ledger. ledger.balance) (map arc_value ledgers.now) % 2 ^ 64 }
 {
@@ -211,7 +211,7 @@ fn sum_of(ledgers: &[Arc<Ledger, Global>]) -> u64
     sum
 }
 
-// Closes the runtime: what is in all ledgers together. None if a seat is not there.
+// Closes the runtime: what is in all ledgers together. None if a seat is missing.
 fn sum_left<M: Machine>(
     lock: Rnlp<Ledger, M>,
     seats: Vec<Seat<Ledger, M>>,
@@ -231,14 +231,14 @@ fn sum_left<M: Machine>(
     Some(sum_of(values.as_slice()))
 }
 
-/// What is in all ledgers together once each thread has made its sections: just the 1s that they were asked to add. None if a section was
-/// not done, or if there was no memory.
+/// What is in all ledgers together after each thread has made its sections: just the 1s that they were asked to add.
+/// None if a section was not done, or if there was no memory.
 pub fn measured<R: Threads + Wait + Sync>(rt: &R, alloc: Global, asked: &Asked) -> Option<u64>
     requires some { 0 < asked.now.threads }
     requires few { asked.now.threads ≤ SEATS }
     ensures { IfSome result (λ sum. sum ≡ ones_asked asked.now) }
 {
-    // Read here, since the sum is to be known to fit 64 bits.
+    // Read here for the proof that the sum fits in 64 bits.
     let _sections = asked.sections;
     let (lock, seats) = opened(alloc, asked.threads).ok()?;
     let jobs = jobs_for(alloc, &lock, seats, asked).ok()?;

@@ -14,7 +14,7 @@ use rvalue::{Edit, Ledger};
 use std::alloc::Global;
 use std::sync::Wait;
 
-// A guard to write these resources; or the seat, where there was no memory or the set is empty.
+// A guard to write these resources; or the seat, if there was no memory or the set is empty.
 fn to_write<'a, R: Wait, M: Machine>(
     rt: &R,
     alloc: Global,
@@ -29,14 +29,14 @@ fn to_write<'a, R: Wait, M: Machine>(
     ensures err { IfErr result (Rests (no_groups RESOURCES) lock.entry.now) }
 {
     let none = ResourceSet::empty();
-    // A look at a set tells the proof that it is one of resources.
+    // Reading a set shows the proof that it is a set of resources.
     let _ = set.len();
     let Ok(request) = Request::new(Kind::Write, none, set, none, 1, 0) else {
         return Err(seat);
     };
     match lock.acquire(rt, alloc, seat, request) {
         Ok(Guard::Write(guard)) => {
-            // A look at its seat tells the proof what is known of every seat.
+            // Reading its seat shows the proof what is known about every seat.
             let _ = guard.seat();
             Ok(guard)
         }
@@ -64,7 +64,7 @@ fn add_to_each<M: Machine>(
     true
 }
 
-/// One section that adds 1 to each of these resources. Whether all was done is told.
+/// One section that adds 1 to each of these resources. Answers whether all was done.
 pub fn add_in<R: Wait, M: Machine>(
     rt: &R,
     alloc: Global,

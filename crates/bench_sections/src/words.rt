@@ -21,7 +21,7 @@ pub struct Asked {
     pub apart: bool,
 }
 
-/// What the words of the command line ask for, if they ask for something.
+/// What the words of the command line ask for, if they ask for anything.
 pub fn asked_by_words<R: Env + AllocGlobal>(rt: &R) -> Option<Asked>
     ensures { IfSome result (λ a. (0 < a.threads) × (a.threads ≤ SEATS)) }
 {
@@ -29,7 +29,7 @@ pub fn asked_by_words<R: Env + AllocGlobal>(rt: &R) -> Option<Asked>
     asked_in(words.as_slice())
 }
 
-// What these words ask for, the first of which is the program's name, if they ask for something.
+// What these words ask for, if they ask for anything; the first one is the program's name.
 fn asked_in(words: &[String]) -> Option<Asked>
     ensures asked { IfSome result (AsksFor (map string_bytes words.now)) }
     ensures none { IsNone result → (asked : Asked) → ¬ AsksFor (map string_bytes words.now) asked }

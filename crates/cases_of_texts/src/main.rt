@@ -1,7 +1,8 @@
 //! The worked cases of the program's texts: each is read from data/, run over memory, and compared byte by byte.
 //!
-//! A case begins with a line `==== NAME | WORDS | STATUS`; its input follows, a line `----`, and its output. In
-//! `odd_cases` a line break of the file is none of the text: `\n` and `\r` stand for one, `\xHH` for a byte, `\\` for `\`.
+//! A case begins with a line `==== NAME | WORDS | STATUS`; then come its input, a line `----`, and its output. In
+//! `odd_cases` a line break of the file is not part of the text: `\n` and `\r` stand for one, `\xHH` for a byte, `\\`
+//! for `\`.
 #![tactic(auto)]
 
 use io_ends::{MemSink, MemSource};
@@ -28,7 +29,7 @@ const KINDS: [WatchKind; 7] = [
     WatchKind::Grants,
 ];
 
-// A case, as it stands in its file.
+// A case, as it is in its file.
 #[derive(Drop)]
 struct Case<'a> {
     name: &'a str,
@@ -60,7 +61,7 @@ fn main(rt: HostRuntime) -> io::Result<()> {
     println!(rt; "{agreed} of {all} cases agree")
 }
 
-// Counts a case, and names it where it does not agree.
+// Counts a case, and names it if it does not agree.
 fn count_case<R: Print + Threads + Wait + Sync>(
     rt: &R,
     alloc: Global,
@@ -80,7 +81,7 @@ fn count_case<R: Print + Threads + Wait + Sync>(
     }
 }
 
-// The case that a text spells, if it spells one.
+// The case in a text, if there is one.
 fn case_in(text: &str) -> Option<Case<'_>> {
     let (head, rest) = text.split_once("\n")?;
     let (input, output) = rest.split_once("----\n")?;
@@ -145,7 +146,7 @@ fn is_status(status: ToolStatus, number: &str) -> bool {
     }
 }
 
-// Words, each behind a blank.
+// Words, each after a space.
 fn words_in(alloc: Global, text: &str) -> Result<Vec<String>, AllocError> {
     let mut words = Vec::new(alloc);
     for word in text.split(' ') {
@@ -165,7 +166,7 @@ fn bytes_of(alloc: Global, text: &str, is_odd: bool) -> Result<Vec<u8>, AllocErr
     }
 }
 
-// Where the reading of an escaped text stands.
+// How far an escape was read.
 #[derive(Clone, Copy)]
 enum Place {
     Plain,
@@ -174,7 +175,7 @@ enum Place {
     Low(u8),
 }
 
-// The bytes that an escaped text stands for: its line breaks count for nothing.
+// The bytes that an escaped text stands for; its line breaks are left out.
 fn unescaped(alloc: Global, text: &[u8]) -> Result<Vec<u8>, AllocError> {
     let mut bytes = Vec::new(alloc);
     let mut place = Place::Plain;
@@ -201,7 +202,7 @@ fn unescaped(alloc: Global, text: &[u8]) -> Result<Vec<u8>, AllocError> {
     Ok(bytes)
 }
 
-// The byte that stands behind a `\`.
+// The byte that the character after a `\` stands for.
 fn escaped(byte: u8) -> u8 {
     match byte {
         b'n' => b'\n',
@@ -210,7 +211,7 @@ fn escaped(byte: u8) -> u8 {
     }
 }
 
-// The value of a hexadecimal digit; 0 where it is none.
+// The value of a hexadecimal digit; 0 if it is not one.
 fn digit_of(byte: u8) -> u8 {
     match byte {
         b'0'..=b'9' => byte - b'0',

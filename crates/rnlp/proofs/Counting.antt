@@ -3,7 +3,7 @@ use Rattle.std.proofs.Common.{◌≡◌, ℕ, ◌+◌, ◌<◌, List, [], ◌∷
 use Rattle.std.proofs.lemmas.List.{map_push, take_more}
 use Rattle.rwatch.specs.Seen.{Seen}
 
--- where the first i kinds have their counters, one more has the next
+-- if the first i kinds have their counters, one more gives the next its counter
 pub one_more : {X K : Type 0} (seen : X → Seen) (counter : K → Seen) (kinds : List K) (list longer : List X) (x : X) (i : ℕ) (d : K)
     → i < length kinds → map seen list ≡ map counter (take i kinds) → longer ≡ list ++ x ∷ [] → seen x ≡ counter (get_or kinds i d) → map seen longer ≡ map counter (take (i + 1) kinds)
 one_more seen counter kinds list longer x i d less so is made =

@@ -1,4 +1,4 @@
-//! The program `rnlp`: its handles alone. What it does stands in `redge`.
+//! The program `rnlp`: only its handles. What it does is in `rnlp_edge`.
 #![tactic(auto)]
 
 ghost use Rattle.std.specs.Prelude.{◌≡◌, [], List, IfOk, OnErr, map, string_bytes};
@@ -42,7 +42,7 @@ fn main(rt: HostRuntime) -> ExitCode {
     )
 }
 
-// The exit status of a run; that of want of memory where it did not begin, which a person is told.
+// The exit status of a run; if it did not begin, the status for out of memory, which is reported to the user.
 fn code_of(rt: &impl Eprint, ran: Result<ExitCode, AllocError>) -> ExitCode
     ensures ran { IfOk ran (λ code. result ≡ code) }
     ensures not_run { OnErr ran (exit_status result ≡ status_number ToolStatus.NoMemory) }
@@ -53,7 +53,7 @@ fn code_of(rt: &impl Eprint, ran: Result<ExitCode, AllocError>) -> ExitCode
     }
 }
 
-// Runs the program, watched by a counter of each kind. Where memory is wanting for them nothing is touched.
+// Runs the program with a counter of each kind as watchers. If memory runs out for them, nothing is touched.
 fn run_watched<R: AllocGlobal + Eprint + Threads + Wait + Sync, S: Source, K: Sink>(
     rt: &R,
     words: &Result<Vec<String>, ToolStatus>,

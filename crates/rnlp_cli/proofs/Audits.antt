@@ -1,4 +1,4 @@
--- What is told of a report that was audited, as it is made.
+-- What is written about an audited report, as it is made.
 use Rattle.std.proofs.Common.{◌≡◌, ℕ, List, [], ◌∷◌, ◌++◌, codes, decimal, sym, ap, ◌∙◌, append_assoc}
 use Rattle.std.proofs.lemmas.List.{append-nil}
 use Rattle.rnlp_cli.specs.Outputs.{audit_text}

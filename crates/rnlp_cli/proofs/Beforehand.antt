@@ -38,7 +38,7 @@ use Rattle.rnlp_cli.proofs.OpenRequests.{event_told, events_told}
 abbrev maker : Entry → ℕ
 maker entry = seat_of entry.event
 
--- the asks of a seat until its next issue, where an event comes before events with these
+-- the asks of a seat until its next issue, with one more event before these
 abbrev asks_next : ℕ → Event → List Set → List Set
 asks_next seat (Issue other r) asks = cond (other == seat) [] asks
 asks_next seat (Finish other) asks = asks
@@ -57,7 +57,7 @@ same_asks seat (Finish other) asks differs = refl
 same_asks seat (Rise other) asks differs = refl
 same_asks seat (Ask other part) asks differs = ap (λ b. cond b (part ∷ asks) asks) differs
 
--- its requests, where an event comes before events with these and with these asks
+-- its requests, with one more event before these and these asks
 abbrev requests_next : ℕ → Event → List Set → List RequestNeeds → List RequestNeeds
 requests_next seat (Issue other r) asks ns = cond (other == seat) (record { request = r; asks = asks } ∷ ns) ns
 requests_next seat (Finish other) asks ns = ns
@@ -76,7 +76,7 @@ same_requests seat (Finish other) asks ns differs = refl
 same_requests seat (Rise other) asks ns differs = refl
 same_requests seat (Ask other part) asks ns differs = refl
 
--- of the needs of a seat its own entries tell
+-- a seat's own entries say what it needs
 own_asks : (seat : ℕ) (entries : List Entry) → asks_of seat (events_of entries) ≡ asks_of seat (events_of (entries_by maker seat entries))
 own_asks seat [] = refl
 own_asks seat (entry ∷ entries) =
@@ -135,7 +135,7 @@ needs_of_run seat statements entries run =
 
 -- ---- the needs of all
 
--- what is so at each place of a list is so of the whole
+-- what holds at each place of a list holds for the whole
 each_place : {X Y : Type 0} (f : ℕ → Y) (g : X → Y) (from : ℕ) (xs : List X) → ((i j : ℕ) (x : X) → slice_get xs i ≡ Some x → from + i ≡ j → f j ≡ g x)
     → map f (range_with_len from (length xs)) ≡ map g xs
 each_place f g from [] each = refl
@@ -159,7 +159,7 @@ same_needs p r paired resources groups tasks each =
 -- ---- what is printed
 
 module _ (p : ScriptFields) (r : Report) (h : IsHeadline p r) where
-  -- the needs of a history may be put in the place of those of its script
+  -- the needs of a history may be replaced by those of its script
   may_have : (w : WaitEnd) → MayHave (history_needs (length r.head.tasks) (events_of r.entries)) w.seat (request_of r w) w.which → MayHave (needs_of p).tasks w.seat (request_of r w) w.which
   may_have w may = subst (λ (needs : TaskNeeds). MayHave needs.tasks w.seat (request_of r w) w.which) h.needs may
 
@@ -167,7 +167,7 @@ module _ (p : ScriptFields) (r : Report) (h : IsHeadline p r) where
   unfolding bound_in
   same_bound w = λ i. bound_of (h.needs i) (h.cap i) w.seat (request_of r w) w.which
 
-  -- *the bound that is printed beside a wait is counted beforehand*
+  -- *the bound printed beside a wait is counted beforehand*
   pub beforehand : AreCountedBeforehand p r
   unfolding ended_in
   beforehand earlier entry rest is =

@@ -1,4 +1,4 @@
--- Each wait that a request may have is one of those whose bounds are written.
+-- Each wait that a request may have is among those whose bounds are written.
 use Rattle.std.proofs.Common.{◌≡◌, ◌<◌, ◌+◌, ℕ, zero, suc, List, [], ◌∷◌, length, Option, Some, None, inl, inr, refl, sym, subst, arith}
 use Rattle.std.specs.Prelude.{IsSome, option_map, slice_get}
 use Rattle.std.specs.List.{flat_map, range_with_len}
@@ -28,7 +28,7 @@ below n k less =
     let same : 0 + k ≡ k = omega arith in
     subst (λ (j : ℕ). Among j (range_with_len 0 n)) same (in_range n 0 k less)
 
--- a request that there is stands at its number
+-- a request that exists is found at its number
 there_of : (ns : List RequestNeeds) (k : ℕ) → IsSome (option_map (λ (n : RequestNeeds). n.request.kind) (slice_get ns k)) → k < length ns
 there_of [] k some = cc
 there_of (n ∷ ns) zero some = omega arith

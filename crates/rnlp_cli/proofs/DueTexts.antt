@@ -1,4 +1,4 @@
--- The texts of lines that are due, and the first of those behind so many.
+-- The texts of due lines, and the first of those that are left after some.
 use Rattle.std.proofs.Common.{◌≡◌, ℕ, zero, suc, ◌<◌, ◌≤◌, Bool, true, List, [], ◌∷◌, ◌++◌, length, map, drop, get_or, Option, Some, None, refl, sym, ap, ◌∙◌, arith, true≢false, append_assoc, inl, inr}
 use Rattle.std.specs.Prelude.{option_map, slice_get, ◌⊎◌}
 use Rattle.std.specs.List.{range_with_len}
@@ -60,7 +60,7 @@ twice : {A B C : Type 0} (g : B → C) (f : A → B) (o : Option A) → option_m
 twice g f None = refl
 twice g f (Some a) = refl
 
--- the first of the lines behind so many stands at that place
+-- the first of the lines that are left is the one at that place
 pub first_left : (names : Names) (lines : List Line) (n : ℕ) (due : List Line) → due ≡ drop n lines
     → option_map (λ (line : Line). as_text (due_text names line)) (slice_get due 0) ≡ option_map as_text (slice_get (map (due_text names) lines) n)
 first_left names lines n due is =
@@ -73,7 +73,7 @@ first_left names lines n due is =
 abbrev text_at : Names → (ℕ → Ledger) → ℕ → List ℕ
 text_at names ledger l = told_line names (Leaves l (ledger l))
 
--- the lines that tell ledgers by their numbers have the texts of the ledgers in their places
+-- the lines for ledgers by number have the texts of the ledgers at their places
 pub ledger_texts : (names : Names) (items : List Ledger) (n : ℕ) (ledger : ℕ → Ledger) → length items ≡ n → ((l : ℕ) → l < n → slice_get items l ≡ Some (ledger l)) → (place : ℕ)
     → slice_get (map (due_text names) (map (λ (l : ℕ). Leaves l (ledger l)) (range_with_len 0 n))) place ≡ ledger_text names items place
 ledger_texts names items n ledger many each place =

@@ -1,4 +1,4 @@
--- The line that is made is the first that is due behind what was said.
+-- The line that is made is the first one due after what was said.
 use Rattle.std.proofs.Common.{◌≡◌, ℕ, ◌<◌, ◌≤◌, Bool, true, false, cond, List, [], ◌∷◌, ◌++◌, length, drop, nat_lt, Option, Some, None, refl, sym, ap, subst, ◌∙◌, arith, true≢false}
 use Rattle.std.specs.Prelude.{IfSome, IsSome, IsSomeAnd, is_some, option_map, option_to_list, slice_get}
 use Rattle.std.proofs.lemmas.Bool.{lt-ltb, le-ltb, ltb-true, ltb-false, ne_eqb, eq-eqb}
@@ -33,20 +33,21 @@ none_happened (Some m) (Some f) latest p h none = absurd (true≢false (sym (sub
 none_happened None (Some f) latest p h none = absurd h
 none_happened (Some m) None latest p h none = absurd h
 
--- where nobody follows there is no machine, and no entry
+-- if nothing is followed there is no machine, and no entry
 nobody_follows : (machine : Option Standing) (o : Option Following) (latest : Option Entry) (p : Past) → StandBehind machine o latest p → o ≡ None → (machine ≡ None) × (latest ≡ None)
 nobody_follows None None latest p h none = (refl, h.0)
 nobody_follows (Some m) (Some f) latest p h none = absurd (some_none (sym none))
 nobody_follows None (Some f) latest p h none = absurd h
 nobody_follows (Some m) None latest p h none = absurd h
 
--- who is there, and follows if he is there, follows
+-- if there is a follower, what holds for any follower holds for it
 is_followed : (P : Following → Type 0) (o : Option Following) (f : Following) → o ≡ Some f → IfSome o P → IsSomeAnd o P
 is_followed P None f same h = absurd (some_none same)
 is_followed P (Some g) f same h = h
 
 module _ (was now : ReportReader) (s : SoFar) (h : Knows true was s) (still : StillDue was now) where
-  -- the texts of what is due behind the latest event: of the changes that the machine had last, and of the waits that this event ended
+  -- the texts of what is due after the latest event: the changes that the machine had last, and the waits that this
+  -- event ended
   abbrev texts_now : List (List ℕ)
   texts_now = due_texts (names_read now) (changes_in now.machine) (last_ended s)
 
@@ -60,7 +61,7 @@ module _ (was now : ReportReader) (s : SoFar) (h : Knows true was s) (still : St
       at None same = same
       at (Some f) same = absurd (true≢false (sym (still.there (ap (λ (o : Option Following). is_some o) same)) ∙ ap (λ (o : Option Following). is_some o) none))
 
-  -- what is made behind the events that are followed is the text at the place of those that were told
+  -- what is made after the events that are followed is the text after those that have come
   at_last : (made : Option (List ℕ))
       → ((p : Past) (before : List Event) (last : Event) → IsSomeAnd now.following (λ f. Follows f p) → p.events ≡ before ++ last ∷ []
       → made ≡ option_map as_text (slice_get (due_texts (names_read now) (changes_in now.machine) (ended_by (start_of p) before last)) now.told))
@@ -92,14 +93,14 @@ module _ (was now : ReportReader) (s : SoFar) (h : Knows true was s) (still : St
       ∙ ap (λ (texts : List (List ℕ)). option_map as_text (slice_get texts now.told))
       (sym (due_texts_are (names_read now) (changes_in was.machine) (last_ended s) h.active) ∙ ap (λ (changes : ChangeLists). due_texts (names_read now) changes (last_ended s)) (sym still.changes))
 
-  -- behind the first ledger no change is due
+  -- after the first ledger no change is due
   late_change : 8 ≤ now.last → first_due_text (names_read now) s WrongChange ≡ None
   late_change past =
       let same = still.last in
       let last = h.last in
       ap (λ (b : Bool). option_map (λ (line : Line). as_text (due_text (names_read now) line)) (slice_get (cond b s.due []) 0)) (le-ltb s.last at_ledgers (omega (arith, same, last, past)))
 
-  -- the ledgers that are due are those that were not told
+  -- the ledgers that are due are those that have not come yet
   ledgers_left : now.last ≤ 8 → ledgers_due true s ≡ drop (ledgers_told now) (ledger_lines true (head_in s) (entries_in s))
   ledgers_left most = at (nat_lt s.last at_ledgers) refl
     where
@@ -118,7 +119,7 @@ module _ (was now : ReportReader) (s : SoFar) (h : Knows true was s) (still : St
           h.left (omega (arith, same, last, most, high))
           ∙ ap (λ (n : ℕ). drop n (ledger_lines true (head_in s) (entries_in s))) (sym (ap (λ (b : Bool). cond b now.told 0) (eq-eqb now.last at_ledgers (omega (arith, same, last, most, high))) ∙ still.told))
 
-  -- the text of the ledger behind those that were told is that of the first that is due
+  -- the text of the next ledger is that of the first one due
   ledger_first : now.last ≤ 8 → first_due_text (names_read now) s WrongLedger ≡ option_map as_text (ledger_text (names_read now) now.ledgers.items (ledgers_told now))
   unfolding ledger_lines
   ledger_first most =
@@ -131,14 +132,14 @@ module _ (was now : ReportReader) (s : SoFar) (h : Knows true was s) (still : St
       (ledger_texts (names_read now) now.ledgers.items (length s.resources) (ledger_after (entries_in s)) (ap (λ (items : List Ledger). length items) still.ledgers ∙ h.ledgers.many)
       (λ l low. ap (λ (items : List Ledger). slice_get items l) still.ledgers ∙ h.ledgers.each l low) (ledgers_told now))
 
-  -- behind the end no ledger is due
+  -- after the end no ledger is due
   late_ledger : 8 < now.last → first_due_text (names_read now) s WrongLedger ≡ None
   late_ledger past =
       let same = still.last in
       let last = h.last in
       ap (λ (b : Bool). option_map (λ (line : Line). as_text (due_text (names_read now) line)) (slice_get (cond b (ledgers_due true s) []) 0)) (le-ltb s.last at_end (omega (arith, same, last, past)))
 
-  -- what is made where a change is wrong is the first change or wait that is due
+  -- what is made for a wrong change is the first change or wait that is due
   pub change_made : (made : Option (List ℕ))
       → ((p : Past) (before : List Event) (last : Event) → IsSomeAnd now.following (λ f. Follows f p) → p.events ≡ before ++ last ∷ [] → now.last < 8
       → made ≡ option_map as_text (slice_get (due_texts (names_read now) (changes_in now.machine) (ended_by (start_of p) before last)) now.told))
@@ -155,7 +156,7 @@ module _ (was now : ReportReader) (s : SoFar) (h : Knows true was s) (still : St
           let past = ltb-false now.last at_ledgers e in
           late_change past ∙ sym (behind past)
 
-  -- what is made where a ledger is wrong is the first ledger that is due
+  -- what is made for a wrong ledger is the first ledger that is due
   pub ledger_made : (made : Option (List ℕ)) → (now.last ≤ 8 → made ≡ option_map as_text (ledger_text (names_read now) now.ledgers.items (ledgers_told now)))
       → (8 < now.last → made ≡ None) → first_due_text (names_read now) s WrongLedger ≡ made
   ledger_made made ledger ended = at (nat_lt at_ledgers now.last) refl

@@ -55,7 +55,7 @@ none_tells : (bounds : WaitEnd → Numbers) (ws : List WaitEnd) → list_any tel
 none_tells bounds [] = refl
 none_tells bounds (w ∷ ws) = none_tells bounds ws
 
--- behind its event and its acts an entry has the lines of its changes, and then those of waits
+-- after its event and its acts an entry has the lines of its changes, and then those of waits
 changes_told : (head : Head) (entries earlier : List Entry) (entry : Entry) → EachChangeIsTold (lock_after head earlier) entry.event → HasItsChanges head entries earlier entry
 unfolding wait_lines
 changes_told head entries earlier entry each =
@@ -68,7 +68,7 @@ changes_told head entries earlier entry each =
     }
 
 module _ (r : Report) (may : MayBeWritten r) where
-  -- an entry may come behind those before it
+  -- an entry may come after those before it
   right : (earlier : List Entry) (entry : Entry) (rest : List Entry) → r.entries ≡ earlier ++ entry ∷ rest → IsRightEntry r.head earlier entry
   right earlier entry rest is = right_from r.head [] earlier entry rest (subst (IsLawful r.head) is may.lawful)
 
@@ -112,7 +112,7 @@ module _ (r : Report) (may : MayBeWritten r) where
 
   -- ---- waits
 
-  -- behind the first entries each wait is covered within its bound by what these events need
+  -- after the first entries each wait is covered within its bound by what these events need
   abbrev covered_by : List Event → List Entry → LockState → Type 0
   covered_by es earlier s =
       (x : Claimed) → Among x s.claims

@@ -1,4 +1,4 @@
--- The lines of a report that tell ledgers are those of its resources.
+-- The ledger lines of a report are those of its resources.
 use Rattle.std.proofs.Common.{◌≡◌, ℕ, Bool, true, false, List, [], ◌∷◌, ◌++◌, length, filter, map, Option, Some, refl, ap, ◌∙◌}
 use Rattle.std.specs.Prelude.{flat_map, option_to_list}
 use Rattle.std.specs.List.{range_with_len}
@@ -22,7 +22,7 @@ use Rattle.rtrace_form.specs.Waits.{ended_in, bound_in}
 use Rattle.rtrace_form.specs.Reports.{Entry, Report, lock_after, status_lines, grant_line, change_lines, wait_line, wait_lines, due_lines, entry_lines, history_lines, ledger_lines, ledger_after, declared_lines, head_lines}
 use Rattle.rnlp_cli.specs.Headline.{AreLedgersTold}
 
--- those of these lines that tell ledgers
+-- the ledger lines among these
 abbrev ledgers : List Line → List Line
 ledgers lines = filter is_ledger lines
 

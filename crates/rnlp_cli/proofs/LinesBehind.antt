@@ -1,4 +1,4 @@
--- Lines behind lines, by the numbers of what they tell.
+-- Lines after lines, by the numbers of what they are about.
 use Rattle.std.proofs.Common.{◌≡◌, ◌+◌, ℕ, zero, suc, List, [], ◌∷◌, ◌++◌, map, length, slice_get, Some, Result, Ok, Err, OnOk, refl, sym, ap, ◌∙◌, arith, append_assoc}
 use Rattle.std.specs.List.{flat_map, range_with_len}
 use Rattle.std.proofs.lemmas.List.{append-nil}

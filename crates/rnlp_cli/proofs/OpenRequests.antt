@@ -36,7 +36,7 @@ use Rattle.rrun.specs.Runs.{Told, told_by, run_of, IsRunOf, deeds_next}
 use Rattle.rtrace_form.specs.Reports.{Entry}
 use Rattle.rtrace_form.specs.Waits.{events_of}
 
--- whether the request that a seat issued last is still to finish, once an event came
+-- whether the request that a seat issued last is still to be finished, after one event
 abbrev pub open_next : ℕ → Bool → Event → Bool
 open_next seat busy (Issue other r) = cond (other == seat) true busy
 open_next seat busy (Finish other) = cond (other == seat) false busy
@@ -75,7 +75,7 @@ module _ (groups : List Set) (stamp seat : ℕ) (r : RequestFields) where
   its_claims : AllByRecursion IsIts (claims_of groups stamp seat r)
   its_claims = its_claims_by r.kind
 
--- ---- one event more
+-- ---- one more event
 
 module _ (s : LockState) (es : List Event) (busy : AllByRecursion (IsOpenIn es) s.claims) where
   old_at : (x : Claimed) → Among x s.claims → IsOpenIn es x
@@ -136,7 +136,7 @@ same_next seat busy (Finish other) differs = ap (λ b. cond b false busy) differ
 same_next seat busy (Rise other) differs = refl
 same_next seat busy (Ask other part) differs = refl
 
--- of a seat its own entries tell
+-- a seat's own entries say this
 pub own_tell : (seat : ℕ) (busy : Bool) (entries : List Entry) → fold (open_next seat) busy (events_of entries) ≡ fold (open_next seat) busy (events_of (entries_by maker seat entries))
 own_tell seat busy [] = refl
 own_tell seat busy (entry ∷ entries) = at (maker entry == seat) refl (λ b. own_tell seat b entries)
@@ -155,7 +155,7 @@ still_some : {A : Type 0} (f : A → A) (o : Option A) → is_some (option_map f
 still_some f None = refl
 still_some f (Some x) = refl
 
--- a request is to finish behind the entries of statements where a section is open behind these
+-- a request is still to be finished after the entries of statements if a section is open after them
 run_open : (n : ℕ) (deeds : List Statement) (section : Option OpenSection) (statements : List Statement)
     → fold (open_next n) (is_some section) (map event_told (run_of n deeds statements)) ≡ is_some (fold section_next section statements)
 run_open n deeds section [] = refl
@@ -175,7 +175,7 @@ pub events_told : (entries : List Entry) → events_of entries ≡ map event_tol
 events_told [] = refl
 events_told (entry ∷ entries) = ap (λ es. entry.event ∷ es) (events_told entries)
 
--- behind the run of statements whose last section is closed the seat has no request to finish
+-- after the run of statements whose last section is closed the seat has no request left to finish
 pub none_open : (seat : ℕ) (statements : List Statement) (entries : List Entry) → fold section_next None statements ≡ None → IsRunOf seat statements (entries_by maker seat entries)
     → is_open (events_of entries) seat ≡ false
 none_open seat statements entries closed run =

@@ -64,7 +64,7 @@ written watchers asked bytes text before after quiet failed same status.Words ou
 written watchers asked bytes text before after quiet failed same status.ReadFault out h = absurd h
 written watchers asked bytes text before after quiet failed same status.TooLong out h = absurd h
 
--- a text that was written without want of memory
+-- how a text was written, if memory could not run out
 surely : (text : List ℕ) (before after : Option (List ℕ)) (quiet failed same : Type 0) (s : ToolStatus) → IsWritten text before after quiet failed ⊥ s → IsWritten text before after quiet failed same s
 surely text before after quiet failed same status.Done h = h
 surely text before after quiet failed same status.WriteFault h = h
@@ -78,7 +78,7 @@ surely text before after quiet failed same status.TooLong h = absurd h
 pub surely_written : (made text : List ℕ) (before after : Option (List ℕ)) (quiet failed same : Type 0) (s : ToolStatus) → made ≡ text → IsWritten made before after quiet failed ⊥ s → IsWritten text before after quiet failed same s
 surely_written made text before after quiet failed same s is h = surely text before after quiet failed same s (subst (λ t. IsWritten t before after quiet failed ⊥ s) is h)
 
--- a command that refuses so answers so, where the line of the first fault was written
+-- a command with this refusal answers so, where the line of the first fault was written
 refused : (watchers : List Seen) (asked : Option Command) (bytes line : List ℕ) (before after : Option (List ℕ)) (quiet failed same : Type 0) (under : ToolStatus)
     → refusal_of asked ≡ Some under → IsFaultLine asked bytes line → LineWritten line before after quiet failed → IsAnswer watchers asked bytes before after quiet failed same under
 refused watchers None bytes line before after quiet failed same under is found h = absurd found
@@ -92,7 +92,7 @@ refused watchers (Some (Bound cap)) bytes line before after quiet failed same un
     subst (λ s. IsAnswer watchers (Some (Bound cap)) bytes before after quiet failed same s) (one_some is) (refl, no_input (Some (Bound cap)) bytes line found, line, found, h)
 refused watchers (Some (Drill count)) bytes line before after quiet failed same under is found h = absurd found
 
--- a fault that was told, or for which memory ran out
+-- a fault was reported, or memory ran out for it
 pub told : (watchers : List Seen) (asked : Option Command) (bytes line : List ℕ) (before after : Option (List ℕ)) (quiet failed same : Type 0) (under s : ToolStatus)
     → refusal_of asked ≡ Some under → IsFaultLine asked bytes line → IsTold line before after quiet failed same under s → IsAnswer watchers asked bytes before after quiet failed same s
 told watchers asked bytes line before after quiet failed same under s is found (inl h) =

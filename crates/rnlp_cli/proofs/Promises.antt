@@ -47,7 +47,7 @@ of_whole_run p r run = record {
   };
 }
 
--- the report of which there is a receipt keeps the headline
+-- a report with a receipt keeps the headline
 kept_by : (left written written_after : Option (List ℕ)) (before after : List (List Entry)) → RunReceipts left written written_after before after status.Done
     → KeepsItsPromise left written written_after before after
 kept_by left written written_after before after more =

@@ -36,7 +36,7 @@ empty_of (x ∷ xs) none = absurd none.0
 
 module _ (p : ScriptFields) (r : Report) (script : IsScript p) (may : MayBeWritten r) (tasks : r.head.tasks ≡ p.tasks)
     (each : (task : ℕ) (statements : List Statement) → slice_get p.steps task ≡ Some statements → IsRunOf task statements (entries_by maker task r.entries)) where
-  -- of no claim of the last state the request is to finish
+  -- no claim of the last state has a request left to finish
   none_there : (x : Claimed) → x.claim.seat < length r.head.tasks → is_open (events_of r.entries) x.claim.seat ≡ true → ⊥
   none_there x low busy =
       let found = item_at p.steps x.claim.seat (subst (λ n. x.claim.seat < n) (sym script.paired) (subst (λ (names : List (List ℕ)). x.claim.seat < length names) tasks low)) in

@@ -40,7 +40,7 @@ module _ (watchers : List Seen) (bytes : List ℕ) (script : ScriptFields) (spel
   run_receipts status.TooLong h = absurd h
   run_receipts status.Trace h = absurd h
 
--- what was read is what the source had left, where it tells that
+-- what was read is what the source had left, where it says that
 of_left : (left : Option (List ℕ)) (bytes : List ℕ) (P : List ℕ → Type 0) → IfSome left (λ all. bytes ≡ all) → P bytes → IfSome left P
 of_left None bytes P whole h = tt
 of_left (Some all) bytes P whole h = subst P whole h

@@ -1,4 +1,4 @@
--- An input that was taken while it was read.
+-- An input that was checked while it was read.
 use Rattle.std.proofs.Common.{◌≡◌, ℕ, true, List, [], Option, Some, None, refl}
 use Rattle.std.specs.Prelude.{IfSome}
 use Rattle.io_ends.specs.Ends.{TookAtMost}
@@ -8,7 +8,7 @@ use Rattle.rnlp_cli.specs.Reading.{IsWithin, WasRead}
 use Rattle.rnlp_cli.specs.declared.command.Command.{Command}
 use Rattle.rnlp_cli.specs.declared.command.Command.TheVariants.{Run, Replay, Audit, Bound, Drill}
 
--- a command whose input is taken while it is read is an audit
+-- a command whose input is checked while it is read is an audit
 pub streamed_is : (command : Command) → is_streamed command ≡ true → command ≡ Audit
 streamed_is Audit is = refl
 streamed_is Run is = cc
@@ -25,11 +25,11 @@ ended_of None after text came = tt
 ended_of (Some bytes) after text came = came.1
 
 module _ {S : Type 0} (left : S → Option (List ℕ)) (reads : S → ℕ) (source later : S) where
-  -- no more than an audit may take was taken
+  -- no more was taken than an audit may take
   pub stream_within : TookAtMost (left source) (left later) report_limit → IsWithin left reads (Some Audit) source later
   stream_within within = record { unread = λ e. cc; within = within }
 
-  -- all that was left was taken, and no fault of the source came
+  -- all that was left was taken, and the source did not fail
   pub stream_read : (text : List ℕ) → CameWhole (left source) (left later) text → TookAtMost (left source) (left later) report_limit → reads later ≡ reads source → WasRead left reads (Some Audit) source later text
   stream_read text came within quiet = record {
     taken = stream_within within;

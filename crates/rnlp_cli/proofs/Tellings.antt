@@ -1,4 +1,4 @@
--- What a person was told, from how a command and its parts ended.
+-- What was reported to the user, from how a command and its parts ended.
 use Rattle.std.proofs.Common.{◌≡◌, ◌≢◌, ℕ, List, [], ◌∷◌, Option, Some, None, refl, sym, subst, inl, inr}
 use Rattle.std.specs.Prelude.{IfSome}
 use Rattle.rtrace_form.specs.Reports.{Entry}
@@ -16,7 +16,7 @@ use Rattle.rnlp_cli.specs.declared.status.ToolStatus.TheVariants as status
 use Rattle.rnlp_cli.specs.declared.explained.Told.{Told}
 use Rattle.rnlp_cli.specs.declared.explained.Told.TheVariants as what
 
--- an output was written, or memory ran out before
+-- an output was written, or memory ran out before that
 pub written_tells : (text : List ℕ) (written written_after : Option (List ℕ)) (quiet failed same : Type 0) (behind : Option Told) (asked : Option Command) (left : Option (List ℕ)) (before after : Option Told) (s : ToolStatus)
     → after ≡ behind → (same → after ≡ before) → IsWritten text written written_after quiet failed same s → TellsBehind behind asked left before after s
 written_tells text written written_after quiet failed same behind asked left before after status.Done is kept h = is
@@ -46,13 +46,14 @@ no_script s memory script = cc
 no_trace : (s : ToolStatus) → s ≡ status.NoMemory → s ≡ status.Trace → ⊥
 no_trace s memory trace = cc
 
--- the line of a fault was written, which was noted for what the input was, as far as that is known; or memory ran out before
+-- the line of a fault was written, and the fault noted, for what the input was, as far as that is known; or memory ran
+-- out before that
 pub trace_told : (line : List ℕ) (written written_after : Option (List ℕ)) (quiet failed same : Type 0) (behind : Option Told) (asked : Option Command) (left : Option (List ℕ)) (before after : Option Told) (s : ToolStatus)
     → IsTold line written written_after quiet failed same status.Trace s → (s ≡ status.Trace → IfSome left (λ bytes. IsFaultTold asked bytes after)) → (s ≢ status.Trace → after ≡ before) → TellsBehind behind asked left before after s
 trace_told line written written_after quiet failed same behind asked left before after s (inl h) noted kept = subst (λ (t : ToolStatus). TellsBehind behind asked left before after t) (sym h.0) (noted h.0)
 trace_told line written written_after quiet failed same behind asked left before after s (inr h) noted kept = subst (λ (t : ToolStatus). TellsBehind behind asked left before after t) (sym h.0) (kept (no_trace s h.0))
 
--- the line of the first fault was written, which was noted, or memory ran out before
+-- the line of the first fault was written, and the fault noted, or memory ran out before that
 module _ (line : List ℕ) (written written_after : Option (List ℕ)) (quiet failed same : Type 0) (behind : Option Told) (asked : Option Command) (bytes : List ℕ) (before after : Option Told) (s : ToolStatus) where
   pub script_tells : IsTold line written written_after quiet failed same status.Script s → (s ≡ status.Script → IsFaultTold asked bytes after) → (s ≢ status.Script → after ≡ before) → TellsBehind behind asked (Some bytes) before after s
   script_tells (inl h) noted kept = subst (λ (t : ToolStatus). TellsBehind behind asked (Some bytes) before after t) (sym h.0) (noted h.0)
@@ -73,7 +74,7 @@ unread_tells lefts reads command source source' behind asked left before status.
 unread_tells lefts reads command source source' behind asked left before status.Script h = absurd h
 unread_tells lefts reads command source source' behind asked left before status.Trace h = absurd h
 
--- what was read is what the source had left, where it tells that
+-- what was read is what the source had left, where it says that
 of_left : (left : Option (List ℕ)) (bytes : List ℕ) (P : List ℕ → Type 0) → IfSome left (λ all. bytes ≡ all) → P bytes → IfSome left P
 of_left None bytes P whole h = tt
 of_left (Some all) bytes P whole h = subst P whole h
@@ -86,7 +87,7 @@ fault_left Audit left bytes after whole h = of_left left bytes (λ all. IsFaultT
 fault_left (Bound cap) left bytes after whole h = of_left left bytes (λ all. IsFaultTold (Some (Bound cap)) all after) whole h
 fault_left (Drill count) left bytes after whole h = absurd h
 
--- what is told of a command whose input was read
+-- what is reported about a command whose input was read
 pub tells_left : (command : Command) (left : Option (List ℕ)) (bytes : List ℕ) (behind before after : Option Told) (s : ToolStatus)
     → IfSome (input_of (Some command) left) (λ all. bytes ≡ all) → TellsBehind behind (Some command) (Some bytes) before after s → TellsBehind behind (Some command) left before after s
 tells_left command left bytes behind before after status.Done whole h = h
@@ -98,7 +99,7 @@ tells_left command left bytes behind before after status.ReadFault whole h = h
 tells_left command left bytes behind before after status.TooLong whole h = h
 tells_left command left bytes behind before after status.NoMemory whole h = h
 
--- behind a replay that somebody watched
+-- after a replay that somebody watched
 pub steps_behind : (watchers : List Seen) (before : Option Told) → (watchers ≡ [] → ⊥) → told_behind (Some Replay) watchers before ≡ Some what.Steps
 steps_behind [] before some = absurd (some refl)
 steps_behind (w ∷ ws) before some = refl

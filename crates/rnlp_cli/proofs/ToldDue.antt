@@ -1,4 +1,4 @@
--- The line that is told to be due is due where the report has its first fault.
+-- The line reported as due is due where the report has its first fault.
 use Rattle.std.proofs.Common.{◌≡◌, ◌≢◌, ℕ, true, List, [], ◌∷◌, ◌++◌, Option, Some, None, refl, ap, subst, ◌∙◌}
 use Rattle.std.specs.Prelude.{IfSome}
 use Rattle.rtrace_form.specs.Faults.{read_all}
@@ -29,7 +29,7 @@ left_still (refused ∷ rest) was now stays = stays.0
 longer : (read said all : List (List ℕ)) → read ≡ said → (more : List (List ℕ)) × (all ≡ read ++ more) → (more : List (List ℕ)) × (all ≡ said ++ more)
 longer read said all same h = (h.0, h.1 ∙ ap (λ (front : List (List ℕ)). front ++ h.0) same)
 
--- the first line that is due to a reader is due where its report has its fault; so it is where none is
+-- the first line that is due for a reader is due where its report has its fault, also if there is none
 pub due_at : (bytes : List ℕ) (fault : Fault Code) (counting : Counting) (line : Option (List ℕ)) → StandsAt KnowsCount CountStays bytes fault.line counting
     → ((was : ReportReader) (s : SoFar) → Knows true was s → StillDue was counting.reading → first_due_text (names_read counting.reading) s fault.code ≡ line) → IsDueAt bytes fault line
 due_at bytes fault counting line at first =
@@ -45,7 +45,7 @@ due_at bytes fault counting line at first =
       first = first at.was.reading (read_all true at.before) said still;
     }
 
--- what is due of the kind that the fault is about, and nothing where it is about none
+-- what is due of the kind that the fault is about; nothing if it is about neither
 due_for : (bytes : List ℕ) (fault : Fault Code) (line : Option (List ℕ)) → (fault.code ≡ WrongChange → IsDueAt bytes fault line) → (fault.code ≡ WrongLedger → IsDueAt bytes fault line)
     → (fault.code ≢ WrongChange → fault.code ≢ WrongLedger → line ≡ None) → IsDueFor fault.code bytes fault line
 due_for bytes fault line = at fault.code
@@ -62,7 +62,7 @@ due_for bytes fault line = at fault.code
     at NoEnd change ledger other = other (λ e. cc) (λ e. cc)
     at WrongBound change ledger other = other (λ e. cc) (λ e. cc)
 
--- so it is of what the source had left
+-- the same for what the source had left
 pub due_told : (left after : Option (List ℕ)) (fault : Fault Code) (line : Option (List ℕ))
     → (fault.code ≡ WrongChange → (text : List ℕ) × CameWhole left after text × IsDueAt text fault line)
     → (fault.code ≡ WrongLedger → (text : List ℕ) × CameWhole left after text × IsDueAt text fault line)
@@ -74,7 +74,7 @@ due_told (Some all) after fault line change ledger other =
     (λ e. let due = ledger e in subst (λ (text : List ℕ). IsDueAt text fault line) due.1.0 due.2)
     other
 
--- the first fault of a report is told, and with it what is due
+-- the first fault of a report is reported, and with it what is due
 pub fault_told : (left after : Option (List ℕ)) (text : List ℕ) (fault : Fault Code) (told : Option Told) → CameWhole left after text → IsFirstFault true text fault → told_fault told ≡ Some fault
     → IfSome left (λ all. IsDueFor fault.code all fault (told_due told)) → IfSome left (λ all. IsFaultTold (Some Audit) all told)
 fault_told None after text fault told came first is due = tt

@@ -13,7 +13,7 @@ use Rattle.rnlp_cli.specs.declared.command.Command.TheVariants.{Run, Replay, Aud
 use Rattle.rnlp_cli.specs.declared.status.ToolStatus.{ToolStatus}
 use Rattle.rnlp_cli.specs.declared.status.ToolStatus.TheVariants as status
 
--- what holds of some bytes holds of those that are told to be the same
+-- what holds for some bytes holds for those that are known to be the same
 of_bytes : (told : Option (List ℕ)) (all : List ℕ) (P : List ℕ → Type 0) → IfSome told (λ bytes. all ≡ bytes) → P all → IfSome told P
 of_bytes None all P whole h = tt
 of_bytes (Some bytes) all P whole h = subst P whole h
@@ -22,7 +22,7 @@ of_each : {X : Type 0} (told : Option X) (P : X → Type 0) → ((x : X) → P x
 of_each None P h = tt
 of_each (Some x) P h = h x
 
--- with no fault of the sink, an input of the command is answered by an output, or want of memory
+-- with no fault of the sink, an input of the command is answered by an output, or out of memory
 completed : (watchers : List Seen) (asked : Option Command) (bytes : List ℕ) (before after : Option (List ℕ)) (quiet failed same : Type 0) (s : ToolStatus) → IsAnswer watchers asked bytes before after quiet failed same s
     → IsInput asked bytes → ¬ failed → (s ≡ status.Done) ⊎ (s ≡ status.NoMemory)
 completed watchers asked bytes before after quiet failed same status.Done h right fine = inl refl
@@ -34,7 +34,7 @@ completed watchers asked bytes before after quiet failed same status.Words h rig
 completed watchers asked bytes before after quiet failed same status.ReadFault h right fine = absurd h
 completed watchers asked bytes before after quiet failed same status.TooLong h right fine = absurd h
 
--- more bytes than the limit are no input within it
+-- more bytes than the limit are not an input within it
 past_limit : (o : Option ℕ) (limit : ℕ) (bytes : List ℕ) → o ≡ Some limit → limit + 1 ≤ length bytes → IfSome o (λ most. length bytes ≤ most) → ⊥
 past_limit None limit bytes is more few = cc
 past_limit (Some most) limit bytes is more few = let same : most ≡ limit = cc in omega arith

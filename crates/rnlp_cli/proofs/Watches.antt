@@ -1,4 +1,4 @@
--- What watchers were told, from how a replay or a drill ended.
+-- What watchers saw, from how a replay or a drill ended.
 use Rattle.std.proofs.Common.{◌≡◌, ℕ, Bool, true, false, List, [], ◌∷◌, codes, map, Option, Some, None, refl, sym, subst, inl, inr}
 use Rattle.std.specs.Prelude.{IfSome, if◌then◌else◌}
 use Rattle.std.specs.Str.{bytes_eq}
@@ -16,7 +16,7 @@ use Rattle.rnlp_cli.specs.declared.command.Command.TheVariants.{Run, Replay, Aud
 use Rattle.rnlp_cli.specs.declared.status.ToolStatus.{ToolStatus}
 use Rattle.rnlp_cli.specs.declared.status.ToolStatus.TheVariants as status
 
--- a report of a list that was written, and its steps that were told
+-- the report of a list was written, and its steps were shown
 pub replay_watched : (bytes text : List ℕ) (report : Report) (before after : Option (List ℕ)) (quiet failed : Type 0) (ws later : List Seen) (s : ToolStatus)
     → IsTextOf false bytes report → text ≡ report_text report → IsWritten text before after quiet failed ⊥ s → later ≡ map (told_all (list_steps report)) ws → ReplayWatched (Some bytes) before after ws later s
 replay_watched bytes text report before after quiet failed ws later status.Done spelled is h told = record { report = report; spelled = spelled; written = subst (Appends before after) is h.1; told = told }
@@ -28,12 +28,12 @@ replay_watched bytes text report before after quiet failed ws later status.Scrip
 replay_watched bytes text report before after quiet failed ws later status.TooLong spelled is h told = absurd h
 replay_watched bytes text report before after quiet failed ws later status.Trace spelled is h told = absurd h
 
--- the line of a fault was told, or memory ran out: the watchers are as they were
+-- the line of a fault was written, or memory ran out: the watchers are as they were
 pub told_watched : (left before after : Option (List ℕ)) (line : List ℕ) (quiet failed same : Type 0) (ws : List Seen) (s : ToolStatus) → IsTold line before after quiet failed same status.Trace s → ReplayWatched left before after ws ws s
 told_watched left before after line quiet failed same ws s (inl h) = subst (λ (t : ToolStatus). ReplayWatched left before after ws ws t) (sym h.0) refl
 told_watched left before after line quiet failed same ws s (inr h) = subst (λ (t : ToolStatus). ReplayWatched left before after ws ws t) (sym h.0) refl
 
--- where neither an output nor a front part of one was written, they are as they were
+-- if neither an output nor a front part of one was written, they are as they were
 pub untold : (asked : Option Command) (left before after : Option (List ℕ)) (ws : List Seen) (s : ToolStatus) → (s ≡ status.Done → ⊥) → (s ≡ status.WriteFault → ⊥) → Watched asked left before after ws ws s
 untold None left before after ws s done broken = refl
 untold (Some Run) left before after ws s done broken = refl
@@ -71,7 +71,7 @@ pub unread_watched : {S : Type 0} (lefts : S → Option (List ℕ)) (reads : S �
     → NotRead lefts reads command source source' s → Watched other left before after ws ws s
 unread_watched lefts reads command other source source' left before after ws s h = let so = unread_so lefts reads command source source' s h in untold other left before after ws s so.0 so.1
 
--- what was read is what the source had left, where it tells that
+-- what was read is what the source had left, where it says that
 of_left : (left : Option (List ℕ)) (bytes : List ℕ) (P : List ℕ → Type 0) → IfSome left (λ all. bytes ≡ all) → P bytes → IfSome left P
 of_left None bytes P whole h = tt
 of_left (Some all) bytes P whole h = subst P whole h
@@ -99,7 +99,7 @@ watched_left (Bound cap) left bytes written written_after before after s whole h
 watched_left (Drill count) left bytes written written_after before after s whole h = h
 watched_left Replay left bytes written written_after before after s whole h = replay_left left bytes written written_after before after s whole h
 
--- a run tells nobody
+-- a run shows nothing to watchers
 run_or_nothing : (b : Bool) (left before after : Option (List ℕ)) (ws : List Seen) (s : ToolStatus) → Watched (if b then Some Run else None) left before after ws ws s
 run_or_nothing true left before after ws s = refl
 run_or_nothing false left before after ws s = refl

@@ -1,4 +1,4 @@
--- What is written of the bounds of a script.
+-- What is written about the bounds of a script.
 use Rattle.std.specs.Prelude.{ℕ, ◌+◌, List, [], ◌∷◌, ◌++◌, length, map, codes, decimal, Option, Some, None, unwrap_or}
 use Rattle.std.specs.List.{flat_map, range_with_len}
 use Rattle.rclaim.specs.declared.request.Kind.{Kind}
@@ -15,7 +15,8 @@ use Rattle.rscript.specs.Needs.{needs_of}
 
 -- ---- waits
 
--- the waits of a request of this kind behind its first: the rise of an upgrade, and each of so many asks of a nested one, in order
+-- the waits of a request of this kind after its first: the rise of an upgrade, and each ask of a nested request, in
+-- order
 abbrev pub later_waits : Kind → ℕ → List Which
 later_waits Read asks = []
 later_waits Write asks = []
@@ -34,7 +35,7 @@ waits_at needs task number = waits_of (kind_at needs.tasks task number) (length 
 
 -- ---- records
 
--- how a wait is named
+-- the name of a wait
 abbrev pub which_word : Which → List ℕ
 which_word First = codes "first"
 which_word Rise = codes "rise"

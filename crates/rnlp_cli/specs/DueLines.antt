@@ -1,4 +1,4 @@
--- The lines that are due beside what a reader keeps, as a person is told them.
+-- The lines that are due by what a reader keeps, as they are reported to the user.
 use Rattle.std.specs.Prelude.{ℕ, List, ◌++◌, map, Option, option_map, slice_get}
 use Rattle.rclaim.specs.Changes.{ChangeLists}
 use Rattle.rclaim.specs.declared.changes.GrantChange.{GrantChange}
@@ -16,7 +16,7 @@ use Rattle.rnlp_cli.specs.Due.{cover_line}
 abbrev pub wait_text : Names → WaitEnd → List ℕ
 wait_text names w = cover_line names w.seat (stage_of w.which) (cover_of w)
 
--- the lines of changes, of which those of statuses come first, and behind them those of waits
+-- the lines of changes, first those of statuses and then those of grants, and after them those of waits
 abbrev pub due_texts : Names → ChangeLists → List WaitEnd → List (List ℕ)
 due_texts names changes ended =
     map (λ (c : StatusChange). told names (status_lines c.seat c.write_half c.status)) changes.statuses

@@ -34,11 +34,11 @@ use Rattle.rtrace_form.specs.Waits.{events_of, ended_in, cover_of, needs_in, bou
 
 -- ---- after each event
 
--- it is so after each event, and before the first
+-- this holds after each event, and before the first
 abbrev pub AtEach : (List Entry → Type 0) → List Entry → Type 0
 AtEach So entries = (earlier rest : List Entry) → entries ≡ earlier ++ rest → So earlier
 
--- it is so of each entry behind those before it
+-- this holds for each entry after those before it
 abbrev pub OfEach : (List Entry → Entry → Type 0) → List Entry → Type 0
 OfEach So entries = (earlier : List Entry) (entry : Entry) (rest : List Entry) → entries ≡ earlier ++ entry ∷ rest → So earlier entry
 
@@ -51,21 +51,22 @@ pub record IsByTheRules (s : LockState) (e : Event) (t : LockState) : Type 0 whe
 abbrev pub change_lines_of : ChangeLists → List Line
 change_lines_of changes = map status_line changes.statuses ++ map grant_line changes.grants
 
--- a line tells a change of a claim's status, or a grant
+-- a line is about a change of a claim's status, or a grant
 abbrev pub tells_change : Line → Bool
 tells_change (BecomesEntitled seat half) = true
 tells_change (BecomesSatisfied seat half) = true
 tells_change (Grants seat set) = true
 tells_change _ = false
 
--- behind its event and its acts an entry has the lines of just the changes that its event makes: those of the statuses come first, and then those of the grants
+-- after its event and its acts an entry has the lines of just the changes that its event makes: first those of the
+-- statuses, then those of the grants
 pub record HasItsChanges (head : Head) (entries earlier : List Entry) (entry : Entry) : Type 0 where
   pub behind : List Line
   pub none : list_any tells_change behind ≡ false
   pub are : entry_lines true (bound_in head entries) head earlier entry
       ≡ Happens entry.event ∷ (map Does entry.acts ++ (change_lines_of (changes_between (lock_after head earlier) (next (lock_after head earlier) entry.event)) ++ behind))
 
--- the entry leads to the state behind it by the rules, and each change of it has its line
+-- the entry leads to the state after it by the rules, and each change of it has its line
 pub record IsGranted (head : Head) (entries earlier : List Entry) (entry : Entry) : Type 0 where
   pub rules : IsByTheRules (lock_after head earlier) entry.event (lock_after head (earlier ++ entry ∷ []))
   pub told : HasItsChanges head entries earlier entry
@@ -76,18 +77,19 @@ IsApart s = (seat other : ℕ) → seat ≢ other → IsExclusive s seat other
 
 -- ---- waits
 
--- *every wait is covered*: each wait in which a claim is behind these entries is covered over its moments so far, and within its bound by what the whole history needs
+-- *every wait is covered*: each wait that a claim is in after these entries is covered over its moments so far, and
+-- within its bound by what the whole history needs
 abbrev pub AreCovered : Head → List Entry → List Entry → Type 0
 AreCovered head entries earlier =
     (x : Claimed) → Among x (lock_after head earlier).claims
     → AreBounded (needed_by (read_groups head) (length head.tasks) (events_of entries)) (length_in (events_of entries)) (number_in (events_of entries)) (length head.tasks) head.cap
     (moments (opening_of head) (events_of earlier)) (lock_after head earlier).claims x
 
--- *within its printed bound*: no number of the cover that a wait's line tells is above that of the bound beside it
+-- *within its printed bound*: no number of the cover in a wait's line is above that of the bound beside it
 abbrev pub IsPrintedWithin : Head → List Entry → WaitEnd → Type 0
 IsPrintedWithin head entries w = IsWithin (cover_of w) (bound_in head entries w)
 
--- each wait that the entry ends has its line, with its cover and its bound; and its cover is within it
+-- each wait that the entry ends has its line, with its cover and its bound; and its cover is within its bound
 pub record HasItsWaits (head : Head) (entries earlier : List Entry) (entry : Entry) : Type 0 where
   pub told : EachWaitIsTold (bound_in head entries) head earlier entry
   pub within : AllByRecursion (IsPrintedWithin head entries) (ended_in head earlier entry.event)
@@ -96,19 +98,21 @@ pub record HasItsWaits (head : Head) (entries earlier : List Entry) (entry : Ent
 abbrev pub request_of : Report → WaitEnd → ℕ
 request_of r w = number_from (events_of r.entries) w.stamp w.seat
 
--- *counted beforehand*: by the script the task has that request, which may have that wait; the bound that is printed beside the wait is the one that is counted for it by what the script needs, under a cap of one request for each task; and its record is one of those of `bounds_text p None`, which `bound` writes of the script
+-- *counted beforehand*: by the script the task has that request, which may have that wait; the bound printed beside the
+-- wait is the one counted for it from what the script needs, under a cap of one request for each task; and its record
+-- is one of those of `bounds_text p None`, which `bound` writes of the script
 pub record IsCountedBeforehand (p : ScriptFields) (r : Report) (w : WaitEnd) : Type 0 where
   pub request : MayHave (needs_of p).tasks w.seat (request_of r w) w.which
   pub bound : bound_in r.head r.entries w ≡ bound_of (needs_of p) (length p.tasks) w.seat (request_of r w) w.which
   pub line : Among (wait_row (needs_of p) (length p.tasks) (name_at p.tasks w.seat) w.seat (request_of r w) w.which) (tasks_rows (needs_of p) (cap_meant p None) p.tasks)
 
--- it is so of each wait that an entry ends
+-- this holds for each wait that an entry ends
 abbrev pub AreCountedBeforehand : ScriptFields → Report → Type 0
 AreCountedBeforehand p r = OfEach (λ earlier entry. AllByRecursion (IsCountedBeforehand p r) (ended_in r.head earlier entry.event)) r.entries
 
 -- ---- ledgers
 
--- *each ledger*: there is a line for each resource, by number, and it tells the ledger that the acts of the history make of it
+-- *each ledger*: there is a line for each resource, by number, and it has the ledger that the acts of the history make
 abbrev pub AreLedgersTold : Report → Type 0
 AreLedgersTold r =
     filter is_ledger (lines_of true (bound_in r.head r.entries) (Some r.head.cap) r) ≡ map (λ l. Leaves l (ledger_after r.entries l)) (range_with_len 0 (length r.head.resources))
@@ -119,21 +123,22 @@ AreLedgersTold r =
 -- without conflict, and something while any request is incomplete; every wait is covered within its printed bound; and each ledger
 -- is what its write sections made of it
 pub record IsKept (r : Report) : Type 0 where
-  -- each event is accepted behind those before it; each act stands where it may, its seat holds the resource (for an edit for
-  -- writing, and the edit is told with the finish of that section), and its answer is right
+  -- each event is accepted after those before it; each act comes where it may, its seat holds the resource (for an
+  -- edit, for writing, and the edit comes with the finish of that section), and its answer is right
   pub lawful : IsLawful r.head r.entries
   pub granted : OfEach (IsGranted r.head r.entries) r.entries
   pub apart : AtEach (λ earlier. IsApart (lock_after r.head earlier)) r.entries
-  -- *something while any request is incomplete*: some claim is satisfied then, and the seat of each that is holds something
+  -- *something while any request is incomplete*: then some claim is satisfied, and the seat of each satisfied claim
+  -- holds something
   pub something : AtEach (λ earlier. IsHeld (lock_after r.head earlier)) r.entries
   pub covered : AtEach (AreCovered r.head r.entries) r.entries
   pub waits : OfEach (HasItsWaits r.head r.entries) r.entries
   pub ledgers : AreLedgersTold r
 
--- *The headline*: whatever script comes, the report of its run tells what the script declares, with a cap of one request for each
--- task; each task's requests stand in it in script order, each once; what the tasks need by its history is what they need by the
--- script, so that each bound in it is the one that is counted beforehand; its history keeps the promise; and behind it no request is
--- incomplete, so that each wait has ended
+-- *The headline*: whatever script comes, the report of its run says what the script declares, with a cap of one request
+-- for each task; each task's requests are in it in script order, each once; what the tasks need by its history is what
+-- they need by the script, so that each bound in it is the one counted beforehand; its history keeps the promise; and
+-- after it no request is incomplete, so that each wait has ended
 pub record IsHeadline (p : ScriptFields) (r : Report) : Type 0 where
   pub resources : r.head.resources ≡ p.resources
   pub groups : r.head.groups ≡ p.groups

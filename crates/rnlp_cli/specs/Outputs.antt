@@ -1,4 +1,4 @@
--- What the commands write, of which inputs, and when they refuse one.
+-- What the commands write, for which inputs, and when they refuse an input.
 use Rattle.std.specs.Prelude.{◌≡◌, ℕ, Bool, true, false, ⊤, List, [], ◌∷◌, length, map, Option, Some, None, codes, decimal}
 use Rattle.rtrace_form.specs.Reports.{Report}
 use Rattle.rtrace_form.specs.Takers.{IsFirstFault}
@@ -31,7 +31,7 @@ use Rattle.rnlp_cli.specs.declared.status.ToolStatus.TheVariants as status
 abbrev pub list_limit : ℕ
 list_limit = 67108864
 
--- the most bytes that a report may have which is audited: 16 times 2^30
+-- the most bytes that an audited report may have: 16 times 2^30
 abbrev pub report_limit : ℕ
 report_limit = 17179869184
 
@@ -48,7 +48,7 @@ limit_of (Some Audit) = Some report_limit
 limit_of (Some (Bound cap)) = Some script_limit
 limit_of (Some (Drill count)) = None
 
--- the input of a command is taken while it is read, and never held whole: that of an audit
+-- whether the input of a command is checked while it is read, and never held whole: only that of an audit
 abbrev pub is_streamed : Command → Bool
 is_streamed Run = false
 is_streamed Replay = false
@@ -75,21 +75,21 @@ IsInput (Some (Drill count)) bytes = ⊤
 
 -- ---- outputs
 
--- what is told of a report that was audited: how many events it has, and how many waits they ended
+-- what is written about an audited report: how many events it has, and how many waits they ended
 abbrev pub audit_text : ℕ → ℕ → List ℕ
 audit_text events waits = text_of ((codes "audit" ∷ decimal events ∷ decimal waits ∷ []) ∷ (codes "end" ∷ []) ∷ [])
 
--- the watchers that are handed to a drill, once it is over
+-- the watchers of a drill, once it is over
 abbrev pub told_drill : ℕ → List Seen → List Seen
 told_drill count watchers = map (told_all (steps_of drill_opening (drill_events count))) watchers
 
--- what is written of a drill: what each watcher has then counted, and how the lock is left
+-- what is written about a drill: what each watcher has then counted, and how the lock is left
 abbrev pub drill_text : ℕ → List Seen → List ℕ
 drill_text count watchers = summary_text count (told_drill count watchers) (after drill_opening (drill_events count))
 
--- an output of a command for this input, where these watchers are handed in: `run` writes the report of a run of the script that
--- the bytes spell, `replay` that of the list that they spell, `audit` how many events the report has that they spell and how many
--- waits they ended, `bound` the bounds of the script that they spell, and `drill` the summary of its events
+-- an output of a command for this input, where these watchers are passed in: `run` writes the report of a run of the
+-- script that the bytes spell, `replay` that of the list they spell, `audit` how many events the report they spell has
+-- and how many waits those ended, `bound` the bounds of the script they spell, and `drill` the summary of its events
 abbrev pub IsOutput : List Seen → Option Command → List ℕ → List ℕ → Type 0
 IsOutput watchers None bytes text = ⊥
 IsOutput watchers (Some Run) bytes text =
@@ -101,7 +101,7 @@ IsOutput watchers (Some (Drill count)) bytes text = text ≡ drill_text count wa
 
 -- ---- refusals
 
--- the line that is written of an input whose record at this line has this fault of a script
+-- the line that is written about an input whose record at this line has this fault of a script
 abbrev pub script_line : ℕ → script_code.Code → List ℕ
 script_line line code = line_text (codes "error" ∷ decimal line ∷ decimal (code_number code) ∷ [])
 
@@ -114,7 +114,7 @@ IsFaultLine (Some Audit) bytes text = (fault : Fault Code) × IsFirstFault true 
 IsFaultLine (Some (Bound cap)) bytes text = (line : ℕ) × (code : script_code.Code) × scripts_read.IsFirstFault bytes line code × (text ≡ script_line line code)
 IsFaultLine (Some (Drill count)) bytes text = ⊥
 
--- the status under which a command tells the first fault of an input
+-- the status with which a command refuses an input
 abbrev pub refusal_of : Option Command → Option ToolStatus
 refusal_of None = None
 refusal_of (Some Run) = Some status.Script

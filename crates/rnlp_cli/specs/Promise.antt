@@ -1,4 +1,4 @@
--- The headline, as it is promised of a run of the program.
+-- The headline, as it is promised for a run of the program.
 use Rattle.std.specs.Prelude.{◌≡◌, ℕ, List, [], ◌∷◌, ◌++◌, Option, IfSome}
 use Rattle.io_ends.specs.Ends.{Appends}
 use Rattle.rtrace_form.specs.Reports.{Entry, Report}
@@ -6,8 +6,9 @@ use Rattle.rtrace_form.specs.Texts.{report_text}
 use Rattle.rscript.specs.Scripts.{ScriptFields, IsScript, IsTextOf}
 use Rattle.rnlp_cli.specs.Headline.{IsHeadline}
 
--- *The promise of a run*: whatever script came (where the source tells what it had left, that is a text of it), what was written is
--- the text of the one history that the receipt has, which a lock alone makes as it is closed, and all that the headline says is so of it
+-- *The promise of a run*: whatever script came (where the source says what it had left, that is a text of it), what was
+-- written is the text of the one history in the receipt, which only a lock makes, when it is closed; and all that the
+-- headline says holds for it
 pub record KeepsItsPromise (left written written_after : Option (List ℕ)) (receipts receipts_after : List (List Entry)) : Type 0 where
   pub script : ScriptFields
   pub is_script : IsScript script

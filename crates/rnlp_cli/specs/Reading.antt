@@ -1,4 +1,4 @@
--- How the reading of the input of a command ended, for the parts of the tools alone.
+-- How the reading of a command's input ended, for the parts of the tools only.
 use Rattle.std.specs.Prelude.{◌≡◌, ◌+◌, ℕ, List, [], Option, Some, None, IfSome, IsSome}
 use Rattle.io_ends.specs.Ends.{Took, TookAtMost}
 use Rattle.io_ends.specs.Faults.{Rose}
@@ -8,7 +8,7 @@ use Rattle.rnlp_cli.specs.declared.status.ToolStatus.{ToolStatus}
 use Rattle.rnlp_cli.specs.declared.status.ToolStatus.TheVariants as status
 
 module _ {S : Type 0} (left : S → Option (List ℕ)) (reads : S → ℕ) where
-  -- no more than the limit was taken of the source, and nothing for a command that reads no input
+  -- no more than the limit was taken from the source, and nothing for a command that reads no input
   pub record IsWithin (asked : Option Command) (source source_after : S) : Type 0 where
     pub unread : limit_of asked ≡ None → source_after ≡ source
     pub within : IfSome (limit_of asked) (λ limit. TookAtMost (left source) (left source_after) limit)

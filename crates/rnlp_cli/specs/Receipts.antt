@@ -1,4 +1,4 @@
--- What a run hands out beside its text.
+-- What a run hands out besides its text.
 use Rattle.std.specs.Prelude.{◌≡◌, ℕ, List, [], ◌∷◌, ◌++◌, Option, Some, None, IfSome}
 use Rattle.io_ends.specs.Ends.{Appends, AppendsPrefix}
 use Rattle.rtrace_form.specs.Reports.{Entry}
@@ -11,7 +11,8 @@ use Rattle.rnlp_cli.specs.declared.command.Command.TheVariants.{Run, Replay, Aud
 use Rattle.rnlp_cli.specs.declared.status.ToolStatus.{ToolStatus}
 use Rattle.rnlp_cli.specs.declared.status.ToolStatus.TheVariants as status
 
--- these are the entries of the one report that was written (`Writes`): a report of a run of a script, which the bytes spell where they are told
+-- these are the entries of the one report that was written (`Writes`): a report of a run of a script, which the bytes
+-- spell where they are known
 pub record IsHistoryWritten (left : Option (List ℕ)) (Writes : List ℕ → Type 0) (entries : List Entry) : Type 0 where
   pub script : ScriptFields
   pub is_script : IsScript script
@@ -21,11 +22,11 @@ pub record IsHistoryWritten (left : Option (List ℕ)) (Writes : List ℕ → Ty
   pub written : Writes (report_text (told_by report))
   pub kept : report.entries ≡ entries
 
--- the receipts have grown by one, whose list is the history of the report that was written
+-- the receipts have grown by one, which is the history of the report that was written
 abbrev pub OneMore : Option (List ℕ) → (List ℕ → Type 0) → List (List Entry) → List (List Entry) → Type 0
 OneMore left Writes before after = (entries : List Entry) × (after ≡ before ++ entries ∷ []) × IsHistoryWritten left Writes entries
 
--- the receipts after a run that ended so, of the input that was left and by what was written
+-- the receipts after a run that ended this way, by the input that was left and by what was written
 abbrev pub RunReceipts : Option (List ℕ) → Option (List ℕ) → Option (List ℕ) → List (List Entry) → List (List Entry) → ToolStatus → Type 0
 RunReceipts left written written_after before after status.Done = OneMore left (Appends written written_after) before after
 RunReceipts left written written_after before after status.WriteFault = OneMore left (AppendsPrefix written written_after) before after

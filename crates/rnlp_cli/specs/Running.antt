@@ -1,4 +1,4 @@
--- How a run of a script ended, for the parts of the tools alone.
+-- How a run of a script ended, for the parts of the tools only.
 use Rattle.std.specs.Prelude.{◌≡◌, ℕ, List, [], ◌∷◌, ◌++◌, Option}
 use Rattle.io_ends.specs.Ends.{Appends, AppendsPrefix}
 use Rattle.rtrace_form.specs.Reports.{Entry}
@@ -14,7 +14,7 @@ abbrev pub IsReported : ScriptFields → (List ℕ → Type 0) → List (List En
 IsReported script Writes receipts receipts_after =
     (report : ReportFields) × IsReportOf script report × Writes (report_text (told_by report)) × (receipts_after ≡ receipts ++ report.entries ∷ [])
 
--- how the run of a script ended: `quiet`, `failed` and `same` say of the sink what they say of any output
+-- how the run of a script ended: `quiet`, `failed` and `same` say about the sink what they say for any output
 abbrev pub IsRun : ScriptFields → Option (List ℕ) → Option (List ℕ) → Type 0 → Type 0 → Type 0 → List (List Entry) → List (List Entry) → ToolStatus → Type 0
 IsRun script before after quiet failed same receipts receipts_after status.Done = quiet × IsReported script (Appends before after) receipts receipts_after
 IsRun script before after quiet failed same receipts receipts_after status.WriteFault = failed × IsReported script (AppendsPrefix before after) receipts receipts_after

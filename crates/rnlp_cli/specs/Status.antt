@@ -36,7 +36,7 @@ IsSilent status.WriteFault = ⊥
 IsSilent status.Script = ⊥
 IsSilent status.Trace = ⊥
 
--- the statuses under which the first fault of an input was told
+-- the statuses with which the first fault of an input was written
 abbrev pub IsRefusal : ToolStatus → Type 0
 IsRefusal status.Script = ⊤
 IsRefusal status.Trace = ⊤

@@ -1,4 +1,4 @@
--- What a person may be told beyond a status.
+-- What may be reported to the user beyond a status.
 use Rattle.std.specs.Prelude.{◌≡◌, ℕ, true, false, List, [], ◌∷◌, Option, Some, None, IfSome, option_map, string_bytes}
 use Rattle.rtrace_form.specs.Takers.{IsFirstFault}
 use Rattle.rtrace_form.specs.declared.fault.Code.{Code}
@@ -14,21 +14,22 @@ use Rattle.rnlp_cli.specs.declared.explained.Told.{Told}
 use Rattle.rnlp_cli.specs.declared.explained.Told.TheVariants as what
 use Rattle.rnlp_cli.specs.Due.{IsDueFor}
 
--- the fault of a list or a report that is told
+-- the fault of a list or a report that is reported
 abbrev pub told_fault : Option Told → Option (Fault Code)
 told_fault None = None
 told_fault (Some what.Steps) = None
 told_fault (Some (what.List fault expected)) = Some fault
 told_fault (Some (what.Script line code)) = None
 
--- the line that is said to be due there, if one is
+-- the line that is reported as due there, if there is one
 abbrev pub told_due : Option Told → Option (List ℕ)
 told_due None = None
 told_due (Some what.Steps) = None
 told_due (Some (what.List fault expected)) = option_map string_bytes expected
 told_due (Some (what.Script line code)) = None
 
--- the first fault of an input is told: of a script, of an event list, with no line that is due, or of a report, with the line that is due there, if one is
+-- the first fault of an input is reported: of a script; of an event list, with no due line; or of a report, with the
+-- line that was due there, if there is one
 abbrev pub IsFaultTold : Option Command → List ℕ → Option Told → Type 0
 IsFaultTold None bytes told = ⊥
 IsFaultTold (Some Run) bytes told = (line : ℕ) × (code : script_code.Code) × scripts_read.IsFirstFault bytes line code × (told ≡ Some (what.Script line code))
@@ -37,7 +38,8 @@ IsFaultTold (Some Audit) bytes told = (fault : Fault Code) × IsFirstFault true 
 IsFaultTold (Some (Bound cap)) bytes told = (line : ℕ) × (code : script_code.Code) × scripts_read.IsFirstFault bytes line code × (told ≡ Some (what.Script line code))
 IsFaultTold (Some (Drill count)) bytes told = ⊥
 
--- what is told once an output was written, whole or a front part of it: that the steps of a list were told, where somebody watched its replay
+-- what is reported once an output was written, whole or a front part: that the steps of a list were shown, if somebody
+-- watched its replay
 abbrev pub told_behind : Option Command → List Seen → Option Told → Option Told
 told_behind None watchers before = before
 told_behind (Some Run) watchers before = before
@@ -47,8 +49,8 @@ told_behind (Some Audit) watchers before = before
 told_behind (Some (Bound cap)) watchers before = before
 told_behind (Some (Drill count)) watchers before = before
 
--- what is told of a command that ended so, of the input that was left: `behind` once an output was written, the first fault of an
--- input that was refused, and else nothing more than `before`
+-- what is reported about a command that ended this way, for the input that was left: `behind` once an output was
+-- written, the first fault of an input that was refused, and otherwise nothing more than `before`
 abbrev pub TellsBehind : Option Told → Option Command → Option (List ℕ) → Option Told → Option Told → ToolStatus → Type 0
 TellsBehind behind asked left before after status.Done = after ≡ behind
 TellsBehind behind asked left before after status.WriteFault = after ≡ behind
@@ -59,6 +61,6 @@ TellsBehind behind asked left before after status.ReadFault = after ≡ before
 TellsBehind behind asked left before after status.TooLong = after ≡ before
 TellsBehind behind asked left before after status.NoMemory = after ≡ before
 
--- the same where these watchers are handed in
+-- the same where these watchers are passed in
 abbrev pub Tells : List Seen → Option Command → Option (List ℕ) → Option Told → Option Told → ToolStatus → Type 0
 Tells watchers asked left before after answer = TellsBehind (told_behind asked watchers before) asked left before after answer

@@ -1,4 +1,4 @@
--- What the watchers that are handed in are told.
+-- What the watchers see.
 use Rattle.std.specs.Prelude.{◌≡◌, ℕ, false, List, map, Option, Some, None, IfSome}
 use Rattle.io_ends.specs.Ends.{Appends, AppendsPrefix}
 use Rattle.rclaim.specs.Changes.{ChangeLists}
@@ -14,18 +14,19 @@ use Rattle.rnlp_cli.specs.declared.command.Command.TheVariants.{Run, Replay, Aud
 use Rattle.rnlp_cli.specs.declared.status.ToolStatus.{ToolStatus}
 use Rattle.rnlp_cli.specs.declared.status.ToolStatus.TheVariants as status
 
--- the steps of a list: each event, and what it changes behind those before it
+-- the steps of a list: each event, and what it changes after those before it
 abbrev pub list_steps : Report → List (Event × ChangeLists)
 list_steps report = steps_of (opening_of report.head) (map (λ (entry : Entry). entry.event) report.entries)
 
--- they were told just the steps of the list whose report was written (`Writes`); it is the list that the bytes spell, where they are told
+-- they saw just the steps of the list whose report was written (`Writes`); it is the list that the bytes spell, where
+-- they are known
 pub record AreToldList (left : Option (List ℕ)) (Writes : List ℕ → Type 0) (before after : List Seen) : Type 0 where
   pub report : Report
   pub spelled : IfSome left (λ bytes. IsTextOf false bytes report)
   pub written : Writes (report_text report)
   pub told : after ≡ map (told_all (list_steps report)) before
 
--- the watchers after a replay that ended so, of the input that was left and by what was written
+-- the watchers after a replay that ended this way, by the input that was left and by what was written
 abbrev pub ReplayWatched : Option (List ℕ) → Option (List ℕ) → Option (List ℕ) → List Seen → List Seen → ToolStatus → Type 0
 ReplayWatched left written written_after before after status.Done = AreToldList left (Appends written written_after) before after
 ReplayWatched left written written_after before after status.WriteFault = AreToldList left (AppendsPrefix written written_after) before after
@@ -36,7 +37,7 @@ ReplayWatched left written written_after before after status.TooLong = after ≡
 ReplayWatched left written written_after before after status.NoMemory = after ≡ before
 ReplayWatched left written written_after before after status.Trace = after ≡ before
 
--- and after a drill: they were told its steps where its summary was written, whole or a front part
+-- and after a drill: they saw its steps if its summary was written, whole or a front part
 abbrev pub DrillWatched : ℕ → List Seen → List Seen → ToolStatus → Type 0
 DrillWatched count before after status.Done = after ≡ told_drill count before
 DrillWatched count before after status.WriteFault = after ≡ told_drill count before

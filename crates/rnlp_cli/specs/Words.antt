@@ -1,4 +1,4 @@
--- The forms of the words behind the program's name, and what they ask for.
+-- What the words after the program's name ask for.
 use Rattle.std.specs.Prelude.{ℕ, ◌≤◌, ⊤, Bool, false, ◌&&◌, nat_le, List, [], ◌∷◌, length, Option, Some, None, IfSome, option_map, option_and_then, codes, if◌then◌else◌}
 use Rattle.std.specs.Str.{bytes_eq}
 use Rattle.rtrace_form.specs.Numbers.{cap_told, number_told}
@@ -19,11 +19,11 @@ most_events = 1000000
 abbrev pub events_within : ℕ → Option ℕ
 events_within n = if nat_le 1 n && nat_le n most_events then Some n else None
 
--- the number of a drill's events that a word of 1 to 7 digits tells, if it tells one
+-- the number of a drill's events that a word of 1 to 7 digits gives, if it gives one
 unfoldable pub events_told : List ℕ → Option ℕ
 events_told word = if nat_le (length word) 7 then option_and_then events_within (number_told word) else None
 
--- the cap that a word of 1 to 7 digits tells, if it tells one
+-- the cap that a word of 1 to 7 digits gives, if it gives one
 unfoldable pub cap_in : List ℕ → Option ℕ
 cap_in word = if nat_le (length word) 7 then cap_told word else None
 
@@ -45,7 +45,8 @@ plain_in (word ∷ number ∷ []) =
     else None
 plain_in (word ∷ number ∷ next ∷ words) = None
 
--- a command of the tools that wait for nobody; bounds are those under a cap of at least 1, and a drill has no more events than there may be
+-- a command of the tools that wait for nobody; a cap of bounds is at least 1, and a drill has no more events than the
+-- limit
 abbrev pub IsPlain : Command → Type 0
 IsPlain Run = ⊥
 IsPlain Replay = ⊤
@@ -53,12 +54,12 @@ IsPlain Audit = ⊤
 IsPlain (Bound cap) = IfSome cap (λ m. 1 ≤ m)
 IsPlain (Drill count) = count ≤ most_events
 
--- the first of them is `run`
+-- the first word is `run`
 abbrev pub begins_with_run : List (List ℕ) → Bool
 begins_with_run [] = false
 begins_with_run (word ∷ words) = bytes_eq word (codes "run")
 
--- what they ask of the program: the first word says of which tool
+-- what they ask of the program: the first word says which tool
 abbrev pub command_in : List (List ℕ) → Option Command
 command_in [] = None
 command_in (word ∷ words) = if bytes_eq word (codes "run") then run_in (word ∷ words) else plain_in (word ∷ words)

@@ -1,4 +1,4 @@
--- How the writing of an output or of the line of a fault ended, for the parts of the tools alone.
+-- How the writing of an output or of the line of a fault ended, for the parts of the tools only.
 use Rattle.std.specs.Prelude.{◌≡◌, ◌⊎◌, ℕ, List, Option, Some}
 use Rattle.io_ends.specs.Ends.{Appends, AppendsPrefix}
 use Rattle.rwatch.specs.Seen.{Seen}
@@ -7,7 +7,7 @@ use Rattle.rnlp_cli.specs.declared.command.Command.{Command}
 use Rattle.rnlp_cli.specs.declared.status.ToolStatus.{ToolStatus}
 use Rattle.rnlp_cli.specs.declared.status.ToolStatus.TheVariants as status
 
--- a line was written: whole with no fault of the sink (`quiet`), or a front part of it, where the sink failed
+-- a line was written: whole with no fault of the sink (`quiet`), or a front part of it, and the sink failed
 abbrev pub LineWritten : List ℕ → Option (List ℕ) → Option (List ℕ) → Type 0 → Type 0 → Type 0
 LineWritten line before after quiet failed = (quiet × Appends before after line) ⊎ (failed × AppendsPrefix before after line)
 
@@ -22,17 +22,18 @@ IsWritten text before after quiet failed same status.Script = ⊥
 IsWritten text before after quiet failed same status.TooLong = ⊥
 IsWritten text before after quiet failed same status.Trace = ⊥
 
--- how the telling of a fault ended: its line was written, and this is the status under which it is told; or memory ran out before
+-- how the report of a fault ended: its line was written, and the answer is this status; or memory ran out before that
 abbrev pub IsTold : List ℕ → Option (List ℕ) → Option (List ℕ) → Type 0 → Type 0 → Type 0 → ToolStatus → ToolStatus → Type 0
 IsTold line before after quiet failed same under answer =
     ((answer ≡ under) × LineWritten line before after quiet failed) ⊎ ((answer ≡ status.NoMemory) × same)
 
--- an input was refused under this status: it is none of the command, which refuses so, and the line of its first fault was written
+-- an input was refused with this status: it is not an input of the command, whose refusals have this status, and the
+-- line of its first fault was written
 abbrev pub IsRefused : Option Command → List ℕ → Option (List ℕ) → Option (List ℕ) → Type 0 → Type 0 → ToolStatus → Type 0
 IsRefused asked bytes before after quiet failed answer =
     (refusal_of asked ≡ Some answer) × (¬ IsInput asked bytes) × (line : List ℕ) × IsFaultLine asked bytes line × LineWritten line before after quiet failed
 
--- how a command ended whose input was these bytes
+-- how a command with these bytes as input ended
 abbrev pub IsAnswer : List Seen → Option Command → List ℕ → Option (List ℕ) → Option (List ℕ) → Type 0 → Type 0 → Type 0 → ToolStatus → Type 0
 IsAnswer watchers asked bytes before after quiet failed same status.Done = quiet × (text : List ℕ) × IsOutput watchers asked bytes text × Appends before after text
 IsAnswer watchers asked bytes before after quiet failed same status.WriteFault = failed × (text : List ℕ) × IsOutput watchers asked bytes text × AppendsPrefix before after text

@@ -1,4 +1,4 @@
-// Audits, and what is told of a report that was audited.
+// Audits, and what is written about an audited report.
 ghost use Rattle.std.specs.Prelude.{◌≡◌, Some, List, [], IfOk};
 ghost use Rattle.io_ends.specs.Faults.{Rose};
 ghost use Rattle.rwatch.specs.Seen.{Seen};
@@ -20,9 +20,9 @@ use itoa::Buffer;
 use rtrace::{AuditCounts, AuditErr, Counting, count_stream};
 use std::alloc::{AllocError, Global};
 
-/// Checks the report that a source has left, as it is read, and writes how many events and how many waits it tells. The first
-/// fault of an input that is no right report is put into `told` too, for a person, with the line that is due in its place,
-/// where one is.
+/// Checks the report that a source has left, as it is read, and writes how many events and waits it has. If the input
+/// is not a right report, its first fault is put into `told` too, for the user, with the line that was due in its
+/// place, if there is one.
 pub fn audit<S: Source, K: Sink>(
     alloc: Global,
     source: &mut S,
@@ -35,7 +35,7 @@ pub fn audit<S: Source, K: Sink>(
     audit_by(alloc, source, sink, &mut Counting::new(alloc), told)
 }
 
-// The same, by a reader that has read nothing.
+// The same, with a reader that has read nothing.
 fn audit_by<S: Source, K: Sink>(
     alloc: Global,
     source: &mut S,
@@ -59,7 +59,7 @@ fn audit_by<S: Source, K: Sink>(
     }
 }
 
-// Writes what is told of a report that tells so much.
+// Writes what is said about a report with these counts.
 fn tell<K: Sink>(alloc: Global, counts: AuditCounts, sink: &mut K) -> ToolStatus
     ensures { IsWritten (audit_text counts.events counts.waits) (K.written sink.old) (K.written sink.new) (K.faults sink.new ≡ K.faults sink.old) (Rose (K.faults sink.old) (K.faults sink.new)) (sink.new ≡ sink.old) result }
 {
@@ -69,7 +69,7 @@ fn tell<K: Sink>(alloc: Global, counts: AuditCounts, sink: &mut K) -> ToolStatus
     write_output(sink, &text)
 }
 
-// What is told of a report that tells so much.
+// What is said about a report with these counts.
 fn audit_text(alloc: Global, counts: AuditCounts) -> Result<Vec<u8>, AllocError>
     ensures { IfOk result (λ text. text.items ≡ audit_text counts.events counts.waits) }
 {

@@ -8,7 +8,7 @@ use itoa::Buffer;
 use rbound::{Bound, Which};
 use std::alloc::AllocError;
 
-/// Appends the line of a bound: of which task, which of its requests, and which wait.
+/// Appends the line of a bound: for which task, which of its requests, and which wait.
 pub(crate) fn push_line(
     text: &mut Vec<u8>,
     name: &[u8],
@@ -37,7 +37,7 @@ fn push_field(text: &mut Vec<u8>, field: &[u8]) -> Result<(), AllocError>
     text.extend_from_slice(field)
 }
 
-// Appends a number as one field more.
+// Appends a number as one more field.
 fn push_number(text: &mut Vec<u8>, number: u64) -> Result<(), AllocError>
     ensures { OnOk result (text.new.items ≡ text.old.items ++ behind_comma (decimal number)) }
 {
@@ -45,7 +45,7 @@ fn push_number(text: &mut Vec<u8>, number: u64) -> Result<(), AllocError>
     push_field(text, digits.format(number).as_bytes())
 }
 
-// How a wait is named.
+// The name of a wait.
 fn which_word(which: Which) -> &'static [u8]
     ensures { result.now ≡ which_word which }
 {

@@ -12,13 +12,14 @@ use rscript::Script;
 use rset::NameTable;
 use std::alloc::{AllocError, Global};
 
-/// The bounds of a script's waits, where no more than `cap` requests may be incomplete, or as many as there are tasks where no
-/// cap is given: for each task by number, and each of its requests in order, the line of its first wait, then of an upgrade that
-/// of its rise, and of a nested request that of each ask; last the line `end`. All memory that is needed is taken here.
+/// The bounds of a script's waits, with at most `cap` incomplete requests, or as many as there are tasks if no cap is
+/// given. For each task by number, and each of its requests in order: the line of its first wait, then for an upgrade
+/// the line of its rise, and for a nested request the line of each ask. Last comes the line `end`. All memory that is
+/// needed is taken here.
 ///
 /// # Errors
 ///
-/// Want of memory.
+/// Out of memory.
 pub fn bound_text(alloc: Global, script: &Script, cap: Option<u8>) -> Result<Vec<u8>, AllocError>
     requires { IfSome cap (λ m. 1 ≤ m) }
     ensures { IfOk result (λ text. text.items ≡ bounds_text script.now cap) }

@@ -16,8 +16,8 @@ use io_ends::Sink;
 use rscript::{Script, ScriptErr, read_script};
 use std::alloc::Global;
 
-/// Writes the bounds of the script that an input spells, under a cap, or where none is told under the number of its tasks. The
-/// first fault of an input that is no script is put into `told` too, for a person.
+/// Writes the bounds of the script that an input spells, under a cap, or under the number of its tasks if none is
+/// given. If the input is not a script, its first fault is put into `told` too, for the user.
 pub fn bound<K: Sink>(
     alloc: Global,
     cap: Option<u8>,

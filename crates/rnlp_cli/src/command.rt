@@ -13,18 +13,19 @@ pub enum Command {
     Run,
     /// `replay`: apply a list of events, and write its report.
     Replay,
-    /// `audit`: check a report, and write how many events and how many waits it tells.
+    /// `audit`: check a report, and write how many events and how many waits it has.
     Audit,
-    /// `bound` and `bound M`: write the bounds of a script's waits, under this cap, or where none is told under the number of tasks.
+    /// `bound` and `bound M`: write the bounds of a script's waits, under this cap, or under the number of tasks if
+    /// none is given.
     Bound(Option<u8>),
-    /// `drill N`: draw so many events, and write their summary. It reads no input.
+    /// `drill N`: draw this many events, and write their summary. It reads no input.
     Drill(u32),
 }
 
 /// The most bytes that an event list may have.
 pub const LIST_LIMIT: usize = 67_108_864;
 
-/// The most bytes that a report may have which is audited.
+/// The most bytes that an audited report may have.
 pub const REPORT_LIMIT: u64 = 17_179_869_184;
 
 // The most digits of a number among the words.
@@ -33,7 +34,7 @@ const MOST_DIGITS: usize = 7;
 /// The most bytes that a script may have.
 pub const SCRIPT_LIMIT: usize = 1_048_576;
 
-// What `limit` promises of the inputs of commands, said of the constants too: other crates read them by name.
+// What `limit` promises about the inputs of commands, said about the constants too: other crates read them by name.
 const _: () = prove!(LIST_LIMIT == 67_108_864);
 
 const _: () = prove!(REPORT_LIMIT == 17_179_869_184);
@@ -41,7 +42,7 @@ const _: () = prove!(REPORT_LIMIT == 17_179_869_184);
 const _: () = prove!(SCRIPT_LIMIT == 1_048_576);
 
 impl Command {
-    /// The most bytes that its input may have; None where it reads no input.
+    /// The most bytes that its input may have; None if it reads no input.
     pub fn limit(self) -> Option<usize>
         ensures { result ≡ limit_of (Some self) }
     {
@@ -53,7 +54,7 @@ impl Command {
         }
     }
 
-    /// Whether its input is taken while it is read, and never held whole.
+    /// Whether its input is checked while it is read, and never held whole.
     pub fn is_streamed(self) -> bool
         ensures { result ≡ is_streamed self }
     {
@@ -82,7 +83,7 @@ pub fn ask_for_run(words: &[String]) -> bool
     }
 }
 
-/// What the words ask of the tools that wait for nobody; None where they are no form of one.
+/// What the words ask of the tools that wait for nobody; None if they do not fit any.
 pub fn plain_of(words: &[String]) -> Option<Command>
     ensures asked { result ≡ plain_in (map string_bytes words.now) }
     ensures plain { IfSome result IsPlain }
@@ -97,7 +98,7 @@ pub fn plain_of(words: &[String]) -> Option<Command>
     }
 }
 
-// The bounds under a cap; None where the word tells none.
+// The bounds under a cap; None if the word is not a cap.
 fn bound_of(cap: &str) -> Option<Command>
     ensures asked { result ≡ option_map bounds_under (cap_in cap.now) }
     ensures plain { IfSome result IsPlain }
@@ -108,7 +109,7 @@ fn bound_of(cap: &str) -> Option<Command>
     }
 }
 
-// The cap that a word of 1 to 7 digits tells.
+// The cap that a word of 1 to 7 digits gives.
 fn cap_told(word: &[u8]) -> Option<u8>
     ensures told { result ≡ cap_in word.now }
     ensures least { IfSome result (λ cap. 1 ≤ cap) }
@@ -119,7 +120,7 @@ fn cap_told(word: &[u8]) -> Option<u8>
     cap_of(word)
 }
 
-// The drill of so many events; None where the word tells no such number.
+// The drill of this many events; None if the word is not such a number.
 fn drill_of(number: &str) -> Option<Command>
     ensures asked { result ≡ option_map Command.Drill (events_told number.now) }
     ensures plain { IfSome result IsPlain }
@@ -130,7 +131,7 @@ fn drill_of(number: &str) -> Option<Command>
     }
 }
 
-// The number of events that a word of 1 to 7 digits tells.
+// The number of events that a word of 1 to 7 digits gives.
 fn events_of(word: &[u8]) -> Option<u32>
     ensures told { result ≡ events_told word.now }
     ensures most { IfSome result (λ count. count ≤ most_events) }
@@ -141,7 +142,7 @@ fn events_of(word: &[u8]) -> Option<u32>
     events_within(number_of(word)?)
 }
 
-// The number as that of a drill's events; None where there are none or too many.
+// The number as that of a drill's events; None if it is 0 or too high.
 fn events_within(number: u64) -> Option<u32>
     ensures told { result ≡ events_within number }
     ensures most { IfSome result (λ count. count ≤ most_events) }

@@ -14,7 +14,7 @@ use rplain::Plain;
 use rwatch::Audience;
 use std::alloc::Global;
 
-/// Draws so many events, tells their steps, and writes their summary. All memory is taken first.
+/// Draws this many events, shows their steps to the watchers, and writes their summary. All memory is taken first.
 pub fn drill_tool<K: Sink, A: Audience>(
     alloc: Global,
     count: u32,

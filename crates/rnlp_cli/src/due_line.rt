@@ -1,4 +1,4 @@
-// Which line of a report is due where another one stands, for a person.
+// Which line of a report is due where another one stands, for the user.
 ghost use Rattle.std.specs.Prelude.{◌≡◌, ◌≢◌, ◌∷◌, ◌++◌, ◌≤◌, ◌<◌, [], List, None, Some, IfOk, IsSomeAnd, OnOk, decimal, option_map, slice_get, string_bytes};
 ghost use Rattle.rclaim.specs.declared.event.Event.{Event};
 ghost use Rattle.rcover_laws.specs.Ended.{ended_by};
@@ -28,12 +28,12 @@ use rtrace_write::{NameRows, Page};
 use rvalue::Ledger;
 use std::alloc::{AllocError, Global};
 
-/// The line that is due behind what was read, where the fault is that another one stands there, if one is. Of a wait it is
-/// the line up to the bound, which is known only where the whole report is. Behind the end of the report none is.
+/// The line that is due after what was read, if the fault is that another one stands there. For a wait it is the line
+/// up to the bound, which is known only where the whole report is. After the end of the report there is none.
 ///
 /// # Errors
 ///
-/// Want of memory.
+/// Out of memory.
 pub fn expected(
     alloc: Global,
     reading: &ReportReader,
@@ -73,7 +73,7 @@ fn text_of(alloc: Global, line: Option<Page>) -> Result<Option<String>, AllocErr
     Ok(Some(text))
 }
 
-// The line of the change or the wait that is due, if one is. Before the first event none is.
+// The line of the change or the wait that is due, if there is one. Before the first event there is none.
 fn change_due(alloc: Global, reading: &ReportReader) -> Result<Option<Page>, AllocError>
     ensures change { (p : Past) (before : List Event) (last : Event) → IsSomeAnd reading.now.following (λ f. Follows f p) → p.events ≡ before ++ last ∷ []
         → IfOk result (λ page. page ≡ slice_get (due_texts (names_read reading.now) (changes_in reading.now.machine) (ended_by (start_of p) before last)) reading.now.told) }
@@ -95,7 +95,7 @@ fn change_due(alloc: Global, reading: &ReportReader) -> Result<Option<Page>, All
     )
 }
 
-// What the latest event changed; before the first event nothing.
+// The statuses that the latest event changed; before the first event there are none.
 fn statuses_of(machine: &Option<Plain>) -> &[StatusChange]
     ensures { result.now ≡ (changes_in machine.now).statuses }
 {
@@ -105,7 +105,7 @@ fn statuses_of(machine: &Option<Plain>) -> &[StatusChange]
     }
 }
 
-// And what came to be held behind it.
+// The grants that came after it.
 fn grants_of(machine: &Option<Plain>) -> &[GrantChange]
     ensures { result.now ≡ (changes_in machine.now).grants }
 {
@@ -163,7 +163,7 @@ fn grant_due(
     Ok(Some(line))
 }
 
-// Of a wait the line up to the bound.
+// For a wait, the line up to the bound.
 fn wait_due(alloc: Global, names: &NameRows, wait: &WaitEnd) -> Result<Option<Page>, AllocError>
     ensures { IfOk result (λ page. page ≡ Some (wait_text names.now wait.now)) }
 {
@@ -173,7 +173,7 @@ fn wait_due(alloc: Global, names: &NameRows, wait: &WaitEnd) -> Result<Option<Pa
     Ok(Some(line))
 }
 
-// The line of the ledger that is due: the first one, where none was told yet.
+// The line of the ledger that is due: the first one if there was none yet.
 fn ledger_due(alloc: Global, reading: &ReportReader) -> Result<Option<Page>, AllocError>
     ensures { IfOk result (λ page. page ≡ ledger_text (names_read reading.now) reading.now.ledgers.items (ledgers_told reading.now)) }
 {
@@ -184,7 +184,8 @@ fn ledger_due(alloc: Global, reading: &ReportReader) -> Result<Option<Page>, All
     }
 }
 
-// The line of the ledger at a place. `rpage` spells it too, of a resource that is there: a field more goes into both.
+// The line of the ledger at a place. `rtrace_write` spells it too, for a resource that is there: a further field has to
+// go into both.
 fn ledger_at(
     alloc: Global,
     reading: &ReportReader,
@@ -201,7 +202,7 @@ fn ledger_at(
     Ok(Some(Page::of(line)))
 }
 
-// The name with a number; nothing where there is none.
+// The name with a number; empty if there is none.
 fn name_of(names: &NameTable, n: usize) -> &[u8]
     ensures { result.now ≡ name_at names.now n }
 {
@@ -211,7 +212,7 @@ fn name_of(names: &NameTable, n: usize) -> &[u8]
     names.name_of(n as u8)
 }
 
-// Appends a number as one field more.
+// Appends a number as one more field.
 fn push_number(line: &mut Vec<u8>, number: u64) -> Result<(), AllocError>
     ensures { OnOk result (line.new.items ≡ line.old.items ++ behind_comma (decimal number)) }
 {

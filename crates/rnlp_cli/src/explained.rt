@@ -1,18 +1,18 @@
-// What a person may be told of a tool beyond its status.
+// What may be reported to the user about a tool beyond its status.
 use rscript::ScriptCode;
 use rtrace_form::Fault;
 
-/// What a person may be told beyond a status: of a refused input its first fault.
+/// What may be reported to the user beyond a status: for a refused input its first fault.
 #[derive(Drop)]
 pub enum Told {
-    /// The steps of a list were told to those who watch.
+    /// The steps of a list were shown to the watchers.
     Steps,
-    /// Of an event list or a report, and the line that is due in its place, where one is.
+    /// For an event list or a report: its fault, and the line that was due in its place, if there is one.
     List {
         fault: Fault,
         expected: Option<String>,
     },
-    /// Of a script: the record's number, counted from 1, and what is wrong with it.
+    /// For a script: the record's number, counted from 1, and what is wrong with it.
     Script {
         line: u64,
         code: ScriptCode,

@@ -7,11 +7,12 @@ use crate::status::ToolStatus;
 use io_ends::{ReadErr, Source, read_all};
 use std::alloc::Global;
 
-/// Reads the input of a command, to its end; for a command that reads none it is empty, and the source stays as it was.
+/// Reads the input of a command to its end. For a command that reads none the input is empty, and the source stays as
+/// it was.
 ///
 /// # Errors
 ///
-/// The status under which a fault of the source, an input above its limit or want of memory is told.
+/// The status for a fault of the source, an input above its limit, or out of memory.
 pub fn read_input<S: Source>(
     alloc: Global,
     command: Command,

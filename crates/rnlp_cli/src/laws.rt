@@ -1,5 +1,5 @@
-//! What holds of every report, and of that of every run. Each function is a theorem: it does nothing, and its contract is the
-//! law.
+//! What holds for every report, and for the report of every run. Each function is a theorem: it does nothing, and its
+//! contract is the law.
 ghost use Rattle.std.specs.Prelude.{◌≡◌, ℕ, List, Some, slice_get, length};
 ghost use Rattle.rclaim.specs.Events.{seat_of};
 ghost use Rattle.rlock.specs.Known.{entries_by};
@@ -10,15 +10,16 @@ ghost use Rattle.rrun.specs.Scripts.{ScriptFields, IsScript};
 ghost use Rattle.rrun.specs.Runs.{IsRunOf};
 ghost use Rattle.rnlp_cli.specs.Headline.{IsKept, IsHeadline, AreCountedBeforehand};
 
-/// *What is promised of a report*: its history is kept under the protocol lock; after every event just what the rules grant
-/// is held, without conflict, and something while any request is incomplete; every wait is covered within its printed bound;
-/// and each ledger is what its write sections made of it. So it is of every report that may be written.
+/// *What is promised of a report*: its history is kept under the protocol lock; after every event just what the rules
+/// grant is held, without conflict, and something while any request is incomplete; every wait is covered within its
+/// printed bound; and each ledger is what its write sections made of it. This holds for every report that may be
+/// written.
 pub fn a_report_is_kept()
     ensures { (report : Report) → MayBeWritten report → IsKept report }
 {}
 
-/// *The headline*: where a report may be written that tells what a script declares, with a cap of one request for each task, and
-/// of each task the run of its statements, then all that the headline says is so.
+/// *The headline*: if a report may be written, says what a script declares, with a cap of one request for each task,
+/// and has for each task the run of its statements, then all that the headline says holds.
 pub fn a_run_keeps_the_headline()
     ensures { (script : ScriptFields) (report : Report) → IsScript script → MayBeWritten report
         → report.head.resources ≡ script.resources → report.head.groups ≡ script.groups → report.head.tasks ≡ script.tasks → report.head.cap ≡ length script.tasks
@@ -27,9 +28,9 @@ pub fn a_run_keeps_the_headline()
         → IsHeadline script report }
 {}
 
-/// *Bounds are counted beforehand*: in a report that keeps the headline, each wait that ends is one that the script's request may
-/// have, the bound beside it is the one that is counted for it by what the script needs, under a cap of one request for each task,
-/// and its record is one of those that are written of the script's bounds.
+/// *Bounds are counted beforehand*: in a report that keeps the headline, each wait that ends is one that the script's
+/// request may have; the bound beside it is the one counted for it from what the script needs, under a cap of one
+/// request for each task; and its record is among those written of the script's bounds.
 pub fn bounds_are_counted_beforehand()
     ensures { (script : ScriptFields) (report : Report) → IsHeadline script report → AreCountedBeforehand script report }
 {}

@@ -1,18 +1,8 @@
-//! The tools of the program `rnlp` over any source and sink, chosen by their words.
-//!
-//! What a tool answers is one record, `ToolAnswer` of `ranswer`: each status has its cause, and each cause its status.
-//!
-//! What a tool of the program `rnlp` answers.
-//!
-//! The tools over scripts: one runs them and waits for its workers, one writes their bounds before anything runs.
-//!
-//! The tools over event lists and reports: one writes the report of a list, one checks a report.
-//!
-//! Which line of a report is due where another one stands, for a person.
-//!
-//! The bounds of a script as a text: a line for each wait that a request of one of its tasks may have.
-//!
-//! The headline of the product as one definition, and the law that every report that may be written keeps it.
+//! The tools of the program `rnlp` over any source and sink, chosen by their words: [`run_tool`] runs a script and
+//! waits for its workers, [`plain_tool`] is for the tools that wait for nobody. What a tool answers is a [`ToolStatus`]
+//! with one record for all commands, `ToolAnswer`: each status has its cause, and each cause its status. [`bound_text`]
+//! counts the bounds of a script before anything runs. The headline of the product is one definition
+//! (`specs/Headline.antt`), and [`laws`] has the laws that reports keep it.
 #![tactic(auto)]
 
 mod auditing;

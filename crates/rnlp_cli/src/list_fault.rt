@@ -12,8 +12,8 @@ use rtrace_form::Fault;
 use rtrace_write::error_line;
 use std::alloc::Global;
 
-/// Writes the line of the fault of a list or a report, and notes the fault for a person, with the line that is due in its
-/// place, where one is. Where memory runs out before, nothing is noted.
+/// Writes the line of the fault of a list or a report, and notes the fault for the user, with the line that was due in
+/// its place, if there is one. If memory runs out before that, nothing is noted.
 pub fn refuse<K: Sink>(
     alloc: Global,
     fault: Fault,

@@ -1,4 +1,4 @@
-// Replays, and what they tell those who watch.
+// Replays, and what the watchers see of them.
 ghost use Rattle.std.specs.Prelude.{◌≡◌, ◌++◌, Some, List, [], map};
 ghost use Rattle.io_ends.specs.Faults.{Rose};
 ghost use Rattle.rmodel.specs.Steps.{AreAccepted};
@@ -19,8 +19,9 @@ use rtrace_replay::{Recorded, Replayed, recorded_replay_of, replay_of};
 use rwatch::Audience;
 use std::alloc::Global;
 
-/// Writes the report of an event list, and tells its steps. Where nobody watches no step is kept. What a person may be told
-/// beyond the status is put into `told`: the first fault of an input that is no list, or that steps were told.
+/// Writes the report of an event list, and shows its steps to the watchers. If nobody watches, no step is kept. What
+/// may be reported to the user beyond the status is put into `told`: the first fault of an input that is not a list, or
+/// that steps were shown.
 pub fn replay<K: Sink, A: Audience>(
     alloc: Global,
     bytes: &[u8],
@@ -57,7 +58,7 @@ fn replay_unwatched<K: Sink>(
     }
 }
 
-// And where somebody does: the steps are kept until the report is written.
+// The same where somebody watches: the steps are kept until the report is written.
 fn replay_watched<K: Sink, A: Audience>(
     alloc: Global,
     bytes: &[u8],
@@ -79,7 +80,7 @@ fn replay_watched<K: Sink, A: Audience>(
     }
 }
 
-// Writes a report that was made, and then tells its steps, when no memory can be wanted any more.
+// Writes a report that was made, and then shows its steps, when no more memory is needed.
 fn report<K: Sink, A: Audience>(made: Recorded, sink: &mut K, audience: &mut A) -> ToolStatus
     requires { AreAccepted made.steps.machine.state made.steps.events.items }
     ensures written { IsWritten (made.replayed.head ++ (made.replayed.history ++ made.replayed.ending)) (K.written sink.old) (K.written sink.new) (K.faults sink.new ≡ K.faults sink.old) (Rose (K.faults sink.old) (K.faults sink.new)) ⊥ result }

@@ -31,10 +31,10 @@ use std::thread::Threads;
 
 /// Runs the script that the source holds, where the words ask for a run, and writes the report of what happened.
 ///
-/// The words are those after the program's name. Each task is a worker of its own, for which this waits. Where the report
-/// was written, whole or a front part of it, `receipts` has one more: the receipt of just the history that it tells. With
-/// any other status `receipts` is as it was. Memory may run out at any place that takes it, and all of it is taken before
-/// the first byte is written.
+/// The words are those after the program's name. Each task has a worker of its own, and this waits for all of them. If
+/// the report was written, whole or a front part, `receipts` gets one more: the receipt of just the history in that
+/// report. With any other status `receipts` is as it was. Memory may run out wherever it is taken, and all of it is
+/// taken before the first byte is written.
 ///
 /// *The headline*: whatever script comes, a run that ends Done has written the text of the one history kept under the protocol
 /// lock: each task's requests in script order, each once; after every event just what the rules grant is held, without
@@ -56,7 +56,7 @@ pub fn run_tool<R: Threads + Wait + Sync, S: Source, K: Sink, G: Pace>(
     told_run(rt, alloc, words, source, sink, pace, receipts, &mut None)
 }
 
-/// The same; and the first fault of an input that is no script is put into `told` too, for a person.
+/// The same; and if the input is not a script, its first fault is put into `told` too, for the user.
 pub fn told_run<R: Threads + Wait + Sync, S: Source, K: Sink, G: Pace>(
     rt: &R,
     alloc: Global,
@@ -102,7 +102,7 @@ fn run_text<R: Threads + Wait + Sync, K: Sink, G: Pace>(
     }
 }
 
-// Runs a script, writes the report, and hands out its receipt. The receipt's place is made before the run.
+// Runs a script, writes the report, and hands out its receipt. The room for the receipt is made before the run.
 fn run_read<R: Threads + Wait + Sync, K: Sink, G: Pace>(
     rt: &R,
     alloc: Global,
@@ -122,7 +122,7 @@ fn run_read<R: Threads + Wait + Sync, K: Sink, G: Pace>(
     }
 }
 
-// Writes the report of a run, and hands out its receipt, in a place that was made.
+// Writes the report of a run, and hands out its receipt into room that was made before.
 fn hand_out<K: Sink>(
     alloc: Global,
     report: &Report,

@@ -12,7 +12,8 @@ use io_ends::Sink;
 use rscript::ScriptCode;
 use std::alloc::Global;
 
-/// Writes the line of the fault of a script, and notes the fault for a person. Where memory runs out before, nothing is noted.
+/// Writes the line of the fault of a script, and notes the fault for the user. If memory runs out before that, nothing
+/// is noted.
 pub fn refuse_script<K: Sink>(
     alloc: Global,
     line: u64,

@@ -6,11 +6,11 @@ use itoa::Buffer;
 use rscript::ScriptCode;
 use std::alloc::{AllocError, Global};
 
-/// The line that tells the fault of a script: the record's number, and the code.
+/// The line for the fault of a script: the record's number, and the code.
 ///
 /// # Errors
 ///
-/// Want of memory.
+/// Out of memory.
 pub fn script_line(alloc: Global, line: u64, code: ScriptCode) -> Result<Vec<u8>, AllocError>
     ensures { IfOk result (λ text. text.items ≡ script_line line code) }
 {

@@ -22,9 +22,9 @@ use std::alloc::Global;
 
 /// Runs the tool that the words name, and answers how it ended. It always returns.
 ///
-/// The words are those after the program's name. Memory may run out at any place that takes it, and all of it is taken
-/// before the first byte is written. The watchers are told each step of a replay and of a drill, where an output was
-/// written, whole or a front part of it; else, and by other forms, nothing.
+/// The words are those after the program's name. Memory may run out wherever it is taken, and all of it is taken before
+/// the first byte is written. The watchers see each step of a replay or a drill whose output was written, whole or a
+/// front part; otherwise they see nothing.
 pub fn plain_tool<S: Source, K: Sink, A: Audience>(
     alloc: Global,
     words: &[String],
@@ -38,8 +38,8 @@ pub fn plain_tool<S: Source, K: Sink, A: Audience>(
     told_tool(alloc, words, source, sink, watchers, &mut None)
 }
 
-/// The same; and what a person may be told beyond the status is put into `told` too: the first fault of an input that is
-/// refused, or that the steps of a list were told to those who watch.
+/// The same; and what may be reported to the user beyond the status is put into `told` too: the first fault of an input
+/// that is refused, or that the steps of a list were shown to the watchers.
 pub fn told_tool<S: Source, K: Sink, A: Audience>(
     alloc: Global,
     words: &[String],

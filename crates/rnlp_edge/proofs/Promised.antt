@@ -29,7 +29,7 @@ module _ {S K : Type 0} (left : S → Option (List ℕ)) (reads : S → ℕ) (wr
       = subst (λ all. ProgramAnswer left reads written writes all source later sink after receipts more ws heard s) is answer in
       promise_kept (codes "run" ∷ []) (left source) (written sink) (written after) receipts more s (λ none. cc) run.1 (is_done s done)
 
-  -- also where what is counted of a replay is shown on a terminal alone
+  -- also where what is counted of a replay is shown only on a terminal
   pub shown_keeps : (on_terminal : Bool) (words : List (List ℕ)) (ws heard : List Seen) (s : ToolStatus)
       → ShownAnswer left reads written writes on_terminal words source later sink after receipts more ws heard s → KeepsTheHeadline words (left source) (written sink) (written after) receipts more (status_number s)
   unfolding is_unwatched

@@ -1,4 +1,4 @@
--- The lines that a person is told on standard error.
+-- The lines that are reported to the user on standard error.
 use Rattle.std.specs.Prelude.{ℕ, Bool, true, false, List, [], ◌∷◌, ◌++◌, Option, Some, None, option_map, codes, decimal, flat_map, string_bytes}
 use Rattle.rtrace_form.specs.declared.fault.Code.{Code}
 use Rattle.rtrace_form.specs.declared.fault.Code.TheVariants as list
@@ -23,12 +23,12 @@ record_line number text = codes "rnlp: record " ++ (decimal number ++ (codes ": 
 abbrev pub watcher_line : Seen → List ℕ
 watcher_line w = codes "rnlp: " ++ (kind_word w.kind ++ (codes " " ++ (decimal w.count ++ 10 ∷ [])))
 
--- what those who watch have counted, where a terminal shows it
+-- what the watchers have counted, if a terminal shows it
 abbrev pub counts_shown : Bool → List Seen → List ℕ
 counts_shown false watchers = []
 counts_shown true watchers = flat_map watcher_line watchers
 
--- behind what is wrong with an event that is refused: why it is
+-- why an event is refused, after what is wrong with it; empty for any other fault
 abbrev pub cause_text : Code → List ℕ
 cause_text (list.Refused cause) = codes ": " ++ refusal_meaning cause
 cause_text list.BadField = []
@@ -48,13 +48,13 @@ fault_text code = list_meaning code ++ cause_text code
 abbrev pub script_text : ScriptCode → List ℕ
 script_text code = script_meaning code ++ (codes " (code " ++ (decimal (code_number code) ++ codes ")"))
 
--- the line that is due where another one stands, if it is known
+-- the line that was due where another one stands, if it is known
 abbrev pub expected_line : Option (List ℕ) → List ℕ
 expected_line None = []
 expected_line (Some line) = codes "rnlp: expected: " ++ (line ++ 10 ∷ [])
 
--- the lines of what is told: what the status means, with what was counted of steps that were told; or in place of the status what is wrong with the
--- input, and which line is due there
+-- the lines to report: what the status means, with what was counted of steps that were shown; or in place of the status
+-- what is wrong with the input, and which line was due there
 abbrev pub told_lines : List Seen → Bool → ToolStatus → Option Told → List ℕ
 told_lines watchers terminal status None = meaning_line (status_meaning status)
 told_lines watchers terminal status (Some what.Steps) = meaning_line (status_meaning status) ++ counts_shown terminal watchers

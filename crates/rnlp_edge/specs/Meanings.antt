@@ -1,4 +1,4 @@
--- What a person is told in words.
+-- The words of what is reported to the user.
 use Rattle.std.specs.Prelude.{ℕ, List, Option, Some, None, codes}
 use Rattle.rclaim.specs.declared.request.RequestErr.TheVariants as request
 use Rattle.rtrace_form.specs.declared.fault.Code.{Code}
@@ -13,7 +13,7 @@ use Rattle.rscript.specs.declared.code.ScriptCode.TheVariants as script
 use Rattle.rwatch.specs.declared.kinds.WatchKind.{WatchKind}
 use Rattle.rwatch.specs.declared.kinds.WatchKind.TheVariants as kinds
 
--- what a status means; of one that is done nothing is told
+-- what a status means; a status that is done has no meaning to report
 abbrev pub status_meaning : ToolStatus → Option (List ℕ)
 status_meaning status.Done = None
 status_meaning status.Words = Some (codes "no such form. The forms are rnlp run < SCRIPT, rnlp replay < LIST, rnlp audit < REPORT, rnlp bound [M] < SCRIPT, and rnlp drill N. rnlp --help tells all")

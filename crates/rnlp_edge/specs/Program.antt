@@ -27,7 +27,7 @@ is_replay (Some Audit) = false
 is_replay (Some (Bound cap)) = false
 is_replay (Some (Drill count)) = false
 
--- nobody watches a replay that no terminal shows
+-- a replay has no watchers if no terminal shows it
 unfoldable pub is_unwatched : Bool → Option Command → Bool
 is_unwatched true asked = false
 is_unwatched false asked = is_replay asked
@@ -37,32 +37,34 @@ abbrev pub IsUntouched : {S K : Type 0} → S → S → K → K → List (List E
 IsUntouched source source_after sink sink_after receipts receipts_after watchers watchers_after =
     (source_after ≡ source) × (sink_after ≡ sink) × (receipts_after ≡ receipts) × (watchers_after ≡ watchers)
 
--- those who watch what is answered: nobody where it is `unwatched`
+-- the watchers of what is answered: none if it is `unwatched`
 abbrev pub watching : Bool → List Seen → List Seen
 watching true watchers = []
 watching false watchers = watchers
 
--- what a person is told of the program's own text is nothing more, and of what a tool answers what the tool tells
+-- beyond the status of one of the program's own texts nothing more is reported; beyond that of a tool, what the tool
+-- reports
 abbrev pub TellsBy : Option (List ℕ) → Option Command → List Seen → Option (List ℕ) → Option Told → Option Told → ToolStatus → Type 0
 TellsBy (Some text) asked watchers left before after answer = after ≡ before
 TellsBy None asked watchers left before after answer = Tells watchers asked left before after answer
 
--- what a person is told beyond the status of what the program answers to words
+-- what is reported to the user beyond the status, for what the program answers to words
 abbrev pub ProgramTells : List (List ℕ) → List Seen → Option (List ℕ) → Option Told → Option Told → ToolStatus → Type 0
 ProgramTells words watchers left before after answer = TellsBy (own_text words) (command_in words) watchers left before after answer
 
--- the same where what is counted of a replay is shown on a terminal alone
+-- the same, where what is counted of a replay is shown only on a terminal
 abbrev pub ShownTells : Bool → List (List ℕ) → List Seen → Option (List ℕ) → Option Told → Option Told → ToolStatus → Type 0
 ShownTells on_terminal words watchers left before after answer = ProgramTells words (watching (is_unwatched on_terminal (command_in words)) watchers) left before after answer
 
--- what a person is told beyond the status of how a run ended: what is told of the words that were had, and nothing where none were to be had
+-- what is reported beyond the status of how a run ended: that of its words if there are any, and otherwise nothing
 abbrev pub RunTells : {W : Type 0} → (W → List (List ℕ)) → Result W ToolStatus → Bool → List Seen → Option (List ℕ) → Option Told → Option Told → ToolStatus → Type 0
 RunTells spelled words on_terminal watchers left before after answer =
     IfOk words (λ had. ShownTells on_terminal (spelled had) watchers left before after answer) × IfErr words (λ _. after ≡ before)
 
--- of a source, the bytes that are left and how often it failed; of a sink, the bytes that were written and how often it failed
+-- for a source, the bytes that are left and how often it failed; for a sink, the bytes that were written and how often
+-- it failed
 module _ {S K : Type 0} (left : S → Option (List ℕ)) (reads : S → ℕ) (written : K → Option (List ℕ)) (writes : K → ℕ) where
-  -- what the program answers whose own text these words ask for, or that hands them to the tools
+  -- what the program answers if these words ask for its own text, or if it passes them to the tools
   abbrev pub AnswersBy : Option (List ℕ) → Option Command → S → S → K → K → List (List Entry) → List (List Entry) → List Seen → List Seen → ToolStatus → Type 0
   AnswersBy (Some text) asked source source_after sink sink_after receipts receipts_after watchers watchers_after answer =
       (source_after ≡ source) × (receipts_after ≡ receipts) × (watchers_after ≡ watchers)
@@ -72,30 +74,33 @@ module _ {S K : Type 0} (left : S → Option (List ℕ)) (reads : S → ℕ) (wr
       × Receipts asked (left source) (written sink) (written sink_after) receipts receipts_after answer
       × Watched asked (left source) (written sink) (written sink_after) watchers watchers_after answer
 
-  -- what the program answers to words: its own text, or else what a tool answers, which receipts it hands out, and what it tells the watchers
+  -- what the program answers to words: its own text; or what a tool answers, with the receipts it hands out and what
+  -- the watchers see
   abbrev pub ProgramAnswer : List (List ℕ) → S → S → K → K → List (List Entry) → List (List Entry) → List Seen → List Seen → ToolStatus → Type 0
   ProgramAnswer words source source_after sink sink_after receipts receipts_after watchers watchers_after answer =
       AnswersBy (own_text words) (command_in words) source source_after sink sink_after receipts receipts_after watchers watchers_after answer
 
-  -- what the program answers to words with these watchers, or where it is `unwatched` with nobody in their place
+  -- what the program answers to words with these watchers, or with none if it is `unwatched`
   abbrev pub WatchedAnswer : Bool → List (List ℕ) → S → S → K → K → List (List Entry) → List (List Entry) → List Seen → List Seen → ToolStatus → Type 0
   WatchedAnswer false words source source_after sink sink_after receipts receipts_after watchers watchers_after answer =
       ProgramAnswer words source source_after sink sink_after receipts receipts_after watchers watchers_after answer
   WatchedAnswer true words source source_after sink sink_after receipts receipts_after watchers watchers_after answer =
       ((heard : List Seen) × ProgramAnswer words source source_after sink sink_after receipts receipts_after [] heard answer) × (watchers_after ≡ watchers)
 
-  -- what the program answers to words, which shows what is counted of a replay on a terminal alone
+  -- what the program answers to words, where what is counted of a replay is shown only on a terminal
   abbrev pub ShownAnswer : Bool → List (List ℕ) → S → S → K → K → List (List Entry) → List (List Entry) → List Seen → List Seen → ToolStatus → Type 0
   ShownAnswer on_terminal words source source_after sink sink_after receipts receipts_after watchers watchers_after answer =
       WatchedAnswer (is_unwatched on_terminal (command_in words)) words source source_after sink sink_after receipts receipts_after watchers watchers_after answer
 
-  -- how a run ended: the words that were had, which `spelled` reads, are answered; where none were to be had, with the status that says why, and nothing was touched
+  -- how a run ended: if there are words, which `spelled` reads, they are answered; if not, with the status that says
+  -- why, and nothing was touched
   abbrev pub RunAnswer : {W : Type 0} → (W → List (List ℕ)) → Result W ToolStatus → Bool → S → S → K → K → List (List Entry) → List (List Entry) → List Seen → List Seen → ToolStatus → Type 0
   RunAnswer spelled words on_terminal source source_after sink sink_after receipts receipts_after watchers watchers_after answer =
       IfOk words (λ had. ShownAnswer on_terminal (spelled had) source source_after sink sink_after receipts receipts_after watchers watchers_after answer)
       × IfErr words (λ wanting. (answer ≡ wanting) × IsUntouched source source_after sink sink_after receipts receipts_after watchers watchers_after)
 
--- *The headline of the program*: where it was started with the word `run` alone and its exit status is that of a run that is done, that run has kept its promise
+-- *The headline of the program*: if it was started with the word `run` alone and its exit status is that of a run that
+-- is done, that run has kept its promise
 abbrev pub KeepsTheHeadline : List (List ℕ) → Option (List ℕ) → Option (List ℕ) → Option (List ℕ) → List (List Entry) → List (List Entry) → ℕ → Type 0
 KeepsTheHeadline words left written written_after receipts receipts_after number =
     words ≡ codes "run" ∷ [] → number ≡ status_number Done → KeepsItsPromise left written written_after receipts receipts_after

@@ -1,4 +1,4 @@
--- What the program says of itself, and for which words.
+-- What the program says about itself, and for which words.
 use Rattle.std.specs.Prelude.{ℕ, List, [], ◌∷◌, ◌++◌, Option, Some, None, codes, if◌then◌else◌}
 use Rattle.std.specs.Str.{bytes_eq}
 

@@ -22,11 +22,11 @@ use std::process::ExitCode;
 use std::sync::Wait;
 use std::thread::Threads;
 
-/// Runs the program: answers the words that it was started with, tells a person on standard error what went wrong, and
-/// gives the exit status. Where standard error is a terminal, the person is told behind a replay what those who watch have
-/// counted; where it is none, nobody watches a replay.
+/// Runs the program: answers the words it was started with, reports on standard error what went wrong, and gives the
+/// exit status. If standard error is a terminal, a replay also reports there what the watchers have counted; if not, a
+/// replay has no watchers.
 ///
-/// Where the words are not to be had, the exit status is that of `words`, and nothing is touched.
+/// If there are no words, the exit status is that of `words`, and nothing is touched.
 pub fn run<
     R: AllocGlobal + Eprint + Threads + Wait + Sync,
     S: Source,
@@ -61,7 +61,7 @@ pub fn run<
     ExitCode::from(status.number())
 }
 
-// Answers the words that the program was started with, and makes the lines that a person is told of it.
+// Answers the words the program was started with, and makes the lines that are reported to the user.
 fn answered_in_lines<
     R: AllocGlobal + Threads + Wait + Sync,
     S: Source,
@@ -98,7 +98,7 @@ fn answered_in_lines<
     (status, lines)
 }
 
-// Answers the words that are to be had; where there are none, by the status that says why, and nothing is touched.
+// Answers the words, if there are any; if not, gives the status that says why, and nothing is touched.
 fn had_answer<R: AllocGlobal + Threads + Wait + Sync, S: Source, K: Sink, G: Pace, A: Audience>(
     rt: &R,
     words: &Result<Vec<String>, ToolStatus>,
@@ -129,7 +129,7 @@ fn had_answer<R: AllocGlobal + Threads + Wait + Sync, S: Source, K: Sink, G: Pac
     }
 }
 
-// Answers the words; where no terminal shows what is counted of a replay, to nobody who watches.
+// Answers the words; a replay has no watchers if no terminal shows what they count.
 fn shown_answer<R: AllocGlobal + Threads + Wait + Sync, S: Source, K: Sink, G: Pace, A: Audience>(
     rt: &R,
     words: &[String],
@@ -188,7 +188,7 @@ pub fn answer<R: Threads + Wait + Sync, S: Source, K: Sink, G: Pace, A: Audience
     )
 }
 
-// The same; and what a person may be told of the run beyond its status is put into `told` too.
+// The same; and what may be reported to the user beyond the status is put into `told` too.
 fn told_answer<R: Threads + Wait + Sync, S: Source, K: Sink, G: Pace, A: Audience>(
     rt: &R,
     alloc: Global,

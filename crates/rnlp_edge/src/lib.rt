@@ -1,4 +1,6 @@
-//! The edge of the program: its words, its messages, and what a person is told while it runs.
+//! The edge of the program, all of `main` but its handles: [`run`] answers the words the program was started with, by
+//! its own texts or by the tools of `rnlp_cli`, and reports to the user on standard error. [`Progress`] is a source
+//! that reports how far it was read.
 #![tactic(auto)]
 
 mod edge;

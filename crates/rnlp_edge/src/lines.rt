@@ -1,4 +1,4 @@
-// The lines that a person is told.
+// The lines that are reported to the user.
 ghost use Rattle.std.specs.Prelude.{◌≡◌, ◌++◌, ◌∷◌, [], IfOk, OnOk, codes, decimal, flat_map, option_map, string_bytes};
 ghost use Rattle.rnlp_edge.specs.Lines.{told_lines, record_line, meaning_line, watcher_line, counts_shown, cause_text, fault_text, expected_line, script_text};
 ghost use Rattle.rnlp_edge.specs.Meanings.{status_meaning, kind_word, refusal_meaning};
@@ -12,12 +12,12 @@ use rtrace_form::{Code, Fault, Refusal};
 use rwatch::{Audience, WatchKind};
 use std::alloc::{AllocError, Global};
 
-/// The lines of what is told, one behind another: what a status means, and on a terminal what was counted of the steps that
-/// were told; or of a refused input what is wrong with which record, and which line is due there.
+/// The lines to report, one after another: what a status means, and on a terminal what was counted of the steps that
+/// were shown; or for a refused input what is wrong with which record, and which line was due there.
 ///
 /// # Errors
 ///
-/// Want of memory.
+/// Out of memory.
 pub fn lines_of<A: Audience>(
     alloc: Global,
     status: ToolStatus,
@@ -50,7 +50,7 @@ fn push_told<A: Audience>(
     }
 }
 
-// Appends the line of what a status means, if it means anything.
+// Appends the line of what a status means, if it has a meaning.
 fn push_status(lines: &mut String, status: ToolStatus) -> Result<(), AllocError>
     ensures { OnOk result (string_bytes lines.new ≡ string_bytes lines.old ++ meaning_line (status_meaning status)) }
 {
@@ -64,7 +64,7 @@ fn push_status(lines: &mut String, status: ToolStatus) -> Result<(), AllocError>
     }
 }
 
-// Appends what a status means, and what was counted, where a terminal shows it.
+// Appends what a status means, and what was counted if a terminal shows it.
 fn push_steps<A: Audience>(
     lines: &mut String,
     alloc: Global,
@@ -79,7 +79,7 @@ fn push_steps<A: Audience>(
     Ok(())
 }
 
-// Appends what was counted, where a terminal shows it.
+// Appends what was counted, if a terminal shows it.
 fn push_shown<A: Audience>(
     lines: &mut String,
     alloc: Global,
@@ -127,7 +127,7 @@ fn push_count(
     Ok(())
 }
 
-// Appends what is wrong with a list or a report, and the line that is due there.
+// Appends what is wrong with a list or a report, and the line that was due there.
 fn push_refused(
     lines: &mut String,
     alloc: Global,
@@ -152,7 +152,7 @@ fn push_fault(lines: &mut String, alloc: Global, fault: Fault) -> Result<(), All
     Ok(())
 }
 
-// Appends why an event is refused; of all other faults nothing.
+// Appends why an event is refused; nothing for any other fault.
 fn push_cause(lines: &mut String, code: Code) -> Result<(), AllocError>
     ensures { OnOk result (string_bytes lines.new ≡ string_bytes lines.old ++ cause_text code) }
 {

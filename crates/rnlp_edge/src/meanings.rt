@@ -1,4 +1,4 @@
-// What a person is told in words.
+// The words of what is reported to the user.
 ghost use Rattle.std.specs.Prelude.{◌≡◌, option_map};
 ghost use Rattle.rnlp_edge.specs.Meanings.{status_meaning, kind_word, script_meaning, list_meaning, refusal_meaning};
 
@@ -9,7 +9,7 @@ use rscript::ScriptCode;
 use rtrace_form::{Code, Refusal};
 use rwatch::WatchKind;
 
-/// What a status means; of one that is done nothing is told.
+/// What a status means; a status that is done has no meaning to report.
 pub fn meaning_of_status(status: ToolStatus) -> Option<&'static str>
     ensures { option_map (λ text. text.now) result ≡ status_meaning status }
 {

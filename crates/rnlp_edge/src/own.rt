@@ -67,7 +67,7 @@ codes of status 8, of the record with the number LINE
 
 const VERSION: &str = "rnlp 1\nproved with rattle-kit-13, logic dac8208d650f15bf\n";
 
-/// The text that the words ask for, where they ask about the program itself.
+/// The text that the words ask for, if they ask about the program itself.
 pub fn own_text(words: &[String]) -> Option<&'static [u8]>
     ensures { option_map (λ text. text.now) result ≡ own_text (map string_bytes words.now) }
 {

@@ -1,4 +1,4 @@
-// A source that tells a person how far it was read.
+// A source that reports how far it was read.
 ghost use Rattle.std.specs.Prelude.{◌≡◌, ◌≤◌, ◌+◌, ◌-◌, ◌^◌, ◌&&◌, min, IfOk, OnOk, OnErr, if◌then◌else◌};
 ghost use Rattle.io_ends.specs.Ends.{Gives};
 ghost use Rattle.io_ends.specs.Faults.{Rose};
@@ -6,25 +6,25 @@ ghost use Rattle.rnlp_edge.specs.Progress.{is_due};
 
 use io_ends::{Failed, Source};
 
-// So many bytes are read from one word to a person to the next: more than any input may have but a long report.
+// How many bytes are read between two reports: more than any input may have but a long report.
 const STEP: u64 = 1 << 27;
 
 const _: () = prove!(STEP == 134_217_728);
 
-/// A source that gives what another gives, and on a terminal tells a person how many bytes were read: each time that 128 MiB
-/// more were, and at the end of such a long input. A contract sees the other source alone.
+/// A source that passes on what another gives, and on a terminal reports how many bytes were read: after each further
+/// 128 MiB, and at the end of an input that long. Its contract as a source is that of the other one.
 #[derive(Drop)]
 pub struct Progress<'a, R: Eprint, S: Source + Drop> {
     rt: &'a R,
     source: S,
     on_terminal: bool,
-    // How many bytes were read, and of how many a person was told.
+    // How many bytes were read, and how many the last report said.
     read: u64,
     told: u64,
 }
 
 impl<'a, R: Eprint, S: Source + Drop> Progress<'a, R, S> {
-    /// A source of which nothing was read yet.
+    /// A source that nothing was read from yet.
     pub fn new(rt: &'a R, source: S, on_terminal: bool) -> Progress<'a, R, S>
         ensures { (result.source ≡ source) × (result.on_terminal ≡ on_terminal) × (result.read ≡ 0) × (result.told ≡ 0) }
     {
@@ -37,7 +37,7 @@ impl<'a, R: Eprint, S: Source + Drop> Progress<'a, R, S> {
         }
     }
 
-    // Counts bytes, and tells a person where that is due. That standard error fails changes nothing.
+    // Counts bytes, and reports them if that is due. If standard error fails, nothing changes.
     fn count(&mut self, bytes: usize)
         ensures read { self.new.read ≡ min (self.old.read + bytes) (2 ^ 64 - 1) }
         ensures told { self.new.told ≡ (if is_due self.new.read self.old.told bytes then self.new.read else self.old.told) }
@@ -67,7 +67,7 @@ impl<'a, R: Eprint, S: Source + Drop> Source for Progress<'a, R, S> {
         ensures kept { OnErr result (S.left self.new.source ≡ S.left self.old.source) }
         ensures counted { S.faults self.old.source ≤ S.faults self.new.source }
 
-        // On a terminal what is given is counted, and where it is due, a person was told of it.
+        // On a terminal the bytes given are counted, and reported if that is due.
         ensures noted { IfOk result (λ n. self.new.read ≡ (if self.old.on_terminal then min (self.old.read + n) (2 ^ 64 - 1) else self.old.read)) }
         ensures told { IfOk result (λ n. self.new.told ≡ (if self.old.on_terminal && is_due self.new.read self.old.told n then self.new.read else self.old.told)) }
         ensures unnoted { OnErr result ((self.new.read ≡ self.old.read) × (self.new.told ≡ self.old.told)) }

@@ -1,12 +1,11 @@
-// What a person is told on standard error.
+// What is reported to the user on standard error.
 ghost use Rattle.std.specs.Prelude.{◌≡◌};
 
 use crate::meanings::meaning_of_status;
 use rnlp_cli::ToolStatus;
 use std::alloc::AllocError;
 
-/// Tells a person the lines that were made; where no memory was left for them, what the status means. It hands the status on
-/// that it told.
+/// Reports the lines that were made, or, if memory ran out for them, what the status means. It gives back the status.
 pub fn explain(
     rt: &impl Eprint,
     status: ToolStatus,

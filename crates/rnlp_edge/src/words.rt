@@ -1,4 +1,4 @@
-// The words that the program was started with.
+// The words the program was started with.
 ghost use Rattle.std.specs.Prelude.{◌≡◌, ◌≢◌, ◌⊎◌, drop, IfOk, IfErr, IsOkAnd};
 
 use rnlp_cli::ToolStatus;
@@ -6,11 +6,11 @@ use std::env;
 use std::io::ErrorKind;
 use std::rt::Env;
 
-/// All that the program was started with, its name first. Which words an environment holds no contract can say.
+/// All that the program was started with, its name first. No contract can say which words an environment holds.
 ///
 /// # Errors
 ///
-/// What kept them from being had, as `InvalidData` where one is not UTF-8, or `OutOfMemory`.
+/// Why there are none: `InvalidData` if a word is not UTF-8, or `OutOfMemory`.
 pub fn given_words<R: Env + AllocGlobal>(rt: &R) -> Result<Vec<String>, ErrorKind> {
     match env::args(rt) {
         Ok(args) => match args.collect(rt.alloc()) {
@@ -21,11 +21,11 @@ pub fn given_words<R: Env + AllocGlobal>(rt: &R) -> Result<Vec<String>, ErrorKin
     }
 }
 
-/// Of all that the program was started with the words after its name.
+/// The words after the program's name, out of all that it was started with.
 ///
 /// # Errors
 ///
-/// The status where nothing is to be had: wrong words where one is not UTF-8, and else want of memory.
+/// The status if there are none: wrong words if one is not UTF-8, and otherwise out of memory.
 pub fn words_of(given: Result<Vec<String>, ErrorKind>) -> Result<Vec<String>, ToolStatus>
     ensures words { IfOk given (λ all. IsOkAnd result (λ words. words.items ≡ drop 1 all.items)) }
     ensures no_text { IfErr given (λ kind. kind ≡ ErrorKind.InvalidData → result ≡ Err ToolStatus.Words) }
@@ -49,7 +49,7 @@ fn behind_name(all: Vec<String>) -> Vec<String>
     words
 }
 
-// The status where the words cannot be had: those that are no UTF-8 are wrong.
+// The status if there are no words: words that are not UTF-8 are wrong.
 fn status_without_words(kind: ErrorKind) -> ToolStatus
     ensures no_text { kind ≡ ErrorKind.InvalidData → result ≡ ToolStatus.Words }
     ensures other { kind ≢ ErrorKind.InvalidData → result ≡ ToolStatus.NoMemory }

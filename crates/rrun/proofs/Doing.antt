@@ -1,4 +1,4 @@
--- What a seat may do of which nothing is pending: it holds what its section holds.
+-- What a seat may do while nothing of it is pending: it holds what its section holds.
 use Rattle.std.proofs.Common.{◌≡◌, ℕ, ◌==◌, nat_lt, Bool, true, false, cond, not, ◌&&◌, ◌||◌, Some, refl, sym, ap, subst, ◌∙◌, ◌⊎◌, inl, inr}
 use Rattle.std.proofs.lemmas.Bool.{true≢false, eq-eqb, or_parts, and_from, or_left, or_right}
 use Rattle.std.specs.Ordering.{nat_cmp}
@@ -29,7 +29,7 @@ use Rattle.rguard.specs.Seats.{SeatOf}
 use Rattle.rrun.specs.Working.{section_made, MayDo}
 use Rattle.rrun.proofs.Standing.{HalfFor, SetsFor, IsFor, Stands, none_in, stands}
 
--- the seat holds what the section holds; of an upgrade that has not risen, the one half or the other holds all of its set
+-- the seat holds what the section holds; for an upgrade that has not risen, one of the two halves holds all of its set
 abbrev pub Holds : Kind → OpenSection → Granted → Type 0
 Holds kinds.Read s g = g ≡ held_as kinds.Read s
 Holds kinds.Write s g = g ≡ held_as kinds.Write s
@@ -38,7 +38,7 @@ Holds kinds.Upgrade s g = ((s.risen ≡ false) × (g ≡ record { reads = s.requ
 Holds kinds.Nested s g = g ≡ held_as kinds.Nested s
 
 module _ (s : OpenSection) (x : Claimed) (some : is_nothing (held_by x) ≡ false) (none : (l : ℕ) → contains x.asked l ≡ false) where
-  -- what a claim that is not nested and holds something holds
+  -- what a claim holds that is not nested and holds something
   whole : is_nested x.claim.kind ≡ false → held_by x ≡ record { reads = x.claim.reads; writes = x.claim.writes }
   whole flat = at (is_satisfied x) refl
     where
@@ -69,7 +69,7 @@ module _ (s : OpenSection) (x : Claimed) (some : is_nothing (held_by x) ≡ fals
       held_of_nested x (ap is_nested is.kind_is)
       ∙ (λ i. record { reads = intersection (granted_is is i) (is.sets.0 i); writes = intersection (granted_is is i) (is.sets.1 i) })
 
--- what a seat holds that stands in the section and waits for nothing
+-- what a seat holds that is in the section and waits for nothing
 holds_by_section : (n : ℕ) (s : OpenSection) (lock : LockState) → IsReached lock → Stands n s lock → is_ready lock n ≡ true → Holds s.request.kind s (holds_of lock.claims n) × HeldBy lock.claims n
 holds_by_section n s lock reached stands ready = holding lock.claims n (each_alone lock reached) by_one (λ none. contrary (is_nothing (holds_of lock.claims n)) (is_nothing_of (holds_of lock.claims n) none) some.0)
   where

@@ -18,7 +18,7 @@ use Rattle.rrun.specs.Jobs.{IsDone, AreReady, AreDone}
 use Rattle.rrun.specs.Tasks.{AreSeatsFor}
 
 module _ {M : Type 0} where
-  -- one job more
+  -- one more job
   pub ended_more : (made : List (Ended M)) (now : List (Ended M)) (rest all old : List (Job (SeatOf Ledger Edit))) (job : Job (SeatOf Ledger Edit)) (seat : SeatOf Ledger Edit) → old ≡ job ∷ rest → job.seat ≡ Some seat
       → now ≡ made ++ record { seat = seat; stopped = job.stopped } ∷ [] → map (resting {M = M}) made ++ old ≡ all → map (resting {M = M}) now ++ rest ≡ all
   ended_more made now rest all old job seat next seat_is now_is was =

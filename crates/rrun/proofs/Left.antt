@@ -18,7 +18,7 @@ use Rattle.rrun.specs.Tasks.{AreSeatsFor, HasEnded}
 use Rattle.rrun.specs.Reporting.{HaveEnded}
 use Rattle.rrun.proofs.Ending.{less_from_slice_get}
 
--- what is so of an answer by two facts
+-- two facts about an answer give a third
 pub both_ok : {X Y : Type 0} (r : Result X Y) (P Q R : X → Type 0) → ((x : X) → P x → Q x → R x) → IfOk r P → IfOk r Q → IfOk r R
 both_ok (Ok x) P Q R so p q = so x p q
 both_ok (Err e) P Q R so p q = tt
@@ -27,7 +27,7 @@ module _ {M : Type 0} (site : Site) (p : ScriptFields) (seats : List (SeatOf Led
   many_left : length later ≡ length ended
   many_left = ap length left ∙ length-map ended (λ (e : Ended M). e.seat)
 
-  -- the task of which a seat is left
+  -- the task whose seat is left
   task_of : (k : ℕ) (last : SeatOf Ledger Edit) → slice_get later k ≡ Some last → (e : Ended M) × (slice_get ended k ≡ Some e) × (e.seat ≡ last)
   task_of k last there =
       let e = get_there ended k (subst (λ n. k < n) many_left (less_from_slice_get later k last there)) in
@@ -45,6 +45,6 @@ module _ {M : Type 0} (site : Site) (p : ScriptFields) (seats : List (SeatOf Led
       let same : e.0.stopped ≡ b = same_item e.0.stopped b (sym (ap (λ (bs : List Bool). slice_get bs k) flags ∙ get_map (λ (e : Ended M). e.stopped) ended k e.0 e.1) ∙ stopped_is) in
       subst (λ (b : Bool). HasEnded statements seat b last) same (subst (HasEnded statements seat e.0.stopped) e.2 (are.each k statements seat e.0 steps_is seat_is e.1))
 
--- where no task was stopped
+-- if no task was stopped
 pub not_stopped : (stopped : List Bool) (k : ℕ) (b : Bool) → list_any (λ (b : Bool). b) stopped ≡ false → slice_get stopped k ≡ Some b → b ≡ false
 not_stopped stopped k b none there = false_from b (λ h. true≢false (sym (any_here (λ (b : Bool). b) stopped k b there h) ∙ none))

@@ -111,7 +111,7 @@ module _ (p : ScriptFields) (script : IsScript p) (site : Site) (seats : List (S
     steps_within : (k : ℕ) (statements : List Statement) → slice_get p.steps k ≡ Some statements → k < length p.tasks
     steps_within k statements steps_is = subst (λ n. k < n) script.paired (less_from_slice_get p.steps k statements steps_is)
 
-    -- what became of a task
+    -- how a task ended
     went : (k : ℕ) → k < length p.tasks → (statements : List Statement) → slice_get p.steps k ≡ Some statements → (b : Bool) → slice_get stopped k ≡ Some b
         → (seat last : SeatOf Ledger Edit) → slice_get seats k ≡ Some seat → slice_get later k ≡ Some last → HasGone b statements seat last
     went k less statements steps_is b stopped_is seat last seat_is last_is = has_gone b statements seat last (ran k statements b seat last steps_is stopped_is seat_is last_is)
@@ -143,7 +143,7 @@ module _ (p : ScriptFields) (script : IsScript p) (site : Site) (seats : List (S
         let gone = went 0 some_task statements.0 statements.1 flag.0 flag.1 seat.0 last.0 seat.1 last.1 in
         (closed_at 0 last.0 last.1).left (beginning_of p) (gone.goes.same.2 ∙ opened.begins 0 seat.0 seat.1)
 
-    -- what each value is told to open with
+    -- what each value begins with
     told_of : (openings : ℕ → Ledger) → ((l : ℕ) (ledger : Ledger) → ledger ≡ opening_ledger → openings l ≡ ledger) → AreOpenings (IsListed (beginning_of p).values) openings
     told_of openings opens l value listed = opens l value (get_replicate (length p.resources) l opening_ledger value listed)
 
@@ -176,7 +176,7 @@ module _ (p : ScriptFields) (script : IsScript p) (site : Site) (seats : List (S
       };
     }
 
--- the run of a script of which no task was stopped
+-- the run of a script in which no task was stopped
 pub is_whole : (p : ScriptFields) (script : IsScript p) (stopped : List Bool) (r : ReportFields) → list_any (λ (b : Bool). b) stopped ≡ false → IsReportOfRun p stopped r → IsReportOf p r
 is_whole p script stopped r none run = record {
   head = run.is.head;

@@ -1,4 +1,4 @@
--- What the claims of a seat are while it is in a section, by its own entries: so after every lawful history.
+-- The claims of a seat while it is in a section, by its own entries; they are so after every lawful history.
 use Rattle.std.proofs.Common.{◌≡◌, ◌≢◌, ℕ, ◌==◌, nat_lt, Bool, true, false, cond, not, ◌&&◌, ◌||◌, List, [], ◌∷◌, ◌++◌, map, Option, Some, None, refl, sym, ap, subst, ◌∙◌, ◌⊎◌, inl, inr, append-nil, append_assoc}
 use Rattle.std.proofs.lemmas.Bool.{true≢false, eq-eqb, eqb-true, or_parts}
 use Rattle.std.proofs.lemmas.List.Sums.{fold-append}
@@ -47,7 +47,7 @@ use Rattle.rrun.specs.Working.{section_told, section_made}
 
 -- ---- a claim of a section
 
--- a half of an upgrade, and that which writes once it has risen
+-- a half of an upgrade, and the half that writes once it has risen
 abbrev pub HalfFor : Bool → Set → Claim → Type 0
 HalfFor risen reads c =
     ((risen ≡ false) × (c.write_half ≡ false) × (c.reads ≡ reads) × (c.writes ≡ empty)) ⊎ ((c.write_half ≡ true) × (c.reads ≡ empty) × (c.writes ≡ reads))
@@ -59,7 +59,7 @@ SetsFor kinds.Mixed risen reads writes c = (c.reads ≡ reads) × (c.writes ≡ 
 SetsFor kinds.Upgrade risen reads writes c = HalfFor risen reads c
 SetsFor kinds.Nested risen reads writes c = (c.reads ≡ reads) × (c.writes ≡ writes)
 
--- the claim is one of a section with a request of this kind that reads and writes this
+-- the claim belongs to a section with a request of this kind that reads and writes these sets
 pub record IsFor (kind : Kind) (risen : Bool) (reads writes asked : Set) (x : Claimed) : Type 0 where
   pub kind_is : x.claim.kind ≡ kind
   pub sets : SetsFor kind risen reads writes x.claim
@@ -88,7 +88,7 @@ module _ (kind : Kind) (risen : Bool) (reads writes asked : Set) where
     parts = λ nested l. (λ i. contains (same_granted i) l || contains (same_asked i) l) ∙ is.parts nested l;
   }
 
-  -- what it asks for comes to it, or not
+  -- what it asks for is granted, or not
   given_for : (xs : List Claimed) (x : Claimed) → For x → For (with_asked xs x)
   given_for xs x is = at (gets_asked xs x)
     where
@@ -116,7 +116,7 @@ module _ (kind : Kind) (risen : Bool) (reads writes asked : Set) where
       sets kinds.Upgrade (inr h) = inr h
       sets kinds.Nested h = h
 
-  -- it asks for a part more, where it asked for nothing
+  -- it asks for another part, where it was asking for nothing
   asked_for : (x : Claimed) (part : Set) → ((l : ℕ) → contains x.asked l ≡ false) → For x → IsFor kind risen reads writes (union asked part) (record x { asked = part })
   asked_for x part none is = record {
     kind_is = is.kind_is;
@@ -239,7 +239,7 @@ after_ask n part sec s reached comes was = record {
         not_both true b is h = h
         not_both false b is h = absurd (true≢false (sym is))
 
--- after an event of another
+-- after an event of another seat
 after_other : (n : ℕ) (sec : OpenSection) (s : LockState) (e : Event) → IsReached s → Comes s e → seat_of e ≢ n → Stands n sec s → Stands n sec (next s e)
 after_other n sec s e reached comes differ was = record {
   some = claim_next n (is_of n) (of_seat n) s e reached comes differ ∙ was.some;
@@ -283,11 +283,11 @@ module _ {V E : Type 0} (after : V → E → V) (taken : V → E → Bool) (numb
   abbrev Follows : List (EntryFields E) → EntryFields E → Type 0
   Follows = MayFollow after taken number b
 
-  -- the seat stands in the section that its own entries tell
+  -- the seat is in the section that its own entries say
   abbrev StandsBy : List (EntryFields E) → Type 0
   StandsBy entries = (sec : OpenSection) → section_made (entries_by maker n entries) ≡ Some sec → Stands n sec (lock_after b entries)
 
-  -- one own event more
+  -- one more own event
   own_event : (earlier : List (EntryFields E)) (e : Event) (told : Option OpenSection) → IsLawfulFrom after taken number b earlier → Comes (lock_after b earlier) e → seat_of e ≡ n
       → ((sec : OpenSection) → told ≡ Some sec → Stands n sec (lock_after b earlier)) → (sec : OpenSection) → section_told told e ≡ Some sec → Stands n sec (next (lock_after b earlier) e)
   own_event earlier (Issue k r) told lawful comes is was sec tells =

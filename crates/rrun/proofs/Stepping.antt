@@ -1,4 +1,4 @@
--- Each statement makes of a desk what it is to make.
+-- Each statement does to a desk what it should.
 use Rattle.std.proofs.Common.{◌≡◌, ℕ, Bool, true, false, not, ◌&&◌, List, [], ◌∷◌, ◌++◌, map, Option, Some, None, refl, sym, ap, subst, ◌∙◌}
 use Rattle.std.proofs.lemmas.List.{map-append}
 use Rattle.std.proofs.lemmas.List.Sums.{fold-append}
@@ -38,7 +38,7 @@ use Rattle.rrun.specs.Runs.{deed_of, deeds_next, entry_now}
 use Rattle.rrun.specs.Working.{section_told, section_made, guard_kind, IsIn, FitsAt}
 use Rattle.rrun.proofs.Doing.{may_do, upgrade_held}
 
--- the section after one entry more
+-- the section after one more entry
 made_push : (mine : List (EntryFields Edit)) (entry : EntryFields Edit) → section_made (mine ++ entry ∷ []) ≡ section_told (section_made mine) entry.event
 made_push mine entry = fold-append (λ (x : Option OpenSection) (e : EntryFields Edit). section_told x e.event) None mine (entry ∷ [])
 
@@ -49,7 +49,7 @@ first_kind kinds.Mixed = refl
 first_kind kinds.Upgrade = refl
 first_kind kinds.Nested = refl
 
--- the guard of an upgrade that has not risen, once it has
+-- the guard of an upgrade that had not risen, once it has risen
 risen_kind : (k : Kind) (risen : Bool) → guards.Rise ≡ guard_kind k risen → guards.Write ≡ guard_kind k true
 risen_kind kinds.Read risen h = absurd (differ h)
   where
@@ -64,7 +64,7 @@ risen_kind kinds.Nested risen h = absurd (differ h)
     differ h = cc
 
 module _ {M : Type 0} where
-  -- an act more
+  -- one more act
   pub acted : (before later : Guard Ledger M Edit) (section : OpenSection) (act : Act Edit) (s : Statement) → IsGuardOf section before → kind_of later ≡ kind_of before
       → fields_of later ≡ record (fields_of before) { acts = (fields_of before).acts ++ act ∷ [] }
       → deed_of act ≡ s → ((o : Option OpenSection) → section_next o s ≡ o) → ((ds : List Statement) → deeds_next ds s ≡ ds ++ s ∷ []) → ((n : ℕ) (ds : List Statement) → entry_now n ds s ≡ [])
@@ -81,7 +81,7 @@ module _ {M : Type 0} where
       }
 
   module _ (later : Guard Ledger M Edit) (lawful : HasSeenLawful value_after is_taken (λ (ledger : Ledger). ledger.balance) (fields_of later).seat) (own : HasSeenOwn (fields_of later).seat) where
-    -- the section of a seat that has made one entry more
+    -- the section of a seat that has made one more entry
     later_in : (seat : SeatOf Ledger Edit) (entry : EntryFields Edit) (section : OpenSection) (began : Beginning Ledger) (wait : WaitFields Ledger Edit) → seat.opening ≡ Some began → Goes seat (entry ∷ []) wait.seat → HasAwaited wait later
         → section_told (section_made seat.mine) entry.event ≡ Some section → IsNormal section.request → IsIn section (fields_of later).seat
     later_in seat entry section began wait opening goes awaited tells normal =
@@ -156,7 +156,7 @@ module _ {M : Type 0} where
         run = refl;
       }
 
--- ---- what a guard may do where a statement may stand
+-- ---- what a guard may do where a statement may come
 
 writable_kind : (k : Kind) (s : OpenSection) (l : ℕ) → FitsKind k s.request.reads s.request.writes → contains (held_as k s).writes l ≡ true → may_edit (guard_kind k s.risen) ≡ true
 writable_kind kinds.Read s l normal h = absurd (true≢false (sym h ∙ ap (λ (t : Set). contains t l) normal.1 ∙ contains_empty l))

@@ -1,4 +1,5 @@
--- The report of a run may be written: each act of its history carries out a statement of the script, whose amounts are such as a field may tell.
+-- The report of a run may be written: each act of its history carries out a statement of the script, whose amounts fit
+-- in a field.
 use Rattle.std.proofs.Common.{◌≡◌, ◌<◌, ◌^◌, ◌==◌, ℕ, zero, suc, Bool, true, false, List, [], ◌∷◌, ◌++◌, map, take, length, Option, Some, None, refl, sym, ap, subst, ◌∙◌, arith}
 use Rattle.std.proofs.lemmas.Bool.{eq-eqb}
 use Rattle.std.specs.List.{AllByRecursion}
@@ -38,7 +39,7 @@ use Rattle.rrun.specs.Runs.{Told, told_by, deed_of, deeds_next, entry_now, run_o
 
 -- ---- statements
 
--- the amount of a statement, if it has one, is one that a field may tell
+-- the amount of a statement, if it has one, fits in a field
 abbrev HasAmount : Statement → Type 0
 HasAmount (statement.Begin r) = Unit {0}
 HasAmount (statement.Edit place edit) = amount_of edit < 2 ^ 64
@@ -59,7 +60,7 @@ of_turns : (q : ℕ) (groups : List Set) (earlier ss : List Statement) → AllIn
 of_turns q groups earlier [] turns = tt
 of_turns q groups earlier (s ∷ ss) turns = (of_within q s turns.0.within, of_turns q groups (earlier ++ s ∷ []) ss turns.1)
 
--- ---- the entries that they make
+-- ---- the entries that statements make
 
 -- the same of all acts of an entry
 abbrev HasAmounts : Told → Type 0
@@ -115,7 +116,7 @@ entries_tellable : (entries : List (EntryFields Edit)) → AllByRecursion HasAmo
 entries_tellable [] has = tt
 entries_tellable (entry ∷ entries) has = (acts_tellable entry.acts has.0, entries_tellable entries has.1)
 
--- those of a task that has run, or of which a part was run
+-- the acts of a task that has run, or has run in part
 task_tellable : (b : Bool) (n : ℕ) (ss : List Statement) (entries : List (EntryFields Edit)) → AllByRecursion HasAmount ss → HasTold b n ss entries → AllByRecursion IsTellableEntry entries
 task_tellable false n ss entries all ran = entries_tellable entries (subst (AllByRecursion HasAmounts) (sym ran) (run_has n [] ss tt all))
 task_tellable true n ss entries all part =
@@ -149,7 +150,7 @@ module _ (p : ScriptFields) (script : IsScript p) (stopped : List Bool) (r : Rep
       let flag = get_there stopped k (subst (λ n. k < n) (sym run.count) less) in
       task_tellable flag.0 k statements.0 (entries_by (λ (entry : EntryFields Edit). seat_of entry.event) k r.entries) all (run.is.each k statements.0 statements.1 flag.0 flag.1)
 
-  -- and each entry is one of a task
+  -- and each entry belongs to a task
   amounts : AllByRecursion IsTellableEntry r.entries
   amounts = all_from IsTellableEntry r.entries (λ entry there.
       let k = seat_of entry.event in

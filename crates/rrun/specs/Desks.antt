@@ -25,7 +25,7 @@ module _ {M : Type 0} where
   seat_in (Idle seat) = seat
   seat_in (Busy guard) = (fields_of guard).seat
 
-  -- the acts of the open section that are not told yet
+  -- the acts of the open section that no entry has yet
   abbrev pub deeds_in : Desk M → List Statement
   deeds_in (Idle seat) = []
   deeds_in (Busy guard) = map deed_of (fields_of guard).acts
@@ -34,12 +34,12 @@ module _ {M : Type 0} where
   abbrev pub section_in : Desk M → Option OpenSection
   section_in desk = section_made (seat_in desk).mine
 
-  -- an idle desk has an idle seat, and a busy one the guard of its section
+  -- an idle desk has an idle seat, and a busy one has the guard of its section
   abbrev pub IsAt : Desk M → Type 0
   IsAt (Idle seat) = IsIdle seat × (section_made seat.mine ≡ None)
   IsAt (Busy guard) = (section : OpenSection) × IsGuardOf section guard
 
-  -- The statement is carried out: the seat goes on with what it makes
+  -- The statement is carried out: the seat goes on with the entries it makes
   pub record HasStepped (before : Desk M) (s : Statement) (later : Desk M) : Type 0 where
     pub is_at : IsAt later
     pub section : section_in later ≡ section_next (section_in before) s
@@ -48,14 +48,15 @@ module _ {M : Type 0} where
     pub goes : Goes (seat_in before) more (seat_in later)
     pub run : map told_by more ≡ entry_now (seat_in before).number (deeds_in before) s
 
--- it is not, and the section that is open, if one is, is broken off
+-- it is not carried out, and the section that is open, if any, is broken off
 pub record HasLeft (before later : SeatOf Ledger Edit) : Type 0 where
   pub idle : IsIdle later
   pub more : List (EntryFields Edit)
   pub goes : Goes before more later
   pub run : map told_by more ≡ broken_off before.number (section_made before.mine)
 
--- Behind the first statements: the seat has gone on with what they make, and the desk has the section and the acts that they leave
+-- After the first statements: the seat has gone on with the entries they make, and the desk has the section and the
+-- acts that they leave
 pub record IsBehind {M : Type 0} (seat : SeatOf Ledger Edit) (behind : List Statement) (ahead : List Statement) (desk : Desk M) : Type 0 where
   pub is_at : IsAt desk
   pub section : section_in desk ≡ section_after behind

@@ -1,4 +1,4 @@
--- What a run of the tasks leaves.
+-- What is left after a run of the tasks.
 use Rattle.std.specs.Prelude.{◌≡◌, ℕ, false, Some, List, length, slice_get}
 use Rattle.rlock.specs.Known.{Site}
 use Rattle.rvalue.specs.declared.ledger.Edit.{Edit}
@@ -11,7 +11,7 @@ use Rattle.rrun.specs.declared.jobs.Job.{Job}
 use Rattle.rrun.specs.declared.tasks.Ended.{Ended}
 use Rattle.rrun.specs.Tasks.{HasEnded}
 
--- a job that was not done
+-- a job that was not done yet
 abbrev pub waiting : SeatOf Ledger Edit → Job (SeatOf Ledger Edit)
 waiting seat = record { seat = Some seat; stopped = false }
 
@@ -20,7 +20,7 @@ module _ {M : Type 0} where
   abbrev pub resting : Ended M → Job (SeatOf Ledger Edit)
   resting ended = record { seat = Some ended.seat; stopped = ended.stopped }
 
-  -- What a run of the tasks leaves of the seats: each is idle at its runtime, and has run its task or a part of it
+  -- What a run leaves of the seats: each is idle at its runtime, and has run its task or a part of it
   pub record AreEnded (site : Site) (p : ScriptFields) (seats : List (SeatOf Ledger Edit)) (ended : List (Ended M)) : Type 0 where
     pub count : length ended ≡ length p.tasks
     pub seats_are : (k : ℕ) (e : Ended M) → slice_get ended k ≡ Some e → IsSeatFor site p k e.seat

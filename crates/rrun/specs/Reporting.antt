@@ -15,7 +15,8 @@ use Rattle.rrun.specs.GuardSeats.{SeatOf}
 use Rattle.rrun.specs.Runs.{IsRunOf, IsPartialRunOf}
 use Rattle.rrun.specs.Tasks.{AreSeatsFor, HasEnded}
 
--- how the runtime of a script begins: with what the script declares, a seat for each task, each of which may have a request, ledgers as they open, and nobody who watches
+-- how the runtime of a script begins: with what the script declares, a seat for each task, as many requests at once as
+-- there are tasks, fresh ledgers, and no watcher
 abbrev pub beginning_of : ScriptFields → Beginning Ledger
 beginning_of p = record {
   groups = record { q = length p.resources; groups = p.groups };
@@ -32,13 +33,13 @@ pub record HasOpened (p : ScriptFields) (site : Site) (seats : List (SeatOf Ledg
   pub begins : (k : ℕ) (seat : SeatOf Ledger Edit) → slice_get seats k ≡ Some seat → seat.opening ≡ Some (beginning_of p)
   pub nothing_made : (k : ℕ) (seat : SeatOf Ledger Edit) → slice_get seats k ≡ Some seat → seat.mine ≡ []
 
--- each of the seats has run its task, or where that was stopped a part of it
+-- each of the seats has run its task, or a part of it if the task was stopped
 abbrev pub HaveEnded : ScriptFields → List Bool → List (SeatOf Ledger Edit) → List (SeatOf Ledger Edit) → Type 0
 HaveEnded p stopped seats later =
     (k : ℕ) (statements : List Statement) (b : Bool) (seat last : SeatOf Ledger Edit) → slice_get p.steps k ≡ Some statements → slice_get stopped k ≡ Some b
     → slice_get seats k ≡ Some seat → slice_get later k ≡ Some last → HasEnded statements seat b last
 
--- the report tells what the script declares, with a cap of one request for each task
+-- the report says what the script declares, with a cap of one request for each task
 pub record TellsHeadOf (p : ScriptFields) (r : ReportFields) : Type 0 where
   pub resources : r.resources ≡ p.resources
   pub groups : r.groups ≡ record { q = length p.resources; groups = p.groups }
@@ -49,7 +50,8 @@ pub record TellsHeadOf (p : ScriptFields) (r : ReportFields) : Type 0 where
 abbrev pub Runs : Type 1
 Runs = ℕ → List Statement → List (EntryFields Edit) → Type 0
 
--- The report of a run in which each task has such entries: its history is lawful, and the ledgers are what the history makes
+-- The report of a run in which each task has such entries: its history is lawful, and the ledgers are what the history
+-- makes
 pub record IsReportBy (Ran : Runs) (p : ScriptFields) (r : ReportFields) : Type 0 where
   pub head : TellsHeadOf p r
   pub lawful : IsLawful (told_by r).head r.entries
@@ -61,12 +63,13 @@ pub record IsReportBy (Ran : Runs) (p : ScriptFields) (r : ReportFields) : Type 
 abbrev pub IsReportOf : ScriptFields → ReportFields → Type 0
 IsReportOf = IsReportBy IsRunOf
 
--- the entries of a task are the run of its statements, or where it was stopped a part of that, never the whole, whose last section is broken off without its acts
+-- the entries of a task are the run of its statements, or, if it was stopped, a part of that, never the whole, whose
+-- last section is broken off without its acts
 abbrev pub HasTold : Bool → Runs
 HasTold false = IsRunOf
 HasTold true = IsPartialRunOf
 
--- *The run of a script of which tasks may have been stopped*, with a truth value for each task, which says whether it was
+-- *The run of a script whose tasks may have been stopped*, with a truth value for each task that says whether it was
 pub record IsReportOfRun (p : ScriptFields) (stopped : List Bool) (r : ReportFields) : Type 0 where
   pub count : length stopped ≡ length p.tasks
   pub is : IsReportBy (λ k statements entries. (b : Bool) → slice_get stopped k ≡ Some b → HasTold b k statements entries) p r

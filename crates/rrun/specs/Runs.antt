@@ -13,12 +13,12 @@ use Rattle.rscript.specs.declared.statement.Statement.{Statement}
 use Rattle.rscript.specs.declared.statement.Statement.TheVariants as statement
 use Rattle.rguard.specs.Seats.{SeatOf, Goes}
 
--- the statement that an act carries out, whatever the answer that it got
+-- the statement that an act carries out, whatever answer it got
 abbrev pub deed_of : Act Edit → Statement
 deed_of (Edited place edit done) = statement.Edit place edit
 deed_of (Shown place number) = statement.Show place
 
--- an entry but for the answers: its event, and the statements that its acts carry out, in order
+-- an entry without its answers: its event, and the statements that its acts carry out, in order
 pub record Told : Type 0 where
   pub event : Event
   pub deeds : List Statement
@@ -28,7 +28,7 @@ told_by entry = record { event = entry.event; deeds = map deed_of entry.acts }
 
 -- ---- what statements make
 
--- the acts of a section that are not told yet, behind a statement: a rise and a finish tell them
+-- the acts of a section that no entry has yet, after a statement: a rise and a finish take them
 abbrev pub deeds_next : List Statement → Statement → List Statement
 deeds_next deeds (statement.Begin r) = []
 deeds_next deeds (statement.Edit place edit) = deeds ++ statement.Edit place edit ∷ []
@@ -37,7 +37,7 @@ deeds_next deeds (statement.Ask part) = deeds
 deeds_next deeds statement.Rise = []
 deeds_next deeds statement.Finish = []
 
--- the entry that a statement makes at a seat, if it makes one, with the acts that are not told yet
+-- the entry that a statement makes at a seat, if it makes one, with the acts that no entry has yet
 abbrev pub entry_now : ℕ → List Statement → Statement → List Told
 entry_now n deeds (statement.Begin r) = record { event = events.Issue n r; deeds = [] } ∷ []
 entry_now n deeds (statement.Edit place edit) = []
@@ -46,8 +46,8 @@ entry_now n deeds (statement.Ask part) = record { event = events.Ask n part; dee
 entry_now n deeds statement.Rise = record { event = events.Rise n; deeds = deeds } ∷ []
 entry_now n deeds statement.Finish = record { event = events.Finish n; deeds = deeds } ∷ []
 
--- The entries that statements make, where these acts are not told yet: an issue for a request, an ask for each ask, for a rise
--- the shows before it, and for a finish all acts since the rise or the beginning
+-- The entries that statements make, where no entry has these acts yet: an issue for a request, an ask for each ask, for
+-- a rise the shows before it, and for a finish all acts since the rise or the beginning
 abbrev pub run_of : ℕ → List Statement → List Statement → List Told
 run_of n deeds [] = []
 run_of n deeds (s ∷ statements) = entry_now n deeds s ++ run_of n (deeds_next deeds s) statements
@@ -56,12 +56,13 @@ run_of n deeds (s ∷ statements) = entry_now n deeds s ++ run_of n (deeds_next 
 abbrev pub IsRunOf : ℕ → List Statement → List (EntryFields Edit) → Type 0
 IsRunOf n statements entries = map told_by entries ≡ run_of n [] statements
 
--- the entry that ends a section which is broken off: a finish without acts
+-- the entry that ends a section that is broken off: a finish without acts
 abbrev pub broken_off : ℕ → Option OpenSection → List Told
 broken_off n None = []
 broken_off n (Some section) = record { event = events.Finish n; deeds = [] } ∷ []
 
--- *A partial run*: the entries are what the first statements make, and the end of the section that is open behind them. It is never the whole run: one statement at least was not carried out
+-- *A partial run*: the entries are what the first statements make, and the end of the section that is open after them.
+-- It is never the whole run: at least one statement was not carried out
 pub record IsPartialRunOf (n : ℕ) (statements : List Statement) (entries : List (EntryFields Edit)) : Type 0 where
   pub count : ℕ
   pub some : count < length statements

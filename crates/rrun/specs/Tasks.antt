@@ -1,4 +1,4 @@
--- Tasks of a script at a runtime: which seats may run them, and what they have then done.
+-- Tasks of a script at a runtime: which seats may run them, and what the seats have done then.
 use Rattle.std.specs.Prelude.{◌≡◌, ℕ, Bool, true, false, Some, List, length, slice_get}
 use Rattle.rlock.specs.Known.{Site}
 use Rattle.rvalue.specs.declared.ledger.Edit.{Edit}
@@ -14,7 +14,7 @@ pub record AreSeatsFor (site : Site) (p : ScriptFields) (seats : List (SeatOf Le
   pub count : length seats ≡ length p.tasks
   pub each : (k : ℕ) (seat : SeatOf Ledger Edit) → slice_get seats k ≡ Some seat → IsSeatFor site p k seat
 
--- a seat has run the statements, or where it was stopped a part of them, whose last section is broken off
+-- a seat has run the statements, or, if it was stopped, a part of them, whose last section is broken off
 abbrev pub HasEnded : List Statement → SeatOf Ledger Edit → Bool → SeatOf Ledger Edit → Type 0
 HasEnded statements seat false later = HasRun statements seat later
 HasEnded statements seat true later = HasBrokenOff statements seat later

@@ -1,4 +1,4 @@
--- What a seat is about while it carries out statements: the section that its own entries tell, and what it may do there.
+-- A seat while it carries out statements: the section it is in by its own entries, and what it may do there.
 use Rattle.std.specs.Prelude.{◌≡◌, ℕ, Bool, true, false, List, [], ◌∷◌, Option, Some, None, option_map, fold}
 use Rattle.rset.specs.Sets.{Set}
 use Rattle.rclaim.specs.Requests.{IsNormal}
@@ -56,19 +56,19 @@ module _ {V E : Type 0} where
 
 -- ---- statements that are carried out
 
--- a statement over q resources with these read groups may stand where this section is open
+-- a statement over q resources with these read groups may come where this section is open
 pub record FitsIn (q : ℕ) (groups : List Set) (section : Option OpenSection) (s : Statement) : Type 0 where
   pub within : IsWithin q s
   pub placed : is_there (where_of s) section ≡ true
   pub right : IsRight groups section s
 
--- the statements may stand from there on, one behind another, and the last section is closed
+-- the statements may come from there on, one after another, and the last section is closed
 abbrev pub AreWhole : ℕ → List Set → Option OpenSection → List Statement → Type 0
 AreWhole q groups section [] = section ≡ None
 AreWhole q groups section (s ∷ statements) = FitsIn q groups section s × AreWhole q groups (section_next section s) statements
 
 module _ {V E : Type 0} where
-  -- so it is over the resources and the groups of the seat's runtime
+  -- the same over the resources and the groups of the seat's runtime
   abbrev pub FitsAt : SeatOf V E → Option OpenSection → Statement → Type 0
   FitsAt seat section s = AsSeen seat (λ b. FitsIn b.groups.q b.groups.groups section s)
 

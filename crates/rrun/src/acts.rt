@@ -1,4 +1,4 @@
-//! What each statement makes of a desk.
+//! What each statement does to a desk.
 ghost use Rattle.std.specs.Prelude.{◌≡◌, None, IfOk, IfErr};
 ghost use Rattle.rguard.specs.Seats.{IsOf, IsIdle};
 ghost use Rattle.rguard.specs.Looks.{fields_of};
@@ -22,7 +22,7 @@ use std::sync::Wait;
 ///
 /// # Errors
 ///
-/// Want of memory. Nothing was issued then.
+/// Out of memory. Then nothing was issued.
 pub(crate) fn begin<'a, R: Wait, M: Machine, G: Pace>(
     rt: &R,
     alloc: Global,
@@ -53,7 +53,7 @@ pub(crate) fn begin<'a, R: Wait, M: Machine, G: Pace>(
 ///
 /// # Errors
 ///
-/// Want of memory. The section is broken off.
+/// Out of memory. The section is broken off.
 pub(crate) fn edit<'a, R: Wait, M: Machine>(
     rt: &R,
     alloc: Global,
@@ -77,7 +77,7 @@ pub(crate) fn edit<'a, R: Wait, M: Machine>(
 ///
 /// # Errors
 ///
-/// Want of memory. The section is broken off.
+/// Out of memory. The section is broken off.
 pub(crate) fn show<'a, R: Wait, M: Machine>(
     rt: &R,
     alloc: Global,
@@ -96,11 +96,11 @@ pub(crate) fn show<'a, R: Wait, M: Machine>(
     }
 }
 
-/// The nested section asks for a further part, and waits for it.
+/// The nested section asks for another part, and waits for it.
 ///
 /// # Errors
 ///
-/// Want of memory. The section is broken off.
+/// Out of memory. The section is broken off.
 pub(crate) fn ask<'a, R: Wait, M: Machine, G: Pace>(
     rt: &R,
     alloc: Global,
@@ -142,7 +142,7 @@ pub(crate) fn rise<'a, R: Wait, M: Machine, G: Pace>(
 ///
 /// # Errors
 ///
-/// Want of memory. The section is broken off.
+/// Out of memory. The section is broken off.
 pub(crate) fn finish<'a, R: Wait, M: Machine>(
     rt: &R,
     alloc: Global,

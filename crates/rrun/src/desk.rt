@@ -3,7 +3,7 @@ use rguard::{Guard, Seat};
 use rmodel::Machine;
 use rvalue::Ledger;
 
-/// A seat between two statements: idle, or in a section. It must be spent.
+/// A seat between two statements: idle, or in a section. It has to be used up.
 pub(crate) enum Desk<'a, M: Machine> {
     Idle(Seat<Ledger, M>),
     Busy(Guard<'a, Ledger, M>),

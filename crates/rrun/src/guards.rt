@@ -15,7 +15,7 @@ use rvalue::{Edit, Ledger};
 use std::alloc::{AllocError, Global};
 use std::sync::Wait;
 
-/// Lends the seat of a guard. What it has seen is lawful, and has just what it has made as its own entries.
+/// Borrows the seat of a guard. What the seat has seen is lawful, and its own entries there are just what it has made.
 pub(crate) fn seat_of<'g, 'a, M: Machine>(guard: &'g Guard<'a, Ledger, M>) -> &'g Seat<Ledger, M>
     ensures seat { result.now ≡ (fields_of guard.now).seat }
     ensures lawful { HasSeenLawful value_after is_taken (λ ledger. ledger.balance) (fields_of guard.now).seat }
@@ -29,12 +29,12 @@ pub(crate) fn seat_of<'g, 'a, M: Machine>(guard: &'g Guard<'a, Ledger, M>) -> &'
     }
 }
 
-/// Shows a resource that is held, and answers its number with the section's own edits. The show is one act more, behind the others; the guard is of
-/// the same kind, and its seat is as it was.
+/// Shows a resource that is held, and gives its number with the section's own edits. The guard has one more act, after
+/// the others; its kind and its seat are as they were.
 ///
 /// # Errors
 ///
-/// Want of memory. The guard is then as it was.
+/// Out of memory. The guard is then as it was.
 pub fn show<M: Machine>(
     alloc: Global,
     guard: &mut Guard<Ledger, M>,
@@ -54,12 +54,12 @@ pub fn show<M: Machine>(
     }
 }
 
-/// Edits a resource that is held for writing, by a guard that may edit, and answers whether the edit was taken. Taken or not, it is one act more,
-/// behind the others; the guard is of the same kind, and its seat is as it was.
+/// Edits a resource that is held for writing, by a guard that may edit, and answers whether the edit was taken. Taken
+/// or not, the guard has one more act, after the others; its kind and its seat are as they were.
 ///
 /// # Errors
 ///
-/// Want of memory. The guard is then as it was.
+/// Out of memory. The guard is then as it was.
 pub fn edit<M: Machine>(
     alloc: Global,
     guard: &mut Guard<Ledger, M>,
@@ -80,7 +80,8 @@ pub fn edit<M: Machine>(
     }
 }
 
-/// Ends the section without its acts. No memory is taken. The seat comes back idle, with the finish as one entry of its own more.
+/// Ends the section without its acts. No memory is taken. The seat comes back idle, with one more entry of its own, the
+/// finish.
 pub fn discard<'a, R: Wait, M: Machine>(rt: &R, guard: Guard<'a, Ledger, M>) -> Seat<Ledger, M>
     ensures goes { Goes (fields_of guard.entry).seat (bare (Finish (fields_of guard.entry).seat.number) ∷ []) result }
     ensures idle { IsIdle result }
@@ -93,11 +94,11 @@ pub fn discard<'a, R: Wait, M: Machine>(rt: &R, guard: Guard<'a, Ledger, M>) -> 
     }
 }
 
-/// Ends the section: its acts are told with the finish. The seat comes back idle, with this as one entry of its own more.
+/// Ends the section; the finish has its acts. The seat comes back idle, with one more entry of its own, the finish.
 ///
 /// # Errors
 ///
-/// Want of memory. The section is ended without its acts then, and the seat comes back idle.
+/// Out of memory. Then the section is ended without its acts, and the seat comes back idle.
 pub fn finish<'a, R: Wait, M: Machine>(
     rt: &R,
     alloc: Global,

@@ -1,4 +1,4 @@
-//! A task with its seat, and how all of them are done.
+//! A task with its seat, and how all tasks are run.
 ghost use Rattle.std.specs.Prelude.{◌≡◌, ◌<◌, Some, List, length, slice_get};
 ghost use Rattle.rrun.specs.Statement.{Statement};
 ghost use Rattle.rrun.specs.Jobs.{IsReady, IsDone, AreReady, AreDone};
@@ -21,7 +21,7 @@ pub(crate) struct Job<P> {
     pub(crate) stopped: bool,
 }
 
-/// The job of a seat of a runtime.
+/// A job with a seat of a runtime.
 pub(crate) type Task<M> = Job<Seat<Ledger, M>>;
 
 /// Does a job: the sections of its task, one after another.
@@ -52,7 +52,8 @@ fn work<R: Wait, M: Machine, G: Pace>(
     }
 }
 
-/// Does all jobs. It asks for a thread for each; how many there are is not said, and where none can be made they are done one after another.
+/// Does all jobs. It asks for a thread for each. How many there are is not said; if no thread can be made, the jobs are
+/// done one after another.
 pub(crate) fn work_all<R: Threads + Wait + Sync, M: Machine, G: Pace>(
     rt: &R,
     alloc: Global,

@@ -1,10 +1,7 @@
-//! The run of a script: the tasks at a runtime of its own, and the report of what happened.
-//!
-//! What a section of a script does, whatever the kind of its guard.
-//!
-//! The sections of a script's task, carried out one after another with the seat of the task.
-//!
-//! The tasks of a script, carried out on threads at one runtime.
+//! The run of a script. [`run_script`] runs its tasks on threads at a runtime of its own, and gives the report of what
+//! happened; [`run_all`] does so where tasks may be stopped. [`run_tasks`] and [`run_section`] run the tasks, or one
+//! section of a task, at a runtime that is passed in. A [`Pace`] is called where a worker has begun a section or still
+//! waits.
 #![tactic(auto)]
 
 mod acts;

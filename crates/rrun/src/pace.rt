@@ -1,11 +1,11 @@
-//! Where a run tells how it gets on.
+//! How a run reports its progress.
 
-/// Is told by the workers of a run where they are. It answers nothing, and each call has to end by itself.
+/// The workers of a run call this to say where they are. It answers nothing, and each call has to return by itself.
 pub trait Pace: Sync {
     /// The section number `k` of a task, counted from 0, has what it waited for, and has done nothing yet.
     fn section(&self, task: u8, k: u64);
 
-    /// A worker has looked, and waits still.
+    /// A worker has looked, and still waits.
     fn turn(&self);
 }
 

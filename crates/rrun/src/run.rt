@@ -34,17 +34,17 @@ pub struct Run {
     pub report: Report,
     /// The receipt of the report's history.
     pub receipt: Receipt<Edit>,
-    /// Of each task, by number, whether its worker found no memory: the section in which it was is broken off then, and those
-    /// behind it were not begun.
+    /// For each task, by number, whether its worker ran out of memory: then the section it was in is broken off, and
+    /// the later ones were not begun.
     pub stopped: Vec<bool>,
 }
 
-/// Runs a script at a runtime of its own: makes it, runs the tasks, closes it, and gives the report of what happened. Where the
-/// worker of a task finds no memory, that task is stopped, and the others go on to their ends.
+/// Runs a script at a runtime of its own: makes it, runs the tasks, closes it, and gives the report of what happened. A
+/// task whose worker runs out of memory is stopped, and the others go on to their ends.
 ///
 /// # Errors
 ///
-/// Want of memory for the run itself.
+/// Out of memory for the run itself.
 pub fn run_all<R: Threads + Wait + Sync, G: Pace>(
     rt: &R,
     alloc: Global,
@@ -67,7 +67,7 @@ pub fn run_all<R: Threads + Wait + Sync, G: Pace>(
 ///
 /// # Errors
 ///
-/// Want of memory, of the run itself or of one of its tasks.
+/// Out of memory, for the run itself or for one of its tasks.
 pub fn run_script<R: Threads + Wait + Sync, G: Pace>(
     rt: &R,
     alloc: Global,
@@ -85,7 +85,7 @@ pub fn run_script<R: Threads + Wait + Sync, G: Pace>(
     }
 }
 
-// The report and the receipt of a run of which no task was stopped.
+// The report and the receipt of a run in which no task was stopped.
 fn whole(run: Run) -> Result<(Report, Receipt<Edit>), AllocError>
     ensures none { IfOk result (λ _. list_any (λ b. b) run.stopped.items ≡ false) }
     ensures same { IfOk result (λ r. (r.0 ≡ run.report) × (r.1 ≡ run.receipt)) }
@@ -102,14 +102,14 @@ fn whole(run: Run) -> Result<(Report, Receipt<Edit>), AllocError>
     }
 }
 
-// Whether one of them is.
+// Whether any of them is true.
 fn is_any(all: &[bool]) -> bool
     ensures { result ≡ list_any (λ b. b) all.now }
 {
     all.iter().any(|one| *one)
 }
 
-// A runtime over what the script declares, at which nothing was done, with a seat for each task.
+// A runtime over what the script declares, where nothing was done yet, with a seat for each task.
 fn open(alloc: Global, script: &Script) -> Result<Opened<Plain>, AllocError>
     ensures { IfOk result (λ r. HasOpened script.now r.0 r.1.items) }
 {
@@ -122,7 +122,7 @@ fn open(alloc: Global, script: &Script) -> Result<Opened<Plain>, AllocError>
     Ok((rnlp, all))
 }
 
-// Runs all tasks, and gives their seats, and which of them were stopped.
+// Runs all tasks; gives their seats, and which of them were stopped.
 fn left_behind<R: Threads + Wait + Sync, M: Machine, G: Pace>(
     rt: &R,
     alloc: Global,
@@ -147,7 +147,7 @@ fn left_behind<R: Threads + Wait + Sync, M: Machine, G: Pace>(
     }
 }
 
-// Which of the tasks were stopped, in room that was made.
+// Which of the tasks were stopped, in a list with enough room.
 fn stopped_of<M: Machine>(all: &[Ended<M>], room: Vec<bool>) -> Vec<bool>
     requires empty { room.items ≡ [] }
     requires room { length all.now ≤ vec_capacity room }
@@ -160,7 +160,7 @@ fn stopped_of<M: Machine>(all: &[Ended<M>], room: Vec<bool>) -> Vec<bool>
     stopped
 }
 
-// The seats of the tasks, in room that was made.
+// The seats of the tasks, in a list with enough room.
 fn seats_of<M: Machine>(all: Vec<Ended<M>>, room: Vec<Seat<Ledger, M>>) -> Vec<Seat<Ledger, M>>
     requires empty { room.items ≡ [] }
     requires room { length all.items ≤ vec_capacity room }
@@ -174,7 +174,7 @@ fn seats_of<M: Machine>(all: Vec<Ended<M>>, room: Vec<Seat<Ledger, M>>) -> Vec<S
     seats
 }
 
-// The run that a runtime which was closed leaves.
+// The run that a closed runtime leaves.
 fn run_of(
     alloc: Global,
     script: &Script,
@@ -214,7 +214,7 @@ fn run_of(
     }
 }
 
-// What a report has beside its history.
+// What a report has besides its history.
 #[derive(Drop)]
 struct ReportHead {
     resources: NameTable,
@@ -223,7 +223,7 @@ struct ReportHead {
     ledgers: Vec<Ledger>,
 }
 
-// What the script declares, and the ledgers of which these are shares.
+// What the script declares, and the ledgers that are shared here.
 fn head_of(
     alloc: Global,
     script: &Script,
@@ -244,7 +244,7 @@ fn head_of(
     })
 }
 
-// The ledgers of which these are shares.
+// The ledgers that are shared here.
 fn ledgers_of(alloc: Global, values: &[Arc<Ledger, Global>]) -> Result<Vec<Ledger>, AllocError>
     ensures { IfOk result (λ ledgers. ledgers.items ≡ map arc_value values.now) }
 {

@@ -15,11 +15,12 @@ use rvalue::Ledger;
 use std::alloc::{AllocError, Global};
 use std::sync::Wait;
 
-/// Runs the section number `k` of a task, counted from 0, with the seat of the task; where the task has no such section, nothing.
+/// Runs the section number `k` of a task, counted from 0, with the seat of the task; does nothing if the task has no
+/// such section.
 ///
 /// # Errors
 ///
-/// Want of memory. The section is broken off where it was begun, and the seat is idle.
+/// Out of memory. The section is broken off if it was begun, and the seat is idle.
 pub fn run_section<R: Wait, M: Machine, G: Pace>(
     rt: &R,
     alloc: Global,
@@ -43,7 +44,7 @@ pub fn run_section<R: Wait, M: Machine, G: Pace>(
     run_steps(rt, alloc, rnlp, seat, section, at, pace)
 }
 
-// The statements behind the first `k` sections.
+// The statements after the first `k` sections.
 fn behind_sections(steps: &[Statement], k: u64) -> &[Statement]
     ensures { result.now ≡ behind_sections k steps.now }
 {

@@ -19,7 +19,7 @@ use std::sync::Wait;
 ///
 /// # Errors
 ///
-/// Want of memory. The section in which it came is broken off, and the seat is idle.
+/// Out of memory. The section it happened in is broken off, and the seat is idle.
 pub(crate) fn run_steps<R: Wait, M: Machine, G: Pace>(
     rt: &R,
     alloc: Global,
@@ -55,7 +55,7 @@ pub(crate) fn run_steps<R: Wait, M: Machine, G: Pace>(
 ///
 /// # Errors
 ///
-/// Want of memory. The section is broken off.
+/// Out of memory. The section is broken off.
 fn step<'a, R: Wait, M: Machine, G: Pace>(
     rt: &R,
     alloc: Global,

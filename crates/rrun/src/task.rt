@@ -18,7 +18,7 @@ use std::sync::Wait;
 ///
 /// # Errors
 ///
-/// Want of memory. The section in which it came is broken off, those behind it are not begun, and the seat is idle.
+/// Out of memory. The section it happened in is broken off, later ones are not begun, and the seat is idle.
 pub fn run_task<R: Wait, M: Machine, G: Pace>(
     rt: &R,
     alloc: Global,

@@ -18,16 +18,17 @@ use std::thread::Threads;
 pub struct Ended<M: Machine> {
     /// Its seat, which is idle.
     pub seat: Seat<Ledger, M>,
-    /// Whether its worker found no memory. The section in which it was is broken off then, and those behind it were not begun.
+    /// Whether its worker ran out of memory. Then the section it was in is broken off, and the later ones were not
+    /// begun.
     pub stopped: bool,
 }
 
-/// Runs the tasks of a script at a runtime over what the script declares: each with the seat of its number. It asks for a thread for each; how
-/// many there are is not said, and where none can be made the tasks are run one after another.
+/// Runs the tasks of a script at a runtime over what the script declares, each with the seat of its number. It asks for
+/// a thread for each. How many there are is not said; if no thread can be made, the tasks are run one after another.
 ///
 /// # Errors
 ///
-/// Want of memory for the run itself. No section was begun then, and the seats come back as they were.
+/// Out of memory for the run itself. Then no section was begun, and the seats come back as they were.
 pub fn run_tasks<R: Threads + Wait + Sync, M: Machine, G: Pace>(
     rt: &R,
     alloc: Global,
@@ -52,7 +53,7 @@ pub fn run_tasks<R: Threads + Wait + Sync, M: Machine, G: Pace>(
     Ok(ended_of(jobs, ended))
 }
 
-// A job for each seat, in room that was made.
+// A job for each seat, in a list with enough room.
 fn jobs_of<M: Machine>(seats: Vec<Seat<Ledger, M>>, room: Vec<Task<M>>) -> Vec<Task<M>>
     requires empty { room.items ≡ [] }
     requires room { length seats.items ≤ vec_capacity room }
@@ -68,7 +69,7 @@ fn jobs_of<M: Machine>(seats: Vec<Seat<Ledger, M>>, room: Vec<Task<M>>) -> Vec<T
     jobs
 }
 
-// What has become of the jobs, in room that was made.
+// How the jobs ended, in a list with enough room.
 fn ended_of<M: Machine>(jobs: Vec<Task<M>>, room: Vec<Ended<M>>) -> Vec<Ended<M>>
     requires there { All (λ job. IsSome job.seat) jobs.items }
     requires empty { room.items ≡ [] }

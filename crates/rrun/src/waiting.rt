@@ -10,8 +10,9 @@ use rmodel::Machine;
 use rvalue::Ledger;
 use std::sync::Wait;
 
-/// Looks and rests until the wait is over, and tells the pace of each look after which it is not. The guard is of the kind that the wait is for, at
-/// its runtime and with its acts. Its seat has made no entry more, nothing of it is pending, and what it has seen is lawful.
+/// Looks and rests until the wait is over, and calls `turn` of the pace after each look that did not end it. The guard
+/// is of the kind that is waited for, at its runtime and with its acts. Its seat has made no further entry, nothing of
+/// it is pending, and what it has seen is lawful.
 pub fn wait_for_guard<'a, R: Wait, M: Machine, G: Pace>(
     rt: &R,
     pending: Pending<'a, Ledger, M>,

@@ -100,7 +100,7 @@ open_after : (section : Option OpenSection) (ns : List RequestNeeds) (ss : List 
 open_after section ns [] h = h
 open_after section ns (s ∷ ss) h = open_after (section_next section s) (with_next ns s) ss (stays_open section ns s h)
 
--- ---- one task among the others
+-- ---- one task of several
 
 request_put : (ts : Needs) (t : ℕ) (ns : List RequestNeeds) (r : RequestFields) → t < length ts → with_request (set ts t ns) t r ≡ set ts t (ns ++ record { request = r; asks = [] } ∷ [])
 request_put [] t ns r h = absurd (omega arith)
@@ -120,7 +120,7 @@ statement_put ts t ns (statement.Ask part) h = ask_put ts t ns part h
 statement_put ts t ns statement.Rise h = refl
 statement_put ts t ns statement.Finish h = refl
 
--- of the task, just what its first statements need was put beside what was needed at first
+-- for the task, just what its first statements need was added to what was needed at first
 pub record HasPut (first now : TaskNeeds) (task : ℕ) (ss : List Statement) (i : ℕ) : Type 0 where
   pub is : now ≡ record first { tasks = set first.tasks task (requests_in (take i ss)) }
 
@@ -141,7 +141,7 @@ puts_more first now then task ss i s less at within so is = record {
 pub puts_all : (first now : TaskNeeds) (task : ℕ) (ss : List Statement) (i : ℕ) → length ss ≤ i → HasPut first now task ss i → now ≡ record first { tasks = set first.tasks task (requests_in ss) }
 puts_all first now task ss i all so = so.is ∙ ap (λ xs. record first { tasks = set first.tasks task (requests_in xs) }) (take_all i ss all)
 
--- ---- a statement of a task may come behind those before it
+-- ---- a statement of a task may come after those before it
 
 fits_at : (q : ℕ) (groups : List Set) (earlier ss : List Statement) (i : ℕ) (d : Statement) → AllInTurn (FitsBehind q groups) earlier ss → i < length ss → FitsBehind q groups (earlier ++ take i ss) (get_or ss i d)
 fits_at q groups earlier [] i d all h = absurd (omega arith)
@@ -201,7 +201,7 @@ filled_later i [] = refl
 filled_later zero (ss ∷ steps) = refl
 filled_later (suc i) (ss ∷ steps) = filled_later i steps
 
--- what the first tasks of a script need was put
+-- what the first tasks of a script need was added
 pub record HasFilled (now : TaskNeeds) (p : ScriptFields) (i : ℕ) : Type 0 where
   pub is : now ≡ record (needs_of p) { tasks = filled i p.steps }
 

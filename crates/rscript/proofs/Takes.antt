@@ -1,4 +1,4 @@
--- What a reader knows once it has taken a record.
+-- What a reader knows after it has taken a record.
 use Rattle.std.proofs.Common.{◌≡◌, ℕ, suc, ◌≤◌, Bool, true, false, not, ◌&&◌, ◌==◌, codes, List, [], ◌∷◌, ◌++◌, length, Option, Some, None, refl, sym, ap, subst, ◌∙◌, arith, true≢false}
 use Rattle.std.proofs.lemmas.Bool.Decides.{nat_tests}
 use Rattle.std.proofs.lemmas.List.{append-nil}
@@ -40,7 +40,7 @@ use Rattle.rscript.specs.declared.reading.ScriptReader.{ScriptReader}
 
 -- ---- what a record says
 
--- the fields of a record of this word name what is declared and count, and this is what they say
+-- the fields of a record of this word name what is declared, its numbers are numbers, and this is what they say
 record Says (resources : List (List ℕ)) (w : ScriptWord) (row : Row) (line : Line) : Type 0 where
   pub known : all_known (names_of resources) (fields_of w) row ≡ true
   pub counted : all_counted (fields_of w) row ≡ true
@@ -122,7 +122,7 @@ not_zero n m e h = grind (arith, nat_tests)
 both_none : (xs ys : List (Option ScriptCode)) → first_of xs ≡ None → first_of ys ≡ None → first_of (xs ++ ys) ≡ None
 both_none xs ys p q = first_of-append xs ys ∙ ap (λ (o : Option ScriptCode). or_else o (first_of ys)) p ∙ q
 
--- a set that is not empty is of some resource
+-- a set that is not empty has some resource
 pub some_below : (q : ℕ) (set : Set) → all_below q set ≡ true → (set ≡ empty → ⊥) → 1 ≤ q
 some_below q set below some = let m = some_member set some in let low = all_below_at q set below m.0 m.1 in omega arith
 

@@ -1,4 +1,4 @@
--- The statements of each task of a script, for those who run it.
+-- The statements of each task of a script, for code that runs it.
 use Rattle.std.proofs.Common.{◌≡◌, ℕ, zero, suc, List, [], ◌∷◌, ◌++◌, length, Some, sym, subst, append_assoc}
 use Rattle.std.proofs.lemmas.List.{append-nil}
 use Rattle.std.specs.Prelude.{slice_get}
@@ -19,7 +19,7 @@ at_place P (y ∷ xs) (suc k) x all is = at_place P xs k x all.1 is
 pub task_at : (p : ScriptFields) (k : ℕ) (statements : List Statement) → IsScript p → slice_get p.steps k ≡ Some statements → IsTask (length p.resources) p.groups statements
 task_at p k statements h is = at_place (IsTask (length p.resources) p.groups) p.steps k statements h.each is
 
--- each of them may stand behind those before it
+-- each of them may come after those before it
 pub fits_at : (q : ℕ) (groups : List Set) (earlier before : List Statement) (s : Statement) (rest : List Statement) → AllInTurn (FitsBehind q groups) earlier (before ++ s ∷ rest) → FitsBehind q groups (earlier ++ before) s
 fits_at q groups earlier [] s rest turns = subst (λ (xs : List Statement). FitsBehind q groups xs s) (sym (append-nil earlier)) turns.0
 fits_at q groups earlier (x ∷ before) s rest turns =

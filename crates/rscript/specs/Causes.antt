@@ -1,4 +1,5 @@
--- What is wrong with what a record declares, with its fields, and with what they say, in the order of the codes. What was said before is handed in.
+-- What is wrong with what a record declares, with its fields, and with what they say, in the order of the codes. What
+-- was said before is an argument.
 use Rattle.std.specs.Prelude.{ℕ, not, ◌==◌, List, [], ◌∷◌, length, Option, Some, None, option_map}
 use Rattle.std.specs.FinSet.{len}
 use Rattle.rset.specs.Sets.{Set}
@@ -22,12 +23,12 @@ use Rattle.rscript.specs.declared.code.ScriptCode.TheVariants.{BadName, Repeated
 
 -- ---- what is declared
 
--- the read groups so far: none, before they are made
+-- the read groups so far; none until they are made
 abbrev pub groups_in : Option ReadGroups → List Set
 groups_in None = []
 groups_in (Some groups) = groups.groups
 
--- what is wrong with a name that is declared behind these, of which there may be so many
+-- what is wrong with a name that is declared after these, where there is a limit on how many there may be
 abbrev pub name_causes : ℕ → List (List ℕ) → List ℕ → List (Option ScriptCode)
 name_causes limit names name = when (not (is_name name)) BadName ∷ when (knows names name) Repeated ∷ when (length names == limit) TooMany ∷ []
 
@@ -56,7 +57,7 @@ line_causes groups section (HasGroup group) = when (len group == 0) EmptyGroup �
 line_causes groups section (Does done) = statement_causes groups section done
 line_causes groups section _ = []
 
--- the same, of a record whose fields say this, if they say something
+-- the same for a record whose fields say this, if they say something
 abbrev pub meant_causes : List Set → Option OpenSection → Option Line → List (Option ScriptCode)
 meant_causes groups section None = Some BadNumber ∷ []
 meant_causes groups section (Some line) = line_causes groups section line

@@ -3,7 +3,7 @@ use Rattle.std.specs.Prelude.{ℕ}
 use Rattle.rscript.specs.declared.code.ScriptCode.{ScriptCode}
 use Rattle.rscript.specs.declared.code.ScriptCode.TheVariants.{BadField, BadOrder, NoResources, NoTask, BadName, Repeated, TooMany, UnknownName, BadNumber, EmptyGroup, EmptyRequest, Undeclared, FirstOutside, NotHeld, NotWritable, NoEnd}
 
--- the number of a code, as users are told it
+-- the number of a code, as users see it
 abbrev pub code_number : ScriptCode → ℕ
 code_number BadName = 1
 code_number Repeated = 2

@@ -1,4 +1,4 @@
--- What is wrong with a record, told from it and from what the records before it have said.
+-- What is wrong with a record, from the record and what the records before it have said.
 use Rattle.std.specs.Prelude.{ℕ, Bool, true, false, not, ◌&&◌, ◌==◌, nat_le, List, [], ◌∷◌, ◌++◌, length, fold, Option, Some, None}
 use Rattle.rset.specs.declared.TheConstants.{RESOURCES, SEATS}
 use Rattle.rexpand.specs.declared.TheConstants.{GROUPS}
@@ -19,7 +19,7 @@ use Rattle.rscript.specs.SoFar.{SoFar, section_of, nothing_yet, with_row}
 
 -- ---- places
 
--- a record of this word may come behind the place of the last one, where this section is open
+-- a record of this word may come after the place of the last one, where this section is open
 abbrev pub stands_at : ℕ → Option OpenSection → ScriptWord → Bool
 stands_at last section w = nat_le (stands w).least last && nat_le last (stands w).most && is_there (stands w).inside section
 
@@ -39,7 +39,7 @@ is_end _ = false
 
 -- ---- what is declared
 
--- what is wrong with what a record of this word declares: the name in its second field, or a group more than there may be
+-- what is wrong with what a record of this word declares: the name in its second field, or one group too many
 abbrev pub declared_causes : SoFar → ScriptWord → Row → List (Option ScriptCode)
 declared_causes s word.Resource row = name_causes RESOURCES s.resources (field_of row 1)
 declared_causes s word.Task row = name_causes SEATS s.tasks (field_of row 1)
@@ -48,7 +48,7 @@ declared_causes s _ row = []
 
 -- ---- codes
 
--- what is wrong with a record of this word that may stand there, in the codes' order
+-- what is wrong with a record of this word that may come there, in the order of the codes
 abbrev pub placed_causes : SoFar → Row → ScriptWord → List (Option ScriptCode)
 placed_causes s row w =
     when (needs_resources w && is_nil s.resources) NoResources

@@ -23,7 +23,7 @@ pub data Line : Type 0 where
   Does : Statement → Line
   Ends : Line
 
--- the names that a script's fields may name: its resources
+-- the names that a script's fields may use: its resources
 abbrev pub names_of : List (List ℕ) → Names
 names_of resources = record { resources = resources; tasks = [] }
 
@@ -51,7 +51,7 @@ line_by word.Rise v = Does statement.Rise
 line_by word.Finish v = Does statement.Finish
 line_by word.End v = Ends
 
--- the word of the record that tells a statement
+-- the word of the record that says a statement
 abbrev pub statement_word : Statement → ScriptWord
 statement_word (statement.Begin r) = word.Begin r.kind
 statement_word (statement.Edit place (edit.Add n)) = word.Add

@@ -27,7 +27,7 @@ requests_in (statement.Ask part ∷ statements) = requests_in statements
 requests_in (statement.Rise ∷ statements) = requests_in statements
 requests_in (statement.Finish ∷ statements) = requests_in statements
 
--- *What a script needs*: over its groups, of each task by number what its statements need
+-- *What a script needs*: over its groups, for each task by number what its statements need
 abbrev pub needs_of : ScriptFields → TaskNeeds
 needs_of p = record { groups = record { q = length p.resources; groups = p.groups }; tasks = map requests_in p.steps }
 
@@ -35,7 +35,7 @@ needs_of p = record { groups = record { q = length p.resources; groups = p.group
 abbrev pub none_yet : ScriptFields → TaskNeeds
 none_yet p = record { groups = record { q = length p.resources; groups = p.groups }; tasks = none_needed (length p.tasks) }
 
--- ---- one statement more
+-- ---- one more statement
 
 -- what tasks need where a task goes on with a statement
 abbrev pub with_statement : Needs → ℕ → Statement → Needs
@@ -46,7 +46,7 @@ with_statement needs task (statement.Ask part) = with_ask needs task part
 with_statement needs task statement.Rise = needs
 with_statement needs task statement.Finish = needs
 
--- over q resources a statement may come behind these requests of its task: what it asks for belongs to a nested one
+-- over q resources a statement may come after these requests of its task: an ask needs a nested request before it
 abbrev pub GoesOn : ℕ → List RequestNeeds → Statement → Type 0
 GoesOn q ns (statement.Begin r) = IsTrue (all_below q r.reads) × IsTrue (all_below q r.writes)
 GoesOn q ns (statement.Edit place edit) = Unit {0}

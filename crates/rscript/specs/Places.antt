@@ -1,4 +1,4 @@
--- Places: where the last line stands, in the order in which lines may stand.
+-- Places: where the last line is, in the order in which lines may come.
 use Rattle.std.specs.Prelude.{ℕ}
 use Rattle.rscript.specs.declared.place.Stand.{Stand}
 use Rattle.rscript.specs.declared.place.Where.TheVariants.{Outside, Inside, InNested, BeforeRise}
@@ -17,14 +17,14 @@ at_resources = 2
 abbrev pub at_groups : ℕ
 at_groups = 3
 
--- behind a task, and behind its statements
+-- after a task, and after its statements
 abbrev pub at_tasks : ℕ
 at_tasks = 4
 
 abbrev pub at_end : ℕ
 at_end = 5
 
--- where a record of a word may stand
+-- where a record of a word may come
 abbrev pub stands : ScriptWord → Stand
 stands word.Version = record { least = at_start; most = at_start; inside = Outside }
 stands word.Resource = record { least = at_version; most = at_resources; inside = Outside }

@@ -1,4 +1,4 @@
--- What a reader of a script knows of the records that it took.
+-- What a reader of a script knows about the records it has taken.
 use Rattle.std.specs.Prelude.{◌≡◌, ◌≤◌, Bool, true, false, List, [], ◌∷◌, ◌++◌, length, map, Option, Some, None, IfSome}
 use Rattle.std.specs.declared.vec.Vec.{Vec}
 use Rattle.std.specs.declared.alloc.Global.{Global}
@@ -38,7 +38,7 @@ pub record Knows (reader : ScriptReader) (s : SoFar) : Type 0 where
   pub section : reader.section ≡ section_of s.latest
   pub task : s.last ≡ at_tasks → is_nil s.tasks ≡ false
 
--- one statement more of the latest task is kept, and the section that is open behind it
+-- one more statement of the latest task is kept, and the section that is open after it
 pub record Adds (old new : ScriptReader) (s : Statement) : Type 0 where
   pub latest : new.latest.items ≡ old.latest.items ++ s ∷ []
   pub section : new.section ≡ section_next old.section s
@@ -50,15 +50,15 @@ pub record Keeps (old new : ScriptReader) : Type 0 where
   pub latest : new.latest.items ≡ []
   pub others : new ≡ record old { steps = new.steps; latest = new.latest }
 
--- they are, unless there is no task
+-- the same, unless there is no task
 abbrev pub Closes : Bool → ScriptReader → ScriptReader → Type 0
 Closes true old new = new ≡ old
 Closes false old new = Keeps old new
 
--- a record of this word that may stand there has no fault, and the reader knows what it adds
+-- a record of this word that may come there has no fault, and the reader knows what it adds
 abbrev pub Takes : ScriptReader → ScriptReader → Row → ScriptWord → Type 0
 Takes old new row w = (s : SoFar) → Knows old s → (first_of (placed_causes s row w) ≡ None) × Knows new (with_row s row)
 
--- a record of this word that may stand there has this fault
+-- a record of this word that may come there has this fault
 abbrev pub Refuses : ScriptReader → Row → ScriptWord → ScriptCode → Type 0
 Refuses old row w code = (s : SoFar) → Knows old s → first_of (placed_causes s row w) ≡ Some code

@@ -1,4 +1,4 @@
--- How proofs tell scripts apart: each is coded by its parts.
+-- How proofs distinguish scripts: each is coded by its parts.
 use Rattle.std.specs.Prelude.{◌≡◌, ◌⊎◌, ◌==◌, ℕ, List, refl, if◌then◌else◌}
 use Rattle.std.specs.Coded.{Coded, code_by, coded_ℕ, coded_list, coded×, coded⊎}
 use Rattle.std.proofs.Common.{inl, inr}
@@ -10,7 +10,8 @@ use Rattle.rscript.specs.declared.statement.Statement.{Statement}
 use Rattle.rscript.specs.declared.statement.Statement.TheVariants as statement
 use Rattle.rscript.specs.Scripts.{ScriptFields}
 
--- a beginning by its request, an edit by its place, its kind and its amount, a show by its place, an ask by its part, a rise by 0 and a finish by 1
+-- a beginning by its request, an edit by its place, its kind and its amount, a show by its place, an ask by its part, a
+-- rise by 0 and a finish by 1
 abbrev StatementParts : Type 0
 StatementParts = RequestFields ⊎ ((ℕ × (ℕ ⊎ (ℕ ⊎ ℕ))) ⊎ (ℕ ⊎ (Set ⊎ ℕ)))
 

@@ -1,4 +1,5 @@
--- What a script says as a whole: what it declares, and what each task does. Its lines follow from it, and records spell it where each says the line at its place.
+-- What a script says as a whole: what it declares, and what each task does. Its lines follow from that, and records
+-- spell it if each says the line at its place.
 use Rattle.std.specs.Prelude.{◌≡◌, ℕ, true, false, List, [], ◌∷◌, ◌++◌, length, map, Some, IsTrue}
 use Rattle.std.specs.List.{AllZip, AllByRecursion}
 use Rattle.rset.specs.Sets.{Set, all_below}
@@ -39,7 +40,8 @@ lines_of p = said_lines p.resources p.groups p.tasks p.steps ++ Ends ∷ []
 abbrev pub AreWithin : ℕ → List Set → Type 0
 AreWithin q groups = AllByRecursion (λ (group : Set). IsTrue (all_below q group)) groups
 
--- a script: each table has a name, and different ones; its groups are groups of its resources; and each task has its statements
+-- a script: each table has at least one name, and no name twice; its groups are groups of its resources; and each task
+-- has its statements
 pub record IsScript (p : ScriptFields) : Type 0 where
   pub resources : is_table RESOURCES p.resources ≡ true
   pub tasks : is_table SEATS p.tasks ≡ true

@@ -28,7 +28,7 @@ nothing_yet = record { last = at_start; resources = []; groups = []; tasks = [];
 abbrev pub steps_in : SoFar → List (List Statement)
 steps_in s = s.earlier ++ option_to_list s.latest
 
--- the section that is open behind the statements of a task, where there is one
+-- the section that is open after the statements of a task, if there is a task
 abbrev pub section_of : Option (List Statement) → Option OpenSection
 section_of None = None
 section_of (Some statements) = section_after statements

@@ -1,4 +1,4 @@
--- Scripts as they are written, and what is known of a text once its records were taken.
+-- Scripts as they are written, and what is known about a text once its records are taken.
 use Rattle.std.specs.Prelude.{◌≡◌, ℕ, Bool, List, map, Option, Some}
 use Rattle.rtrace_form.specs.Records.{Row, AreRowsOf}
 use Rattle.rtrace_form.specs.declared.errors.TextErr.{TextErr}
@@ -15,19 +15,19 @@ use Rattle.rscript.specs.declared.script.ScriptErr.TheVariants as script
 abbrev pub script_rows : ScriptFields → List Row
 script_rows p = map (spelled (names_of p.resources)) (lines_of p)
 
--- what is wrong with a record behind others
+-- what is wrong with a record that comes after others
 abbrev pub script_code : List Row → Row → Option ScriptCode
 script_code rows row = code_of (read_all rows) row
 
--- the text may end behind these records
+-- the text may end after these records
 abbrev pub is_script_done : List Row → Bool
 is_script_done rows = is_ended (read_all rows)
 
--- what is known of these records, where it is known what they have said
+-- the taker knows, in the sense of `Knows`, what these records have said
 abbrev pub KnowsSaid : {T : Type 0} → (T → SoFar → Type 0) → T → List Row → Type 0
 KnowsSaid Knows taker rows = Knows taker (read_all rows)
 
--- why a text is no script that was not taken
+-- why a text was not taken as a script
 abbrev pub error_of : TextErr ScriptCode → ScriptErr
 error_of (text.Bad fault) = script.Bad fault.line fault.code
 error_of text.Memory = script.Memory

@@ -1,4 +1,4 @@
--- What the record of a statement tells, by the resources that are declared.
+-- What the record of a statement says, by the declared resources.
 use Rattle.std.specs.Prelude.{◌≡◌, ◌<◌, ℕ, Bool, true, false, List, Option, Some}
 use Rattle.rset.specs.Sets.{Set}
 use Rattle.rvalue.specs.declared.ledger.Edit.{Edit}
@@ -24,7 +24,7 @@ is_edit word.Take = true
 is_edit word.Put = true
 is_edit _ = false
 
--- the edit that the record of an edit tells with this number
+-- the edit that the record of an edit says with this number
 abbrev pub edit_by : ScriptWord → ℕ → Edit
 edit_by word.Add n = edit.Add n
 edit_by word.Take n = edit.Take n
@@ -48,17 +48,18 @@ HasPlace q (statement.Ask part) = Unit {0}
 HasPlace q statement.Rise = Unit {0}
 HasPlace q statement.Finish = Unit {0}
 
--- a record of this word tells this statement: what it names is declared, its numbers are numbers, and that is what they say
+-- a record of this word says this statement: what it names is declared, its numbers are numbers, and that is what they
+-- mean
 pub record Tells (resources : List (List ℕ)) (w : ScriptWord) (row : Row) (s : Statement) : Type 0 where
   pub known : all_known (names_of resources) (fields_of w) row ≡ true
   pub counted : all_counted (fields_of w) row ≡ true
   pub means : meant_as (names_of resources) row (Some w) ≡ Some (Does s)
 
--- a record of this word is wrong as this code tells, whatever read groups there are and whichever section is open
+-- a record of this word is wrong with this code, whatever read groups there are and whichever section is open
 abbrev pub IsWrong : List (List ℕ) → ScriptWord → Row → ScriptCode → Type 0
 IsWrong resources w row code = (groups : List Set) (section : Option OpenSection) → first_of (said_causes resources groups section row w) ≡ Some code
 
--- the codes of a record's fields, and of the request that they tell: none of them tells of the section that is open
+-- the codes of a record's fields and of the request they say; none of them depends on the section that is open
 abbrev pub is_of_fields : ScriptCode → Bool
 is_of_fields UnknownName = true
 is_of_fields BadNumber = true

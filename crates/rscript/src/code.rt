@@ -1,37 +1,37 @@
-// What is wrong with a text that is no script.
+// What is wrong with a text that is not a script.
 ghost use Rattle.std.specs.Prelude.{◌≡◌};
 ghost use Rattle.rscript.specs.Codes.{code_number};
 
-/// What is wrong with a record. The first of these, in this order, is told.
+/// What is wrong with a record. If several of these hold, the first in this order is reported.
 #[derive(Clone, Copy, Debug, PartialEq, Eq)]
 pub enum ScriptCode {
-    /// Its first field is no record word, it has another number of fields, or the version is not 1.
+    /// Its first field is not a record word, it has another number of fields, or the version is not 1.
     BadField,
-    /// It may not stand at this place.
+    /// It may not come at this place.
     BadOrder,
-    /// It is a task or the end, and no resource stands before it.
+    /// It is a task or the end, and no resource comes before it.
     NoResources,
-    /// It is the end, and no task stands before it.
+    /// It is the end, and no task comes before it.
     NoTask,
-    /// The name that it declares is none.
+    /// The name that it declares is not a name.
     BadName,
     /// The name that it declares is declared already.
     Repeated,
     /// There are as many resources, tasks or groups as there may be.
     TooMany,
-    /// A piece of a set, or its resource, is no declared resource.
+    /// A piece of a set, or its resource, is not a declared resource.
     UnknownName,
-    /// A number is none, or above its limit.
+    /// A number is not a number, or is above its limit.
     BadNumber,
     /// Its group has no member.
     EmptyGroup,
-    /// Its request, a read or an upgrade, has nothing to read, or, of another kind, nothing to write.
+    /// Its request is a read or an upgrade and has nothing to read, or is of another kind and has nothing to write.
     EmptyRequest,
     /// The set of its read or upgrade is not declared.
     Undeclared,
     /// The first part of its request is empty, or not within the request.
     FirstOutside,
-    /// It shows or edits what the section does not hold, or what it asks for is empty, or not within the request.
+    /// It shows or edits what the section does not hold, or the set it asks for is empty or not within the request.
     NotHeld,
     /// It edits what the section holds for reading only.
     NotWritable,
@@ -40,7 +40,7 @@ pub enum ScriptCode {
 }
 
 impl ScriptCode {
-    /// Its number, as users are told it.
+    /// Its number, as users see it.
     pub fn number(self) -> u8
         ensures { result ≡ code_number self }
     {

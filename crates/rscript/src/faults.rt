@@ -1,4 +1,4 @@
-// What is wrong with a statement behind others.
+// What is wrong with a statement that comes after others.
 ghost use Rattle.std.specs.Prelude.{◌≡◌, ◌<◌, [], ◌∷◌, not, option_map};
 ghost use Rattle.rset.specs.declared.TheConstants.{RESOURCES};
 ghost use Rattle.rexpand.specs.Groups.{is_declared};
@@ -37,7 +37,7 @@ pub fn fault_of(
     }
 }
 
-// What is wrong with a request under read groups. It is in normal form, so that it can only be undeclared.
+// What is wrong with a request under read groups. It is in normal form, so it can only be undeclared.
 fn begin_fault(groups: &Option<Groups>, request: &Request) -> Option<ScriptCode>
     ensures { result ≡ option_map request_code (request_refusal (groups_in groups.now) request.now) }
 {
@@ -83,7 +83,7 @@ fn edit_fault(section: &Option<OpenSection>, place: u8) -> Option<ScriptCode>
     }
 }
 
-// The fault of what is not held.
+// The fault if something is not held.
 fn unless_held(held: bool) -> Option<ScriptCode>
     ensures { result ≡ first_of (when (not held) NotHeld ∷ []) }
 {

@@ -21,7 +21,7 @@ pub fn a_text_spells_one_script()
     ensures { (bytes : List ℕ) (script other : ScriptFields) → IsTextOf bytes script → IsTextOf bytes other → script ≡ other }
 {}
 
-/// What is written of a script spells that script.
+/// The records written of a script spell that script.
 pub fn what_is_written_spells()
     ensures { (script : ScriptFields) → IsScript script → Spells (script_rows script) script }
 {}

@@ -1,11 +1,7 @@
-//! Scripts: the tasks of a run, section by section, read from a text.
-//!
-//! What a record says stands in `rscript_records`, and with it what may stand where in a task. A script has its list of
-//! lines: records spell a script where each says the line at its place. The module [`laws`] says what holds of all
-//! scripts, each law the contract of a function that does nothing.
-//!
-//! What the records of a script say: which word a record has, which statement it tells, what it declares, where it may stand,
-//! and what is wrong with it.
+//! Scripts: the tasks of a run, section by section, read from a text. [`read_script`] gives a [`Script`], or the first
+//! fault of the text as a [`ScriptCode`]. A script has its list of lines, and records spell it where each says the line
+//! at its place. The module [`laws`] says what holds for all scripts, each law the contract of a function that does
+//! nothing.
 #![tactic(auto)]
 
 mod code;

@@ -10,12 +10,12 @@ use rbound::Needs;
 use std::alloc::{AllocError, Global};
 
 impl Script {
-    /// What its tasks need: for each task by number the requests of its sections in order, each with the sets for which the
-    /// section asks, over the script's groups.
+    /// What its tasks need, over the script's groups: for each task by number, the requests of its sections in order,
+    /// each with the sets the section asks for.
     ///
     /// # Errors
     ///
-    /// Want of memory.
+    /// Out of memory.
     pub fn needs(&self, alloc: Global) -> Result<Needs, AllocError>
         ensures { IfOk result (λ needs. needs ≡ needs_of self.now) }
     {
@@ -26,7 +26,7 @@ impl Script {
     }
 }
 
-// Puts what each task of the script needs where nothing is needed yet.
+// Adds what each task of the script needs, where nothing is needed yet.
 fn push_tasks(needs: &mut Needs, script: &Script) -> Result<(), AllocError>
     requires { needs.old ≡ none_yet script.now }
     ensures { OnOk result (needs.new ≡ needs_of script.now) }
@@ -37,7 +37,7 @@ fn push_tasks(needs: &mut Needs, script: &Script) -> Result<(), AllocError>
     Ok(())
 }
 
-// Puts what the statements of a task need, of which nothing is needed yet.
+// Adds what the statements of a task need, where nothing is needed for it yet.
 fn push_task(needs: &mut Needs, task: u8, statements: &[Statement]) -> Result<(), AllocError>
     requires task { task < length needs.old.tasks }
     requires statements { IsTask needs.old.groups.q needs.old.groups.groups statements.now }
@@ -50,7 +50,7 @@ fn push_task(needs: &mut Needs, task: u8, statements: &[Statement]) -> Result<()
     Ok(())
 }
 
-// Puts what a statement needs behind what the statements before it need.
+// Adds what a statement needs after what the statements before it need.
 fn push_statement(needs: &mut Needs, task: u8, statement: &Statement) -> Result<(), AllocError>
     requires task { task < length needs.old.tasks }
     requires goes_on { GoesOn needs.old.groups.q (requests_of needs.old.tasks task) statement.now }

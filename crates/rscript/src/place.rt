@@ -1,4 +1,4 @@
-// Where records may stand.
+// Where records may come.
 ghost use Rattle.std.specs.Prelude.{◌≡◌};
 ghost use Rattle.rscript.specs.Statements.{is_there};
 ghost use Rattle.rscript.specs.Places.{stands};
@@ -7,7 +7,7 @@ use crate::section::OpenSection;
 use crate::word::ScriptWord;
 use rclaim::Kind;
 
-/// Where in a task a record may stand.
+/// Where in a task a record may come.
 #[derive(Clone, Copy)]
 pub enum Where {
     /// Outside a section.
@@ -20,10 +20,10 @@ pub enum Where {
     BeforeRise,
 }
 
-/// Where a record may stand: the places behind which it may come, the least and the last, and where in a task.
+/// Where a record may come: the first and the last place it may come after, and where in a task.
 #[derive(Clone, Copy)]
 pub struct Stand {
-    /// The least place behind which it may come.
+    /// The first place it may come after.
     pub least: u8,
     /// The last such place.
     pub most: u8,
@@ -31,7 +31,7 @@ pub struct Stand {
     pub inside: Where,
 }
 
-// The places of records: where the last one stands, in the order in which they may stand.
+// The places of records: the place of the last record, in the order in which records may come.
 
 /// Nothing was read.
 pub const AT_START: u8 = 0;
@@ -51,7 +51,7 @@ pub const AT_TASKS: u8 = 4;
 /// The end was read.
 pub const AT_END: u8 = 5;
 
-/// Where a record of a word may stand.
+/// Where a record of a word may come.
 pub fn stand_of(word: ScriptWord) -> Stand
     ensures { result ≡ stands word }
 {
@@ -76,7 +76,7 @@ pub fn stand_of(word: ScriptWord) -> Stand
     }
 }
 
-/// Whether it is so where this section is open, if one is.
+/// Whether this holds where this section is open, or no section is.
 pub fn is_there(inside: Where, section: &Option<OpenSection>) -> bool
     ensures { result ≡ is_there inside section.now }
 {

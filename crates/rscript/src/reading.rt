@@ -28,13 +28,13 @@ use std::mem;
 /// What the records so far have said.
 #[derive(Drop)]
 pub struct ScriptReader {
-    /// From which the room for statements comes.
+    /// Where the memory for statements comes from.
     pub alloc: Global,
     /// The place of the last record.
     pub last: u8,
     /// The names of the resources.
     pub resources: NameTable,
-    /// The read groups, made at the first group or task: no resource is declared behind it.
+    /// The read groups, made at the first group or task; no resource is declared after that.
     pub groups: Option<Groups>,
     /// The names of the tasks.
     pub tasks: NameTable,
@@ -63,7 +63,7 @@ impl ScriptReader {
         }
     }
 
-    /// Whether a record of a word may stand here.
+    /// Whether a record of a word may come here.
     pub fn may_stand(&self, word: ScriptWord) -> bool
         ensures { result ≡ stands_at self.now.last self.now.section word }
     {
@@ -71,11 +71,11 @@ impl ScriptReader {
         stand.least <= self.last && self.last <= stand.most && is_there(stand.inside, &self.section)
     }
 
-    /// Takes a record of a word that may stand here.
+    /// Takes a record of a word that may come here.
     ///
     /// # Errors
     ///
-    /// The first thing that is wrong with it, and then nothing has changed; or want of memory.
+    /// The first thing that is wrong with it, and then nothing has changed; or out of memory.
     pub fn take_word(
         &mut self,
         word: ScriptWord,
@@ -106,7 +106,7 @@ impl ScriptReader {
         ensures bad { (cause : ScriptCode) → result ≡ Err (RowErr.Bad cause) → Refuses self.old (fields_of fields.now) ScriptWord.Version cause }
         ensures still { (cause : ScriptCode) → result ≡ Err (RowErr.Bad cause) → self.new ≡ self.old }
     {
-        // Its fields are its word alone: only the contract speaks of them.
+        // Its fields are just its word: only the contract speaks of them.
         let _ = fields;
         self.last = AT_VERSION;
         Ok(())
@@ -168,11 +168,11 @@ impl ScriptReader {
         Ok(())
     }
 
-    /// Keeps the statements of the latest task with those of the tasks before it, unless there is none.
+    /// Keeps the statements of the latest task with those of the tasks before it; does nothing if there is no task.
     ///
     /// # Errors
     ///
-    /// Want of memory.
+    /// Out of memory.
     pub fn close_task(&mut self, none: bool) -> Result<(), RowErr<ScriptCode>>
         ensures ok { OnOk result (Closes none self.old self.new) }
         ensures memory { IfErr result (λ e. e ≡ RowErr.Memory) }
@@ -194,7 +194,7 @@ impl ScriptReader {
         ensures bad { (cause : ScriptCode) → result ≡ Err (RowErr.Bad cause) → Refuses self.old (fields_of fields.now) ScriptWord.End cause }
         ensures still { (cause : ScriptCode) → result ≡ Err (RowErr.Bad cause) → self.new ≡ self.old }
     {
-        // Its fields are its word alone: only the contract speaks of them.
+        // Its fields are just its word: only the contract speaks of them.
         let _ = fields;
         if self.resources.len() == 0 {
             return Err(RowErr::Bad(ScriptCode::NoResources));

@@ -10,7 +10,7 @@ use csv::ByteRecord;
 use rclaim::Kind;
 use rtrace_form::field_of;
 
-/// What a record of a script is; None where it is none.
+/// What a record of a script is; None if it is not a record of one.
 pub fn word_in(fields: &ByteRecord) -> Option<ScriptWord>
     ensures { result ≡ word_in (fields_of fields.now) }
 {

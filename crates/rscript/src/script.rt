@@ -18,13 +18,13 @@ use std::mem;
 /// Why a text was not read as a script.
 #[derive(Clone, Copy, Debug, PartialEq, Eq)]
 pub enum ScriptErr {
-    /// It spells no script: its first faulty record, counted from 1, has this fault.
+    /// It does not spell a script: its first faulty record, counted from 1, has this fault.
     Bad { line: u64, code: ScriptCode },
     /// Memory ran out.
     Memory,
 }
 
-/// A script: what it declares, and what each task does. It spells out as a script without a fault.
+/// A script: what it declares, and what each task does. It can be written as a text without a fault.
 #[derive(Drop)]
 pub struct Script {
     resources: NameTable,
@@ -82,7 +82,7 @@ impl Script {
         self.steps[usize::from(task)].as_slice()
     }
 
-    // The script that a reader has read, which is given away. Its groups are there, as it has a task.
+    // The script that a reader has read, moved out of the reader. Its groups are there, since it has a task.
     fn of(reading: &mut ScriptReader) -> Result<Script, ScriptErr>
         requires { (s : SoFar) × Knows reading.old s × IsScript (told_in s) }
         ensures said { IfOk result (λ script. (s : SoFar) → Knows reading.old s → script ≡ told_in s) }
@@ -108,7 +108,7 @@ impl Script {
 ///
 /// # Errors
 ///
-/// The first faulty record of a text that spells no script, with the first of its codes; or want of memory.
+/// The first faulty record of a text that does not spell a script, with the first of its codes; or out of memory.
 pub fn read_script(alloc: Global, bytes: &[u8]) -> Result<Script, ScriptErr>
     ensures script { IfOk result (IsTextOf bytes.now) }
     ensures bad { (line : ℕ) (code : ScriptCode) → result ≡ Err (ScriptErr.Bad line code) → IsFirstFault bytes.now line code }
@@ -116,7 +116,7 @@ pub fn read_script(alloc: Global, bytes: &[u8]) -> Result<Script, ScriptErr>
     take_script(alloc, bytes, &mut ScriptReader::new(alloc))
 }
 
-// The same, by a reader that has read nothing.
+// The same, with a reader that has read nothing.
 fn take_script(alloc: Global, bytes: &[u8], reading: &mut ScriptReader) -> Result<Script, ScriptErr>
     requires { Knows reading.old nothing_yet }
     ensures script { IfOk result (IsTextOf bytes.now) }
@@ -128,7 +128,7 @@ fn take_script(alloc: Global, bytes: &[u8], reading: &mut ScriptReader) -> Resul
     }
 }
 
-// Why a text is no script that was not taken.
+// Why a text was not taken as a script.
 fn error_of(e: TextErr<ScriptCode>) -> ScriptErr
     ensures { result ≡ error_of e }
 {

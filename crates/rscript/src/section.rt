@@ -1,4 +1,4 @@
-// The section that is open behind the statements of a task, and what it holds.
+// The section that is open after the statements of a task, and what it holds.
 ghost use Rattle.std.specs.Prelude.{◌≡◌, ◌<◌, option_map};
 ghost use Rattle.rset.specs.declared.TheConstants.{RESOURCES};
 ghost use Rattle.rscript.specs.Statements.{section_next, with_asked, with_risen, held_as, held_in, is_writable, is_held, may_ask_for};
@@ -15,11 +15,11 @@ pub struct OpenSection {
     pub request: Request,
     /// Whether it has risen.
     pub risen: bool,
-    /// What it has asked for so far, its first part too.
+    /// What it has asked for so far, with its first part.
     pub asked: ResourceSet,
 }
 
-/// The section that is open behind a statement, if one is; `section` is the one that is open before it.
+/// The section that is open after a statement, if any; `section` is the one open before it.
 pub fn section_after(section: Option<OpenSection>, statement: &Statement) -> Option<OpenSection>
     ensures { result ≡ section_next section statement.now }
 {
@@ -36,7 +36,7 @@ pub fn section_after(section: Option<OpenSection>, statement: &Statement) -> Opt
     }
 }
 
-// The section that has asked for a part more.
+// The section after it has asked for another part.
 fn with_asked(section: Option<OpenSection>, part: ResourceSet) -> Option<OpenSection>
     ensures { result ≡ option_map (with_asked part) section }
 {
@@ -52,7 +52,7 @@ fn with_asked(section: Option<OpenSection>, part: ResourceSet) -> Option<OpenSec
     })
 }
 
-// The section that has risen.
+// The section after it has risen.
 fn with_risen(section: Option<OpenSection>) -> Option<OpenSection>
     ensures { result ≡ option_map with_risen section }
 {
@@ -81,7 +81,7 @@ pub fn is_held(section: &Option<OpenSection>, place: u8) -> bool
     held.reads.has(place) || held.writes.has(place)
 }
 
-/// Whether a set is a part, not empty, of what the request of the open section is about.
+/// Whether a set is a part, not empty, of the sets in the open section's request.
 pub fn may_ask_for(section: &Option<OpenSection>, part: ResourceSet) -> bool
     ensures { result ≡ may_ask_for section.now part }
 {
@@ -94,7 +94,7 @@ pub fn may_ask_for(section: &Option<OpenSection>, part: ResourceSet) -> bool
     }
 }
 
-// What is held where this section is open; outside a section nothing is.
+// What is held where this section is open; nothing outside a section.
 fn held_in(section: &Option<OpenSection>) -> Granted
     ensures { result ≡ held_in section.now }
 {

@@ -14,7 +14,7 @@ pub enum Statement {
     Show { place: u8 },
     /// The nested section asks for a further part.
     Ask { set: ResourceSet },
-    /// The upgrade section is done with reading, and goes on to write.
+    /// The upgrade section is done reading, and goes on to write.
     Rise,
     /// The section ends.
     Finish,

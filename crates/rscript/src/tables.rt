@@ -13,15 +13,16 @@ use rset::{NameErr, NameTable, ResourceSet};
 use rtrace_form::RowErr;
 use std::alloc::Global;
 
-// A table of names holds as many as there are resources, which must be the limit of tasks too: one function declares both.
+// A table of names holds as many as there are resources, which must also be the limit of tasks: one function declares
+// both.
 const _: () = prove!(rset::SEATS as u16 == rset::RESOURCES);
 
-/// Adds a name that a record declares, of a resource or of a task, to its table, behind the others.
+/// Adds a name that a record declares, of a resource or of a task, to its table, after the others.
 ///
 /// # Errors
 ///
-/// The first that is wrong with it (`BadName`, `Repeated`, or `TooMany` where the table has `RESOURCES` names already, which
-/// are as many as there may be tasks), or want of memory. The table is then as it was.
+/// The first thing wrong with it: `BadName`, `Repeated`, or `TooMany` if the table already has `RESOURCES` names (tasks
+/// have the same limit); or out of memory. The table is then as it was.
 pub fn declare(table: &mut NameTable, name: &[u8]) -> Result<(), RowErr<ScriptCode>>
     ensures ok { OnOk result ((first_of (name_causes RESOURCES table.old name.now) ≡ None) × (table.new ≡ table.old ++ name.now ∷ [])) }
     ensures bad { (cause : ScriptCode) → result ≡ Err (RowErr.Bad cause) → first_of (name_causes RESOURCES table.old name.now) ≡ Some cause }
@@ -36,7 +37,7 @@ pub fn declare(table: &mut NameTable, name: &[u8]) -> Result<(), RowErr<ScriptCo
     }
 }
 
-/// Whether there are as many read groups as there may be. Before they are made there are none.
+/// Whether there are as many read groups as there may be. Until they are made there are none.
 pub fn has_all_groups(groups: &Option<Groups>) -> bool
     ensures { result ≡ (length (groups_in groups.now) == GROUPS) }
 {
@@ -46,11 +47,12 @@ pub fn has_all_groups(groups: &Option<Groups>) -> bool
     }
 }
 
-/// Makes the read groups over `q` resources, with no group yet, if they are not there: all resources are declared by now.
+/// Makes the read groups over `q` resources, with no group yet, unless they are there already. By then all resources
+/// are declared.
 ///
 /// # Errors
 ///
-/// Want of memory.
+/// Out of memory.
 pub fn make_groups(
     alloc: Global,
     groups: &mut Option<Groups>,
@@ -71,11 +73,11 @@ pub fn make_groups(
     Ok(())
 }
 
-/// Adds a read group behind the others, which are made over `q` resources if they are not there.
+/// Adds a read group after the others; makes the groups over `q` resources first if they are not there.
 ///
 /// # Errors
 ///
-/// Want of memory.
+/// Out of memory.
 pub fn add_group(
     alloc: Global,
     groups: &mut Option<Groups>,

@@ -1,4 +1,4 @@
-// A reader of scripts takes the records of a text one after another.
+// How a reader of scripts takes the records of a text one after another.
 ghost use Rattle.std.specs.Prelude.{◌≡◌};
 
 use crate::code::ScriptCode;

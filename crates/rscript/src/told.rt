@@ -1,4 +1,4 @@
-// The statement that a record tells.
+// The statement that a record says.
 ghost use Rattle.std.specs.Prelude.{◌≡◌, IfOk, IfErr, Some, true};
 ghost use Rattle.csv.specs.Records.{fields_of};
 ghost use Rattle.rset.specs.declared.TheConstants.{RESOURCES};
@@ -15,15 +15,15 @@ use rset::NameTable;
 use rtrace_form::{field_of, lengths_of, number_of, request_of, set_of, sets_of};
 use rvalue::Edit;
 
-// The place of the first set in the record of a section's beginning: behind its kind.
+// The place of the first set in the record that begins a section: after the kind.
 const FIRST_SET: u8 = 1;
 
-/// The statement that a record tells, by the resources that are declared. No memory is taken.
+/// The statement that a record says, by the declared resources. No memory is taken.
 ///
 /// # Errors
 ///
-/// In this order: `UnknownName` where it names a resource that is not declared, `BadNumber` where a number is none or
-/// above its limit, and what refuses its request whatever read groups there are.
+/// In this order: `UnknownName` if it names a resource that is not declared, `BadNumber` if one of its numbers is not a
+/// number or is above its limit, and what refuses its request whatever read groups there are.
 pub fn statement_of(
     resources: &NameTable,
     word: ScriptWord,
@@ -48,7 +48,7 @@ pub fn statement_of(
     }
 }
 
-// The beginning of a section of this kind that a record tells.
+// The beginning of a section of this kind, as a record says it.
 fn begin_of(resources: &NameTable, kind: Kind, fields: &ByteRecord) -> Result<Statement, ScriptCode>
     requires { word_in (fields_of fields.now) ≡ Some (ScriptWord.Begin kind) }
     ensures told { IfOk result (λ statement. Tells resources.now (ScriptWord.Begin kind) (fields_of fields.now) statement) }
@@ -79,7 +79,7 @@ pub fn request_code(cause: RequestErr) -> ScriptCode
     }
 }
 
-// The show that a record tells.
+// The show that a record says.
 fn show_of(resources: &NameTable, fields: &ByteRecord) -> Result<Statement, ScriptCode>
     requires { word_in (fields_of fields.now) ≡ Some ScriptWord.Show }
     ensures told { IfOk result (λ statement. Tells resources.now ScriptWord.Show (fields_of fields.now) statement) }
@@ -93,7 +93,7 @@ fn show_of(resources: &NameTable, fields: &ByteRecord) -> Result<Statement, Scri
     }
 }
 
-// The edit that a record tells.
+// The edit that a record says.
 fn edit_of(
     resources: &NameTable,
     word: ScriptWord,
@@ -129,7 +129,7 @@ fn edit_by(word: ScriptWord, number: u64) -> Edit
     }
 }
 
-// The ask that a record tells.
+// The ask that a record says.
 fn ask_of(resources: &NameTable, fields: &ByteRecord) -> Result<Statement, ScriptCode>
     requires { word_in (fields_of fields.now) ≡ Some ScriptWord.Ask }
     ensures told { IfOk result (λ statement. Tells resources.now ScriptWord.Ask (fields_of fields.now) statement) }

@@ -1,4 +1,5 @@
-//! Tests of the gate and of the locked state behind it, through public functions alone. The crate has nothing else.
+//! Tests of the gate of `rlock` and of the locked state of `rstate`, through public functions only. The crate has
+//! nothing else.
 #![tactic(auto)]
 
 #[cfg(test)]

@@ -1,4 +1,4 @@
-//! A pass takes values out of a shelf behind a gate, and gives them home.
+//! A pass takes values out of a shelf at a gate, and puts them back.
 ghost use Rattle.std.specs.Prelude.{◌≡◌};
 
 use rlock::{Gate, Pass, Shelf, Spot, add, give_home, take_out};
@@ -6,8 +6,9 @@ use std::alloc::{AllocError, Global};
 use std::sync::Wait;
 use std::test::Fail;
 
-// Whether a pass alone gets the answers that it should, at a shelf with 5 and 7 on it: it takes the 7 out, and does not find it again, nor
-// anything to add to; it gives it home, adds 4, and takes 11 out. The 5 is there all the time, and there is no third spot.
+// Whether a pass alone gets the right answers at a shelf with 5 and 7 on it. It takes the 7 out, does not find it
+// again, nor anything to add to; it puts it back, adds 4, and takes 11 out. The 5 is there all the time, and there is
+// no third spot.
 fn answers_rightly<R: Wait>(rt: &R, gate: &Gate<Shelf>, pass: Pass<Shelf>) -> bool
     requires { pass.gate ≡ gate.now.gate }
 {

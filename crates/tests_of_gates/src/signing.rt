@@ -1,4 +1,4 @@
-//! Passes sign a roll behind a gate, on several threads.
+//! Passes sign a roll at a gate, on several threads.
 ghost use Rattle.std.specs.Prelude.{◌≡◌, ℕ, ◌<◌, length, All, IsTrue, IfOk, slice_index_or};
 ghost use denote.Param.Send.{IsSync};
 ghost use Rattle.rlock.specs.Known.{Known};
@@ -20,7 +20,7 @@ fn may_go<T: Send>(value: T) -> T
     value
 }
 
-// Signs the roll in one turn of the pass, which comes back. At `Err` there was no memory.
+// Signs the roll in one turn of the pass, which comes back. `Err` means there was no memory.
 fn sign_in<R: Wait>(
     rt: &R,
     gate: &Gate<Roll>,
@@ -54,7 +54,7 @@ fn sign_often<R: Wait>(
     Ok(signer)
 }
 
-// Each of the passes signs so often.
+// Each of the passes signs this often.
 fn sign_all<R: Wait + AllocGlobal>(
     rt: &R,
     gate: &Gate<Roll>,
@@ -133,7 +133,7 @@ fn are_in_order(passes: &[Pass<Roll>]) -> bool
     true
 }
 
-// Closes the gate, once it is seen that all passes are there.
+// Closes the gate, after checking that all passes are there.
 fn closed(rt: &impl Abort, gate: Gate<Roll>, passes: Vec<Pass<Roll>>, count: u8) -> Roll
     requires gate { All (λ p. p.gate ≡ gate.gate) passes.items }
     requires count { gate.passes ≡ count }
@@ -143,7 +143,7 @@ fn closed(rt: &impl Abort, gate: Gate<Roll>, passes: Vec<Pass<Roll>>, count: u8)
     gate.close(passes)
 }
 
-// How many signatures of the pass the roll has. They have to be in order.
+// How many signatures of the pass the roll has. They must be in order.
 fn signed_in_order(rt: &impl Abort, roll: &Roll, pass: u8) -> u32 {
     let mut next = 0u32;
     for signature in &roll.signed {

@@ -1,4 +1,4 @@
-//! The locked state and what it lends, made by themselves.
+//! The locked state and what it lends, made on their own.
 
 use rexpand::Groups;
 use rmodel::Machine;
@@ -15,7 +15,7 @@ fn two_ledgers(alloc: Global) -> Result<State<Ledger, Plain>, AllocError> {
     State::new(alloc, machine, values)
 }
 
-// Whether a state is made at which nothing was done.
+// Whether a state is made where nothing was done yet.
 fn makes_state(alloc: Global) -> bool {
     match two_ledgers(alloc) {
         Ok(state) => state.history().len() == 0,

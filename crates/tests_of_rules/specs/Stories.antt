@@ -11,11 +11,12 @@ use Rattle.rcover.specs.Knows.{Knows}
 use Rattle.rcover.specs.declared.covers.Covers.{Covers}
 use Rattle.rcover.specs.declared.following.Following.{Following}
 
--- these events over these groups, for so many seats
+-- these events over these groups, with this many seats
 abbrev pub past : ReadGroups → ℕ → List Event → Past
 past groups many events = record { groups = groups; seats = many; cap = many; events = events }
 
--- these events were accepted one after another over these groups, and led to this state; they were followed, and told
+-- these events were accepted one after another over these groups, and led to this state; the follower and the covers
+-- have seen them
 pub record IsStory (groups : ReadGroups) (many : ℕ) (events : List Event) (lock : LockState) (following : Following) (covers : Covers) : Type 0 where
   pub resources : groups.q ≡ RESOURCES
   pub placed : lock.groups.q ≡ RESOURCES

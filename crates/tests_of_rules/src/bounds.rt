@@ -1,4 +1,4 @@
-// Tests of `rbound`: bounds that were worked by hand.
+// Tests of `rbound`: bounds that were worked out by hand.
 ghost use Rattle.std.specs.Prelude.{◌≡◌, ◌≤◌, ◌<◌, length};
 
 use crate::groups::two_groups;
@@ -9,7 +9,7 @@ use rset::{RESOURCES, ResourceSet};
 use std::alloc::Global;
 use std::test::Fail;
 
-// Puts a request about this set behind the others of a task.
+// Adds a request about this set after the others of a task.
 fn push(
     needs: &mut Needs,
     task: u8,
@@ -58,7 +58,7 @@ fn is_bound(
     )
 }
 
-// One task reads two resources of one group, two others write one of them each.
+// One task reads two resources of one group, and two others write one of them each.
 fn need_a_reader(needs: &mut Needs) -> Result<(), Fail>
     requires q { needs.old.groups.q ≡ RESOURCES }
     requires tasks { length needs.old.tasks ≡ 3 }

@@ -6,7 +6,7 @@ use rset::ResourceSet;
 use std::alloc::{AllocError, Global};
 use std::test::Fail;
 
-// A clone is the value: proved, of each type whose clone is derived.
+// A clone is the value; proved here for each type whose clone is derived.
 fn clone_of_event(event: &Event) -> Result<Event, AllocError>
     ensures { IfOk result (λ copy. copy ≡ event.now) }
 {
@@ -47,7 +47,7 @@ fn has_room(alloc: Global) -> Result<bool, AllocError> {
     are_cloned(&changes.statuses[0], &changes.grants[0])
 }
 
-// The changes that it has are cloned.
+// The changes in it are cloned.
 fn are_cloned(status: &StatusChange, grant: &GrantChange) -> Result<bool, AllocError> {
     let status = clone_of_status_change(status)?;
     let grant = clone_of_grant_change(grant)?;

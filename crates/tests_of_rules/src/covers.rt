@@ -1,4 +1,4 @@
-// Stories: events that a machine takes, and the waits that each has to end, by all who tell of covers.
+// Stories: events that a machine takes, and the waits that each has to end, by everything that computes covers.
 ghost use Rattle.std.specs.Prelude.{◌≡◌, [], OnOk, IfOk};
 ghost use Rattle.rset.specs.declared.TheConstants.{RESOURCES};
 ghost use Rattle.rmodel.specs.State.{opening};
@@ -19,7 +19,7 @@ use rset::{RESOURCES, ResourceSet};
 use std::alloc::Global;
 use std::test::Fail;
 
-// A machine, and the events that it took, which were followed beside it and told to covers.
+// A machine, and the events that it took; a follower and the covers beside it have seen them too.
 #[derive(Drop)]
 pub struct Story {
     machine: Plain,
@@ -33,7 +33,7 @@ pub struct Story {
 /// What a seat does.
 #[derive(Clone, Copy)]
 pub enum Move {
-    /// It issues a request that reads and writes so, with these lengths.
+    /// It issues a request that reads and writes these sets, with these lengths.
     Issue(Kind, ResourceSet, ResourceSet, u32, u32),
     /// Its upgrade rises.
     Rise,
@@ -43,7 +43,7 @@ pub enum Move {
     Finish,
 }
 
-/// A move of a seat, and the waits that it has to end, which are two at most.
+/// A move of a seat, and the waits that it has to end, at most two.
 #[derive(Clone, Copy)]
 pub struct Turn {
     pub seat: u8,
@@ -52,7 +52,7 @@ pub struct Turn {
     pub second: Option<WaitEnd>,
 }
 
-// Those who follow a story of four seats over these groups, and who were told no event of it.
+// A follower and covers for a story of four seats over these groups, which have seen no event of it.
 fn followers(alloc: Global, groups: &Groups) -> Result<(Following, Covers), Fail>
     ensures follows { IfOk result (λ r. Follows r.0 (past groups.now 4 [])) }
     ensures told { IfOk result (λ r. Knows r.1 (past groups.now 4 [])) }
@@ -62,7 +62,7 @@ fn followers(alloc: Global, groups: &Groups) -> Result<(Following, Covers), Fail
     Ok((following, covers))
 }
 
-// A story with no event, over a machine that took none.
+// A story with no event, over a machine that has taken none.
 fn tell(alloc: Global, machine: Plain, groups: Groups) -> Result<Story, Fail>
     requires resources { groups.q ≡ RESOURCES }
     requires placed { machine.state.groups.q ≡ RESOURCES }
@@ -80,7 +80,7 @@ fn tell(alloc: Global, machine: Plain, groups: Groups) -> Result<Story, Fail>
     })
 }
 
-// A story of four seats with no event, in which the resources 0 and 1 are declared together, and 1 and 2.
+// A story of four seats with no event; resources 0 and 1 are declared together, and so are 1 and 2.
 fn begin(alloc: Global) -> Result<Story, Fail>
     ensures { IfOk result (λ story. IsStory story.groups story.seats story.events.items story.machine.state story.following story.covers) }
 {
@@ -115,7 +115,7 @@ fn step(story: &mut Story, event: &Event) -> Result<(), Fail>
     Ok(())
 }
 
-// A request is issued, once all conditions of a step are tested.
+// A request is issued, after all conditions of a step are tested.
 fn issue(
     story: &mut Story,
     seat: u8,
@@ -179,7 +179,7 @@ fn are_just(found: &[WaitEnd], turn: &Turn) -> bool {
     }
 }
 
-// Whether the last event ended just the waits that a turn has to end, by all who tell of them.
+// Whether the last event ended just the waits that a turn has to end, by everything that computes covers.
 fn is_right(alloc: Global, story: &Story, turn: &Turn) -> Result<bool, Fail>
     requires { IsStory story.now.groups story.now.seats story.now.events.items story.now.machine.state story.now.following story.now.covers }
 {
@@ -195,7 +195,7 @@ fn is_right(alloc: Global, story: &Story, turn: &Turn) -> Result<bool, Fail>
     Ok(are_just(&found, turn) && followed && told)
 }
 
-// Plays the turns, and tells whether each ended just the waits that it has to end.
+// Plays the turns, and answers whether each ended just the waits that it has to end.
 fn play(alloc: Global, story: &mut Story, turns: &[Turn]) -> Result<bool, Fail>
     requires { IsStory story.old.groups story.old.seats story.old.events.items story.old.machine.state story.old.following story.old.covers }
 {

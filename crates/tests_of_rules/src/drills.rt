@@ -1,4 +1,4 @@
-// Drills, and the watchers that are told their steps.
+// Drills, and the watchers that see their steps.
 ghost use Rattle.std.specs.Prelude.{◌≤◌};
 
 use rclaim::Event;
@@ -54,7 +54,7 @@ fn counters(alloc: Global) -> Result<Watchers, Fail> {
     Ok(Watchers::new(list))
 }
 
-// Whether this is the summary of a drill of so many events.
+// Whether this is the summary of a drill of this many events.
 fn is_summary(alloc: Global, count: u32, due: &str) -> Result<bool, Fail>
     requires { count ≤ 1000000 }
 {
@@ -64,7 +64,7 @@ fn is_summary(alloc: Global, count: u32, due: &str) -> Result<bool, Fail>
     is_summary_of(alloc, count, &watchers, &machine, due)
 }
 
-// The same, of a drill that was made.
+// The same for a drill that was made.
 fn is_summary_of(
     alloc: Global,
     count: u32,

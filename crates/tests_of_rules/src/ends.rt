@@ -10,7 +10,7 @@ use std::io;
 use std::io::{Error, ErrorKind, Read, Write};
 use std::test::Fail;
 
-// Whether the bytes are read where there may be as many, and told to be too long where there may be one less.
+// Whether the bytes are read with a limit of their length, and are too long with a limit of one less.
 fn is_read_up_to_its_length(alloc: Global, bytes: &[u8]) -> Result<bool, Fail> {
     let all = read_all(alloc, &mut source(alloc, bytes, &[])?, bytes.len())?;
     let longer = read_all(
@@ -21,7 +21,7 @@ fn is_read_up_to_its_length(alloc: Global, bytes: &[u8]) -> Result<bool, Fail> {
     Ok(all.as_slice() == bytes && longer.err() == Some(ReadErr::TooLong))
 }
 
-// A source of these bytes, of which the reads with these numbers fail.
+// A source of these bytes whose reads with these numbers fail.
 fn source(alloc: Global, bytes: &[u8], fails: &[u64]) -> Result<MemSource, AllocError> {
     Ok(MemSource::new(bytes.to_vec(alloc)?, fails.to_vec(alloc)?))
 }
@@ -80,7 +80,7 @@ impl Write for Stumbling {
     }
 }
 
-// An interrupted read is made again, a fault of either kind is told at once, and the read after it is made.
+// An interrupted read is made again, a fault of either kind is reported at once, and the read after it is made.
 fn reads_again() -> bool {
     let mut source = ReaderSource::new(Stumbling { calls: 0 });
     let mut buf = [0u8; 5];
@@ -91,7 +91,7 @@ fn reads_again() -> bool {
     first == Ok(3) && second == Err(Failed) && third == Ok(3) && fourth == Err(Failed)
 }
 
-// The same of a write; and that nothing is taken of an empty piece is no fault.
+// The same for a write; and taking nothing of an empty piece is no fault.
 fn writes_again() -> bool {
     let mut sink = WriterSink::new(Stumbling { calls: 0 });
     let first = sink.write(b"hello");

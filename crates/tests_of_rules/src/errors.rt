@@ -1,4 +1,4 @@
-// Tests of the words of errors: one table for each of them, of all its variants.
+// Tests of the words of errors: one table for each error, with all its variants.
 use io_ends::{Failed, ReadErr, WriteFault};
 use rclaim::RequestErr;
 use rexpand::GroupErr;
@@ -8,13 +8,13 @@ use std::alloc::Global;
 use std::fmt::Display;
 use std::test::Fail;
 
-// Whether an error is told in these words.
+// Whether an error is printed in these words.
 fn is_worded<E: Display>(alloc: Global, error: &E, words: &str) -> Result<bool, Fail> {
     let told = format!(in alloc; "{error}")?;
     Ok(told.as_str() == words)
 }
 
-// Whether each error of a table is told in the words beside it.
+// Whether each error of a table is printed in the words beside it.
 fn are_worded<E: Display>(alloc: Global, table: &[(E, &str)]) -> Result<bool, Fail> {
     for (error, words) in table {
         if !is_worded(alloc, error, words)? {
@@ -95,7 +95,7 @@ fn events(alloc: Global) -> Result<bool, Fail> {
     )
 }
 
-// Whether all errors are told in their words.
+// Whether all errors are printed in their words.
 fn all_are_worded(alloc: Global) -> Result<bool, Fail> {
     let below = devices(alloc)? && names(alloc)? && groups(alloc)?;
     Ok(below && requests(alloc)? && events(alloc)?)

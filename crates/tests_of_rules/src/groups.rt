@@ -6,7 +6,7 @@ use rset::{RESOURCES, ResourceSet};
 use std::alloc::Global;
 use std::test::Fail;
 
-/// Groups in which the resources 0 and 1 are declared together, and 1 and 2.
+/// Groups where resources 0 and 1 are declared together, and so are 1 and 2.
 pub fn two_groups(alloc: Global) -> Result<Groups, Fail>
     ensures { IfOk result (λ groups. groups.q ≡ RESOURCES) }
 {
@@ -26,7 +26,7 @@ fn is_filled(groups: &mut Groups, pair: ResourceSet) -> Result<bool, GroupErr>
     Ok(declare(groups, pair) == Err(GroupErr::TooMany))
 }
 
-// A copy of groups that are filled has them too.
+// A copy of full groups has them too.
 fn is_filled_and_copied(alloc: Global) -> Result<bool, Fail> {
     let pair = ResourceSet::one(0).with(63);
     let mut groups = Groups::new(alloc, RESOURCES as u8)?;
@@ -35,7 +35,7 @@ fn is_filled_and_copied(alloc: Global) -> Result<bool, Fail> {
     Ok(filled && copy.len() == GROUPS && copy.declared(pair))
 }
 
-// Where the groups are over all resources, any set may be one.
+// If the groups are over all resources, any set may be a group.
 fn declare(groups: &mut Groups, set: ResourceSet) -> Result<(), GroupErr>
     requires { groups.old.q ≡ RESOURCES }
     ensures { groups.new.q ≡ RESOURCES }

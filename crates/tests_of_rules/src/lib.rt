@@ -1,8 +1,8 @@
 //! Tests of the crates that hold the rules: what no clause says.
 //!
 //! That calls which take memory succeed with ample memory, what is printed, what a device of the standard library makes
-//! of its calls, and each generic call at a type of its own. A test asserts once: the function that it asserts answers
-//! whether all was as it should be.
+//! of its calls, and each generic call at a type of its own. A test has one assertion: the function that it asserts
+//! answers whether all was as it should be.
 #![tactic(auto)]
 
 #[cfg(test)]

@@ -9,7 +9,7 @@ use rset::{RESOURCES, ResourceSet};
 use std::alloc::Global;
 use std::test::Fail;
 
-// Issues a request about these resources, once all conditions of a step are tested.
+// Issues a request about these resources, after all conditions of a step are tested.
 fn issue<M: Machine>(
     machine: &mut M,
     seat: u8,
@@ -30,7 +30,7 @@ fn issue<M: Machine>(
     Ok(())
 }
 
-// Finishes the request of a seat, once it is tested that there is the seat.
+// Finishes the request of a seat, after a test that the seat exists.
 fn finish<M: Machine>(machine: &mut M, seat: u8) -> Result<(), Fail>
     requires { (M.state machine.old).groups.q ≡ RESOURCES }
     ensures { (M.state machine.new).groups.q ≡ RESOURCES }

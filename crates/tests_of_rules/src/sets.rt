@@ -3,7 +3,7 @@ use rset::{NameErr, NameTable, ResourceSet};
 use std::alloc::Global;
 use std::test::Fail;
 
-// A table takes names, refuses each other, and a copy knows them too.
+// A table takes names and refuses each a second time, and a copy knows them too.
 fn is_filled_and_copied(alloc: Global) -> Result<bool, Fail> {
     let mut table = NameTable::new(alloc);
     let left = table.add(b"left");
@@ -14,7 +14,7 @@ fn is_filled_and_copied(alloc: Global) -> Result<bool, Fail> {
     Ok(numbers && copy.number_of(b"right_2") == Some(1) && copy.number_of(b"right").is_none())
 }
 
-// A set is printed by its members.
+// A set is printed as its members.
 fn is_printed(alloc: Global) -> Result<bool, Fail> {
     let set = format!(in alloc; "{:?}", ResourceSet::one(63).with(5).with(1).with(0))?;
     let empty = format!(in alloc; "{:?}", ResourceSet::empty())?;

@@ -1,4 +1,4 @@
-// Tests of `rcover` and `rwaits`: covers that were worked by hand.
+// Tests of `rcover`: covers that were worked out by hand.
 use crate::covers::{Move, Turn, are_right, set};
 use rbound::Which;
 use rclaim::Kind;
@@ -29,7 +29,7 @@ fn issues(seat: u8, kind: Kind, reads: &[u8], writes: &[u8], len: u32, later: u3
     makes(seat, Move::Issue(kind, set(reads), set(writes), len, later))
 }
 
-// A wait ended, of the request of this stamp of a seat.
+// A wait ended, for the request of a seat with this stamp.
 fn end(seat: u8, stamp: u64, which: Which, numbers: (u64, u64, u64)) -> WaitEnd {
     let (reads, writes, units) = numbers;
     WaitEnd {
@@ -57,7 +57,7 @@ fn phases(alloc: Global) -> Result<bool, Fail> {
     )
 }
 
-// Places keep writes apart that do not conflict.
+// Places keep apart writes that do not conflict.
 fn places(alloc: Global) -> Result<bool, Fail> {
     are_right(
         alloc,
@@ -69,7 +69,7 @@ fn places(alloc: Global) -> Result<bool, Fail> {
     )
 }
 
-// A waiting read that touches the places of a write keeps it back.
+// A waiting read that touches the places of a write holds it back.
 fn reads_between(alloc: Global) -> Result<bool, Fail> {
     let read = end(1, 1, Which::First, (0, 1, 2));
     let write = end(2, 2, Which::First, (0, 1, 2));
@@ -187,7 +187,7 @@ fn leaves(alloc: Global) -> Result<bool, Fail> {
     )
 }
 
-// Whether all these stories are told right.
+// Whether the covers of all these stories are right.
 fn all_are_right(alloc: Global) -> Result<bool, Fail> {
     let writes = phases(alloc)? && places(alloc)? && reads_between(alloc)?;
     let lines = both_wait(alloc)? && reading_beside(alloc)? && line_changes(alloc)?;

@@ -40,7 +40,7 @@ impl Editable for Tally {
     }
 }
 
-// The answer to the edit and the number shown after it, of a copy.
+// The answer to the edit on a copy, and the number shown after it.
 fn edited_copy<T: Editable + Drop>(
     alloc: Global,
     value: &T,
@@ -74,7 +74,7 @@ fn takes_edits_up_to_its_limits() -> bool {
     !above && full && empty && !late && ledger.shown() == 0
 }
 
-// Entries are kept in room that was reserved, and tell the value.
+// Entries are kept in room that was reserved, and give the value.
 fn keeps_entries(alloc: Global) -> Result<bool, AllocError> {
     let mut history = History::new(alloc);
     history.reserve(1)?;

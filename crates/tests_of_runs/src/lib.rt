@@ -1,4 +1,4 @@
-//! Tests of runs of scripts on threads, through public functions alone. The crate has nothing else.
+//! Tests of runs of scripts on threads, through public functions only. The crate has nothing else.
 #![tactic(auto)]
 
 #[cfg(test)]

@@ -14,7 +14,7 @@ use std::sync::Wait;
 use std::test::Fail;
 use std::thread::Threads;
 
-// A task with the same section so many times.
+// A task with the same section this many times.
 fn push_task(text: &mut Vec<u8>, name: &str, section: &str, times: u32) -> Result<(), AllocError> {
     text.extend_from_slice(b"task,")?;
     text.extend_from_slice(name.as_bytes())?;
@@ -25,7 +25,7 @@ fn push_task(text: &mut Vec<u8>, name: &str, section: &str, times: u32) -> Resul
     Ok(())
 }
 
-/// The report of a script's run, each task of which has a thread; None where the text is no script, or there was no memory.
+/// The report of a script's run, with a thread for each task; None if the text is not a script, or there was no memory.
 pub fn report_of<R: Threads + Wait + Sync>(rt: &R, alloc: Global, text: &[u8]) -> Option<Report>
     ensures may { IfSome result (λ r. MayBeWritten (told_by r)) }
     ensures over { IfSome result IsOverResources }
@@ -40,8 +40,8 @@ pub fn report_of<R: Threads + Wait + Sync>(rt: &R, alloc: Global, text: &[u8]) -
     }
 }
 
-/// Whether the report has so many entries, and each resource so many edits, each of which added 1; and whether its history makes
-/// just these ledgers.
+/// Whether the report has this many entries, and each resource this many edits, each of which added 1; and whether its
+/// history makes just these ledgers.
 pub fn has_added(report: &Report, entries: usize, edits: &[u64]) -> bool {
     if report.history.len() != entries || report.ledgers.len() != edits.len() {
         return false;
@@ -56,7 +56,7 @@ pub fn has_added(report: &Report, entries: usize, edits: &[u64]) -> bool {
     true
 }
 
-// Whether the run of a script has so many entries, and each resource so many edits, as `has_added` says.
+// Whether the run of a script has this many entries, and each resource this many edits, as in `has_added`.
 fn adds<R: Threads + Wait + Sync>(
     rt: &R,
     alloc: Global,
@@ -112,7 +112,8 @@ fn nested_requests_ask_while_others_hold(rt: HostRuntime) -> Result<(), Fail> {
     Ok(())
 }
 
-// The number of its events that an audit finds in the report, once it is written; None where it accepts it not, or there was no memory.
+// How many events an audit finds in the report once it is written; None if the audit does not accept it, or there was
+// no memory.
 fn audited(alloc: Global, report: &Report) -> Option<u64>
     requires may { MayBeWritten (told_by report.now) }
     requires over { IsOverResources report.now }
@@ -127,7 +128,7 @@ fn audited(alloc: Global, report: &Report) -> Option<u64>
     }
 }
 
-// The same of what was written.
+// The same for what was written.
 fn events_told(alloc: Global, written: &[u8]) -> Option<u64> {
     let Ok(bytes) = Vec::from_slice(alloc, written) else {
         return None;
@@ -144,7 +145,7 @@ fn push_name(text: &mut Vec<u8>, letter: u8, number: u8) -> Result<(), AllocErro
     text.extend_from_slice(&[letter, b'0' + number / 10 % 10, b'0' + number % 10])
 }
 
-// A line of these pieces, each but the last with the name of a resource behind it.
+// A line of these pieces, each followed by the name of a resource, and an end.
 fn push_line(text: &mut Vec<u8>, pieces: &[(&str, u8)], end: &str) -> Result<(), AllocError> {
     for (piece, number) in pieces {
         text.extend_from_slice(piece.as_bytes())?;
@@ -218,7 +219,8 @@ fn push_adding(text: &mut Vec<u8>) -> Result<(), AllocError> {
     text.extend_from_slice(b"end\n")
 }
 
-// Whether a run stops none of two tasks, its report has so many entries and edits, and an audit accepts it; None where there was no memory.
+// Whether a run stops neither of two tasks, its report has this many entries and edits, and an audit accepts it; None
+// if there was no memory.
 fn runs_all<R: Threads + Wait + Sync>(
     rt: &R,
     alloc: Global,

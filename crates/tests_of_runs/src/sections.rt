@@ -15,7 +15,7 @@ use std::alloc::{AllocError, Global};
 use std::sync::{Arc, Wait};
 use std::test::Fail;
 
-// One task of two sections, of which the first adds, takes too much and shows.
+// One task of two sections; the first adds, takes too much and shows.
 const SCRIPT: &[u8] =
     b"rnlp,1\nresource,a\ntask,t1\nwrite,a,1\nadd,a,5\ntake,a,9\nshow,a\nfinish\nwrite,a,1\nset,a,7\nfinish\nend\n";
 
@@ -35,7 +35,7 @@ fn run_first<R: Wait>(
     run_section(rt, alloc, rnlp, seat, script, 0, 2, &NoPace)
 }
 
-// Whether the entry tells that the first section begins.
+// Whether the entry begins the first section.
 fn begins(entry: &Entry<Edit>) -> bool {
     match &entry.event {
         Event::Issue { seat, request } => {
@@ -49,7 +49,7 @@ fn begins(entry: &Entry<Edit>) -> bool {
     }
 }
 
-// Whether the act is this edit of the resource 0, with this answer.
+// Whether the act is this edit of resource 0, with this answer.
 fn is_edit(act: &Act<Edit>, made: Edit, taken: bool) -> bool {
     match act {
         Act::Edited { place, edit, done } => *place == 0 && *edit == made && *done == taken,
@@ -57,7 +57,7 @@ fn is_edit(act: &Act<Edit>, made: Edit, taken: bool) -> bool {
     }
 }
 
-// Whether the act shows this number of the resource 0.
+// Whether the act shows this number for resource 0.
 fn is_show(act: &Act<Edit>, shown: u64) -> bool {
     match act {
         Act::Edited { .. } => false,
@@ -65,7 +65,7 @@ fn is_show(act: &Act<Edit>, shown: u64) -> bool {
     }
 }
 
-// Whether the entry tells that the first section ends, with all that it did.
+// Whether the entry ends the first section, with all that it did.
 fn ends(entry: &Entry<Edit>) -> bool {
     let acts = entry.acts.as_slice();
     match entry.event {
@@ -94,7 +94,7 @@ fn is_left(history: &History<Edit>, ledgers: &[Arc<Ledger, Global>]) -> bool {
         && *ledgers[0] == made
 }
 
-// Whether the first section alone leaves at a runtime with one seat what it should.
+// Whether the first section alone, at a runtime with one seat, leaves what it should.
 fn leaves_its_own<R: Wait>(
     rt: &R,
     alloc: Global,

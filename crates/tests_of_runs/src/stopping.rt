@@ -1,5 +1,5 @@
-//! Tasks of scripts that are stopped for want of memory, and tasks that are not. The gate refuses no growth, so that no task is
-//! stopped in it: `rt try --test --fail-alloc N` refuses one, by hand.
+//! Tasks of scripts that are stopped because memory runs out, and tasks that are not. The gate refuses no growth, so no
+//! task is stopped in it: `rt try --test --fail-alloc N` refuses one, by hand.
 ghost use Rattle.std.specs.Prelude.{◌≡◌, IfOk};
 ghost use Rattle.rrun.specs.Reporting.{HasOpened};
 ghost use Rattle.rrun.specs.Tasks.{AreSeatsFor};
@@ -44,7 +44,7 @@ fn count_stopped<M: Machine>(all: &[Ended<M>]) -> usize {
     all.iter().filter(|ended| ended.stopped).count()
 }
 
-// How many tasks of a run at this runtime were stopped; None where there was no memory for the run itself.
+// How many tasks of a run at this runtime were stopped; None if there was no memory for the run itself.
 fn stopped_at<R: Threads + Wait + Sync>(
     rt: &R,
     alloc: Global,
@@ -68,7 +68,7 @@ fn stopped_by<R: Threads + Wait + Sync>(rt: &R, alloc: Global, script: &Script) 
     }
 }
 
-// The same for the script that a text spells.
+// The same for the script in a text.
 fn stopped_of<R: Threads + Wait + Sync>(rt: &R, alloc: Global, text: &[u8]) -> Option<usize> {
     match read_script(alloc, text) {
         Ok(script) => stopped_by(rt, alloc, &script),
@@ -90,7 +90,7 @@ fn a_growth_that_is_refused_stops_one_task(rt: HostRuntime) -> Result<(), Fail> 
     Ok(())
 }
 
-// Whether the tool has written the report of the run and handed out its receipt; or found no memory, and has done neither.
+// Whether the tool has written the report of the run and handed out its receipt; or ran out of memory and did neither.
 fn is_all_or_nothing<R: Threads + Wait + Sync>(rt: &R, alloc: Global, text: &[u8]) -> bool {
     let Ok(ran) = run_with(rt, alloc, text, &[], &[], &NoPace) else {
         return true;

@@ -15,7 +15,7 @@ const ROOM: usize = 100_000;
 // How often a section looks whether the other has begun.
 const LOOKS: u64 = 1_000_000_000;
 
-/// Lets a section of two go on once both have begun, and counts those that saw the other.
+/// Lets one of two sections go on once both have begun, and counts those that saw the other.
 #[derive(Drop)]
 struct Meeting {
     begun: AtomicU64,
@@ -84,7 +84,7 @@ fn run_between<R: Threads + Wait + Sync, G: Pace>(
     Ok((status, receipts.len()))
 }
 
-// Whether the two sections of a script are seen at once, and the run is done.
+// Whether the two sections of a script are seen at the same time, and the run is done.
 fn meet<R: Threads + Wait + Sync>(
     rt: &R,
     alloc: Global,
@@ -136,7 +136,7 @@ fn audit_between(
     Ok(())
 }
 
-// A task that adds 1 to the resource a in so many sections.
+// A task that adds 1 to resource a in this many sections.
 fn push_adder(text: &mut Vec<u8>, name: &[u8], sections: u32) -> Result<(), AllocError> {
     text.extend_from_slice(b"task,")?;
     text.extend_from_slice(name)?;
@@ -147,7 +147,7 @@ fn push_adder(text: &mut Vec<u8>, name: &[u8], sections: u32) -> Result<(), Allo
     Ok(())
 }
 
-// How many lines of a report tell waits.
+// How many lines of a report are waits.
 fn waits_told(report: &[u8]) -> usize {
     report
         .split(|byte| *byte == b'\n')
@@ -155,8 +155,8 @@ fn waits_told(report: &[u8]) -> usize {
         .count()
 }
 
-// Whether two tasks that add to one resource leave its ledger with all that they added, and an audit accepts the report and
-// counts its waits.
+// Whether two tasks that add to one resource leave its ledger with all that they added, and an audit accepts the report
+// and counts its waits.
 fn adders_add<R: Threads + Wait + Sync>(rt: &R, alloc: Global) -> Result<bool, AllocError> {
     let mut script = Vec::new(alloc);
     push_adders(&mut script)?;
@@ -189,7 +189,7 @@ fn two_tasks_add_to_one_resource(rt: HostRuntime) -> Result<(), Fail> {
     Ok(())
 }
 
-// Whether a run ends with this status, has written this, and has handed out so many receipts.
+// Whether a run ends with this status, has written this, and has handed out this many receipts.
 fn ends<R: Threads + Wait + Sync>(
     rt: &R,
     alloc: Global,
@@ -232,7 +232,7 @@ fn faults_of_devices_are_told(rt: HostRuntime) -> Result<(), Fail> {
     Ok(())
 }
 
-// Whether a script of one byte too many is told as too long, and one byte fewer is read.
+// Whether a script that is one byte too long is refused as too long, and one byte less is read.
 fn limit_is_met<R: Threads + Wait + Sync>(rt: &R, alloc: Global) -> Result<bool, AllocError> {
     let mut script = vec![in alloc; b'x'; 1_048_577]?;
     let long = ends(rt, alloc, &script, &[], &[], ToolStatus::TooLong, b"", 0)?;

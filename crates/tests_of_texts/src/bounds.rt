@@ -1,4 +1,4 @@
-// Bounds of scripts, told with ample memory.
+// Bounds of scripts, written with ample memory.
 ghost use Rattle.std.specs.Prelude.{◌≤◌, IfOk, IfSome};
 
 use rnlp_cli::bound_text;
@@ -6,8 +6,8 @@ use rscript::{Script, read_script};
 use std::alloc::Global;
 use std::test::Fail;
 
-// Scripts, each behind the cap that is given, and before what is written of it: those of the first three cases were worked by
-// hand, those of the others by `bench/bounds`, claim by claim.
+// Scripts, each after the cap that is given and before the text of its bounds. The first three were worked out by hand,
+// the others by `bench/bounds`, claim by claim.
 const CASES: &str = "none
 ----
 rnlp,1
@@ -161,7 +161,7 @@ fn cap_of(word: &str) -> Result<Option<u8>, Fail>
     }
 }
 
-// Whether this is written of the script under the cap.
+// Whether this text is written for the script under the cap.
 fn is_told(alloc: Global, cap: Option<u8>, script: &str, told: &str) -> Result<bool, Fail>
     requires { IfSome cap (λ m. 1 ≤ m) }
 {
@@ -171,7 +171,7 @@ fn is_told(alloc: Global, cap: Option<u8>, script: &str, told: &str) -> Result<b
     }
 }
 
-// The same of a script that was read.
+// The same for a script that was read.
 fn are_bounds(alloc: Global, cap: Option<u8>, script: &Script, told: &str) -> Result<bool, Fail>
     requires { IfSome cap (λ m. 1 ≤ m) }
 {
@@ -179,7 +179,7 @@ fn are_bounds(alloc: Global, cap: Option<u8>, script: &Script, told: &str) -> Re
     Ok(text.as_slice() == told.as_bytes())
 }
 
-// Whether of each case just that is written which stands at its end.
+// Whether for each case just the text at its end is written.
 fn are_told(alloc: Global, cases: &str) -> Result<bool, Fail> {
     for case in cases.split("====\n") {
         let Some((cap, rest)) = case.split_once("\n----\n") else {

@@ -4,7 +4,7 @@ use rnlp_cli::ToolStatus;
 use std::alloc::Global;
 use std::test::Fail;
 
-// A replay of an input on which reads and writes with these numbers fail.
+// A replay of an input where the reads and writes with these numbers fail.
 fn replay<'a>(input: &'a [u8], reads: &'a [u64], writes: &'a [u64]) -> Given<'a> {
     Given {
         word: "replay",
@@ -45,8 +45,8 @@ fn a_fault_of_the_input_comes_before_one_of_the_sink(rt: HostRuntime) -> Result<
     Ok(())
 }
 
-// Whether a replay of the smallest list, one byte a read and one a write, on which these reads and writes fail, ends with this
-// status and has written this.
+// Whether a replay of the smallest list, one byte per read and per write, where these reads and writes fail, ends with
+// this status and has written this.
 fn trickling(
     alloc: Global,
     reads: &[u64],
@@ -57,8 +57,8 @@ fn trickling(
     trickles(alloc, replay(SMALLEST, reads, writes), 1, status, output)
 }
 
-// Whether a read that fails is told, and nothing is written, whichever it is: one of those that give a byte, or the last, which
-// finds the end. One behind them is never made.
+// Whether a failing read is reported and nothing is written, for each read: those that give a byte, and the last one,
+// which finds the end. There is no read after that one.
 fn each_read_may_fail(alloc: Global) -> Result<bool, Fail> {
     let past = SMALLEST.len() as u64 + 2;
     for k in 1..past {
@@ -76,8 +76,8 @@ fn each_read_that_fails_is_told(rt: HostRuntime) -> Result<(), Fail> {
     Ok(())
 }
 
-// Whether a write that fails is told, and just the bytes before it are written, whichever it is. One behind the last is never
-// made.
+// Whether a failing write is reported and just the bytes before it are written, for each write. There is no write after
+// the last one.
 fn each_write_may_fail(alloc: Global) -> Result<bool, Fail> {
     for before in 0..SMALLEST_REPORT.len() {
         let fails = before as u64 + 1;
@@ -122,7 +122,7 @@ fn where_nothing_fails_the_report_is_written(rt: HostRuntime) -> Result<(), Fail
     Ok(())
 }
 
-// To the tools themselves the words of the program are wrong ones.
+// The tools themselves take the program's own words for wrong words.
 fn is_no_tool(alloc: Global, word: &str) -> Result<bool, Fail> {
     let given = Given {
         word,

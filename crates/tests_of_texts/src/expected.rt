@@ -1,4 +1,4 @@
-// What a person is told to be due where a report has another line.
+// Which line is reported as due where a report has another line.
 use crate::runs::one_word;
 use io_ends::{MemSink, MemSource};
 use rnlp_cli::{Told, ToolStatus, told_tool};
@@ -14,17 +14,17 @@ const ISSUED: &[u8] =
 const FINISHED: &[u8] =
     b"now,t,write,satisfied\ngrant,t,a+b\nissue,u,read,b,1\nnow,u,read,entitled\nfinish,t\nadd,a,5,yes\nnow,u,read,satisfied\ngrant,u,b\n";
 
-// The wait of the second task is told, and its section ends.
+// The line of the second task's wait, and the end of its section.
 const OVER: &[u8] = b"wait,u,first,0,1,2,0,1,2\nfinish,u\nledger,a,5,1\n";
 
-// Whether an audit of these parts, one behind another, tells that this line is due.
+// Whether an audit of these parts, one after another, reports this line as due.
 fn expects(alloc: Global, parts: &[&[u8]], line: &str) -> Result<bool, Fail> {
     let mut source = MemSource::new(joined(alloc, parts)?, Vec::new(alloc));
     let mut sink = MemSink::new(alloc, 64, Vec::new(alloc))?;
     is_told_due(alloc, &mut source, &mut sink, line)
 }
 
-// The parts one behind another.
+// The parts one after another.
 fn joined(alloc: Global, parts: &[&[u8]]) -> Result<Vec<u8>, Fail> {
     let mut report = Vec::new(alloc);
     for part in parts {
@@ -33,7 +33,7 @@ fn joined(alloc: Global, parts: &[&[u8]]) -> Result<Vec<u8>, Fail> {
     Ok(report)
 }
 
-// Whether an audit between these devices tells that this line is due.
+// Whether an audit between these devices reports this line as due.
 fn is_told_due(
     alloc: Global,
     source: &mut MemSource,
@@ -47,7 +47,7 @@ fn is_told_due(
     Ok(status == ToolStatus::Trace && is_due(&told, line))
 }
 
-// Whether this line is told to be due.
+// Whether this line is reported as due.
 fn is_due(told: &Option<Told>, line: &str) -> bool {
     match told {
         Some(
@@ -60,7 +60,7 @@ fn is_due(told: &Option<Told>, line: &str) -> bool {
     }
 }
 
-// Whether a change of a status and a grant are told to be due.
+// Whether a change of a status and a grant are reported as due.
 fn expects_changes(alloc: Global) -> Result<bool, Fail> {
     let status: &[u8] = b"now,t,write,entitled\n";
     let grant: &[u8] = b"now,t,write,satisfied\ngrant,t,a\n";

@@ -1,6 +1,6 @@
-//! Tests of the program's texts that are no table: limits, faults of the devices, and the words of an environment.
+//! Tests of the program's texts that are not tables: limits, faults of the devices, and the words of an environment.
 //!
-//! What is asserted stands once in each test: the work is done by functions that answer whether it went as it should.
+//! Each test has one assertion: the work is done by functions that answer whether it went as it should.
 #![tactic(auto)]
 
 #[cfg(test)]

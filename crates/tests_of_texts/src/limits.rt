@@ -4,7 +4,7 @@ use rnlp_cli::ToolStatus;
 use std::alloc::Global;
 use std::test::Fail;
 
-// A text with the same lines many times between two others.
+// A text with the same lines many times between two other texts.
 fn text_of(
     alloc: Global,
     head: &str,
@@ -20,7 +20,7 @@ fn text_of(
     Ok(text.as_bytes().to_vec(alloc)?)
 }
 
-// Whether a list of so many groups ends with this status, and an output that ends so.
+// Whether a list with this many groups ends with this status, and with an output that ends this way.
 fn groups_end(alloc: Global, groups: u16, status: ToolStatus, last: &[u8]) -> Result<bool, Fail> {
     let text = text_of(
         alloc,

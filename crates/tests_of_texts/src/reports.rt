@@ -72,7 +72,7 @@ fn read_as(alloc: Global, whole: bool, text: &str) -> Result<Report, TextErr>
     }
 }
 
-// Whether this is written of what was read of a text, into a sink whose writes with these numbers fail.
+// Whether this text is written of what was read from a text, into a sink whose writes with these numbers fail.
 fn is_written(
     alloc: Global,
     whole: bool,
@@ -86,7 +86,7 @@ fn is_written(
     }
 }
 
-// Whether this is written of a report, into such a sink.
+// Whether this text is written of a report, into such a sink.
 fn is_report_written(alloc: Global, report: &Report, fails: &[u64], due: &str) -> Result<bool, Fail>
     requires may { MayBeWritten (told_by report.now) }
     requires over { IsOverResources report.now }

@@ -15,7 +15,7 @@ pub const SMALLEST_REPORT: &[u8] = b"rnlp,1\nresource,a\ntask,t1\ncap,1\nledger,
 // More bytes than any output here has.
 const ROOM: usize = 200_000;
 
-/// What a run is given: its word, its input, and the numbers of the reads and of the writes that fail.
+/// What a run is given: its word, its input, and the numbers of the reads and writes that fail.
 #[derive(Clone, Copy, Drop)]
 pub struct Given<'a> {
     pub word: &'a str,
@@ -56,7 +56,7 @@ pub fn ends(
     Ok(answer == status && sink.written() == output)
 }
 
-/// The same of a run whose input comes one byte a read, and whose output goes at most so many bytes a write.
+/// The same for a run whose input comes one byte per read, and whose output goes at most this many bytes per write.
 pub fn trickles(
     alloc: Global,
     given: Given<'_>,
@@ -72,7 +72,7 @@ pub fn trickles(
     Ok(answer == status && sink.written() == output)
 }
 
-/// Whether a replay of an input on which no device fails ends with this status, and the last of what it wrote is this.
+/// Whether a replay of an input, with no device failing, ends with this status, and its output ends with this.
 pub fn replay_ends(
     alloc: Global,
     input: &[u8],

@@ -3,7 +3,7 @@ use rscript::{Script, ScriptErr, read_script};
 use std::alloc::Global;
 use std::test::Fail;
 
-// A script of two tasks, of which the first has ten statements and the second has none.
+// A script of two tasks; the first has ten statements, the second has none.
 const SCRIPT: &str = "rnlp,1
 resource,a
 resource,b
@@ -23,7 +23,7 @@ task,t2
 end
 ";
 
-// Texts that are no scripts, each behind the line and the code that are told of it.
+// Texts that are not scripts, each after its line and code of the first fault.
 const FAULTY: &str = "1,10
 rnlp,01
 ====
@@ -94,7 +94,7 @@ fn has_its_parts(script: &Script) -> bool {
         && script.steps(1).is_empty()
 }
 
-// What is told of a text: the line and the code of its first fault.
+// What is reported about a text: the line and the code of its first fault.
 fn told_of(alloc: Global, text: &str) -> Result<String, Fail> {
     match read_script(alloc, text.as_bytes()).err() {
         None => Ok(String::from_str(alloc, "a script")?),
@@ -106,7 +106,7 @@ fn told_of(alloc: Global, text: &str) -> Result<String, Fail> {
     }
 }
 
-// Whether of each text just that is told which stands before it.
+// Whether for each text just the line and code before it are reported.
 fn are_told(alloc: Global, cases: &str) -> Result<bool, Fail> {
     for case in cases.split("====\n") {
         let Some((told, text)) = case.split_once("\n") else {

@@ -1,4 +1,4 @@
-// What the program makes of the environment that it is started in.
+// What the program makes of the environment it is started in.
 ghost use Rattle.std.specs.Io.{WritesAtMost};
 
 use crate::runs::{SMALLEST, SMALLEST_REPORT, one_word};
@@ -97,7 +97,7 @@ fn words_that_are_no_text_are_wrong(rt: HostRuntime) {
     assert!(rt; wrong);
 }
 
-// Whether the first write of what these words ask fails, and nothing else is answered.
+// Whether the answer to this word is a write fault, with nothing written, if the first write fails.
 fn breaks_off<R: Threads + Wait + Sync>(rt: &R, alloc: Global, word: &str) -> Result<bool, Fail> {
     let mut source = MemSource::new(SMALLEST.to_vec(alloc)?, Vec::new(alloc));
     let mut sink = MemSink::new(alloc, SMALLEST_REPORT.len(), [1].to_vec(alloc)?)?;

@@ -55,14 +55,14 @@ other_is_part one other =
     some false is = absurd (true≢false (sym (contains_single other) ∙ none_in (single other) is other))
 
 module _ {V E : Type 0} where
-  -- one own entry more
+  -- one more own entry
   made_by : (before later : SeatOf V E) (entry : EntryFields E) → Goes before (entry ∷ []) later → section_made later.mine ≡ section_told (section_made before.mine) entry.event
   made_by before later entry goes = ap section_made goes.mine ∙ fold-append (λ (x : Option OpenSection) (e : EntryFields E). section_told x e.event) None before.mine (entry ∷ [])
 
   pub begun_by : (before later : SeatOf V E) (r : RequestFields) → Goes before (bare (Issue before.number r) ∷ []) later → HasBegunLast r later
   begun_by before later r goes = made_by before later (bare (Issue before.number r)) goes
 
-  -- and none
+  -- and no more entry
   pub begun_still : (before later : SeatOf V E) (r : RequestFields) → Goes before [] later → HasBegunLast r before → HasBegunLast r later
   begun_still before later r goes was = ap section_made (goes.mine ∙ append-nil before.mine) ∙ was
 
@@ -107,7 +107,7 @@ module _ {V E : Type 0} (after : V → E → V) (taken : V → E → Bool) (numb
       any_among (λ (x : Claimed). (x.claim.seat == seat.number) && is_part (single other) (union x.claim.reads x.claim.writes)) (lock_after b seat.seen).claims x.0 x.1
       (and_from (x.0.claim.seat == seat.number) (is_part (single other) (union x.0.claim.reads x.0.claim.writes)) x.2 ((λ i. is_part (single other) (union (sets.0 i) (sets.1 i))) ∙ other_is_part one other))
 
-  -- and has it for writing then
+  -- and holds it for writing then
   pub asked_writes : (seat later : SeatOf V E) (one other : ℕ) → Goes seat (bare (Ask seat.number (single other)) ∷ []) later → HasSeenLawful after taken number later → HasSeenOwn later → IsReady later true
       → HasBegunLast (nesting one other) seat → HoldingToWrite later other
   asked_writes seat later one other goes lawful own ready made =

@@ -1,4 +1,4 @@
--- What seats may do that have waited.
+-- What seats may do after they have waited.
 use Rattle.std.proofs.Common.{◌≡◌, ℕ, true, Bool, [], refl, subst}
 use Rattle.std.specs.FinSet.{contains}
 use Rattle.rset.specs.Sets.{Set}
@@ -14,7 +14,7 @@ use Rattle.rguard.specs.Looks.{LooksAt}
 use Rattle.rguard.proofs.Going.{goes_on}
 use Rattle.rguard.proofs.Held.{may_read}
 
--- who waited to read may read
+-- a seat that waited to read may read
 module _ {V E : Type 0} (after : V → E → V) (taken : V → E → Bool) (number : V → ℕ) where
   pub reads_looked : {M : Type 0} (set : Set) (wait : WaitFields V E) (guard : GuardFields V E) (looked : Looked V M E) (ready : Guard V M E) (l : ℕ) → WaitsToRead set wait.seat → ready ≡ Read guard → looked ≡ Ready ready → LooksAt wait looked
       → HasSeenLawful after taken number guard.seat → HasSeenOwn guard.seat → contains set l ≡ true → Holding guard.seat l

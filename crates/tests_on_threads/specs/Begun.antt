@@ -12,7 +12,7 @@ use Rattle.rscript.specs.Statements.{begun}
 abbrev pub single : ℕ → Set
 single l = insert empty l
 
--- a nested request that writes two resources, and has the one at first
+-- a nested request that writes two resources, and holds one of them at first
 abbrev pub nesting : ℕ → ℕ → RequestFields
 nesting one other = normalised kinds.Nested empty (union (single one) (single other)) (single one) 1 0
 

@@ -32,7 +32,7 @@ fn are_in_order<M: Machine>(seats: &[Place<M>]) -> bool
     true
 }
 
-/// Closes the runtime, once it is seen that all seats are there.
+/// Closes the runtime, after checking that all seats are there.
 pub fn closed<M: Machine>(
     rt: &impl Abort,
     lock: Runtime<M>,
@@ -50,7 +50,7 @@ pub fn closed<M: Machine>(
     Left { history, values }
 }
 
-/// The ledger of a resource, once it is seen that the history makes just it of the opening ledger.
+/// The ledger of a resource, after checking that the history makes just it of the opening ledger.
 pub fn ledger_of(rt: &impl Abort, left: &Left, l: u8) -> Ledger {
     let opening = Ledger {
         balance: OPENING,

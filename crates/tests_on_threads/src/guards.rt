@@ -16,8 +16,8 @@ use std::process::Abort;
 use std::sync::Wait;
 use std::test::Fail;
 
-// What a reader reads who begins to wait while another adds 5 to what is declared together, and ends that section with its acts or without
-// them; and how often the reader looked too early. None where there was no memory.
+// What a reader reads that begins to wait while another adds 5 to what is declared together, and ends that section with
+// its acts or without them; and how often the reader looked too early. None if there was no memory.
 fn read_behind<R: Wait, M: Machine>(
     rt: &R,
     alloc: Global,
@@ -71,7 +71,7 @@ fn spent<R: Wait, M: Machine>(
     }
 }
 
-// Two readings behind a writer, which the first time ends its section with its acts, and the second time without them.
+// Two readings after a writer, which ends its section the first time with its acts, and the second time without them.
 fn read_twice<R: Wait + Abort, M: Machine>(
     rt: &R,
     alloc: Global,
@@ -91,7 +91,7 @@ fn read_twice<R: Wait + Abort, M: Machine>(
     Ok((kept, dropped))
 }
 
-// Whether both readings at a runtime of their own were of what the writer had kept, and what is left of it.
+// Whether both readings at a runtime of their own gave what the writer had kept, and what is left of the runtime.
 fn left_by_readings<R: Wait + Abort>(rt: &R, alloc: Global) -> Result<(bool, Left), AllocError> {
     let a = ResourceSet::one(0);
     let (lock, mut seats) = opened(alloc, a, 2)?;

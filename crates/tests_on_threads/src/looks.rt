@@ -13,7 +13,7 @@ use rvalue::Ledger;
 use std::alloc::Global;
 use std::sync::Wait;
 
-/// Begins to read what is declared together; or the seat, where there was no memory.
+/// Begins to read what is declared together; or gives back the seat if there was no memory.
 pub fn begin_to_read<'a, R: Wait, M: Machine>(
     rt: &R,
     alloc: Global,

@@ -1,4 +1,4 @@
-//! A section of a nested request, in which each call that found no memory is made again.
+//! A section of a nested request, where each call that found no memory is made again.
 ghost use Rattle.std.specs.Prelude.{◌≡◌, ◌<◌, IfOk, IfErr};
 ghost use Rattle.rset.specs.declared.TheConstants.{RESOURCES};
 ghost use Rattle.rguard.specs.Guards.{HoldingToWrite};
@@ -14,7 +14,7 @@ use rvalue::{Edit, Ledger};
 use std::alloc::Global;
 use std::sync::Wait;
 
-/// A guard that has the one resource for writing, and may ask for the other; or the seat, where there was no memory.
+/// A guard that holds one resource for writing, and may ask for the other; or the seat, if there was no memory.
 fn to_nest<'a, R: Wait, M: Machine>(
     rt: &R,
     alloc: Global,
@@ -49,7 +49,7 @@ fn to_nest<'a, R: Wait, M: Machine>(
     }
 }
 
-/// Asks for the other resource, and waits for it; or the guard, where there was no memory.
+/// Asks for the other resource, and waits for it; or gives back the guard, if there was no memory.
 fn asked<'a, R: Wait, M: Machine>(
     rt: &R,
     alloc: Global,
@@ -81,7 +81,7 @@ fn asked<'a, R: Wait, M: Machine>(
     }
 }
 
-// Edits a resource, a second time where there was no memory at first. Whether the edit was taken.
+// Edits a resource, a second time if there was no memory at first. Whether the edit was taken.
 fn edited<M: Machine>(
     alloc: Global,
     guard: &mut NestGuard<'_, Ledger, M>,
@@ -97,7 +97,7 @@ fn edited<M: Machine>(
     }
 }
 
-// Shows a resource, a second time where there was no memory at first.
+// Shows a resource, a second time if there was no memory at first.
 fn shown<M: Machine>(alloc: Global, guard: &mut NestGuard<'_, Ledger, M>, place: u8) -> Option<u64>
     requires { HoldingToWrite guard.old.seat place }
     ensures { guard.new.seat ≡ guard.old.seat }
@@ -108,7 +108,7 @@ fn shown<M: Machine>(alloc: Global, guard: &mut NestGuard<'_, Ledger, M>, place:
     }
 }
 
-// The guard, a second time where there was no memory at first.
+// The guard, a second time if there was no memory at first.
 fn to_nest_again<'a, R: Wait, M: Machine>(
     rt: &R,
     alloc: Global,
@@ -132,7 +132,7 @@ fn to_nest_again<'a, R: Wait, M: Machine>(
     }
 }
 
-// Ends the section, a second time where there was no memory at first. Whether it was ended with its acts.
+// Ends the section, a second time if there was no memory at first. Whether it ended with its acts.
 fn finished<R: Wait, M: Machine>(
     rt: &R,
     alloc: Global,
@@ -154,7 +154,7 @@ fn finished<R: Wait, M: Machine>(
     }
 }
 
-// The same, a second time where there was no memory at first.
+// The same, a second time if there was no memory at first.
 fn asked_again<'a, R: Wait, M: Machine>(
     rt: &R,
     alloc: Global,
@@ -205,8 +205,8 @@ fn went_on<R: Wait, M: Machine>(
     }
 }
 
-/// One section that adds 1 to the one resource, asks for the other, and adds 1 to that too: what the other shows then. Each call is made a second
-/// time where it found no memory; None where it found none again.
+/// One section that adds 1 to one resource, asks for the other, and adds 1 to that too: what the other shows then. Each
+/// call is made a second time if it found no memory; None if it found none again.
 pub fn nest_in<R: Wait, M: Machine>(
     rt: &R,
     alloc: Global,

@@ -13,7 +13,7 @@ use std::sync::Wait;
 use std::sync::atomic::{AtomicU64, Ordering};
 use std::test::Fail;
 
-// A ledger that counts its copies down in a word that is lent to it: the copy at which the word comes to 0 finds no memory.
+// A ledger that counts its copies down in a word that it borrows: the copy that brings the word to 0 finds no memory.
 #[derive(Drop)]
 struct Rationed<'a> {
     ledger: Ledger,
@@ -94,7 +94,7 @@ fn to_write<'b, 'a, R: Wait>(
     }
 }
 
-// Whether the entry ends a section with this one act, or with none.
+// Whether the entry ends a section with just this act, or with none.
 fn ends_with(entry: &Entry<Edit>, added: Option<(u8, u64)>) -> bool {
     match &entry.event {
         Event::Finish { seat: _ } => {}
@@ -111,7 +111,8 @@ fn ends_with(entry: &Entry<Edit>, added: Option<(u8, u64)>) -> bool {
     }
 }
 
-// Whether the first section is refused its edit and is broken off, and the second, of the other resource, takes its own.
+// Whether the first section's edit is refused and the section is broken off, and the second section, on the other
+// resource, takes its edit.
 fn goes_on<R: Wait>(rt: &R, alloc: Global, left: &AtomicU64) -> Option<bool> {
     let Ok((lock, mut seats)) = opened(alloc, 100, left) else {
         return None;

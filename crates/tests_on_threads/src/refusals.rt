@@ -1,4 +1,4 @@
-//! Want of memory, call by call: each call that found none is made again, and the end is as if it had found some.
+//! Out of memory, call by call: each call that found no memory is made again, and the end is as if it had found some.
 ghost use Rattle.std.specs.Prelude.{◌≡◌, true, All, IfOk, OnOk};
 ghost use Rattle.std.specs.FinSet.{contains};
 ghost use Rattle.rguard.specs.Resting.{Rests, all_with};
@@ -38,7 +38,7 @@ fn are_made<R: Wait + Abort, M: Machine>(
     Ok(written && nested == Some(OPENING + 1) && risen == Some(OPENING + 6))
 }
 
-// A runtime with two seats, made a second time where there was no memory at first.
+// A runtime with two seats, made a second time if there was no memory at first.
 fn opened_again(
     alloc: Global,
     group: ResourceSet,
@@ -52,7 +52,7 @@ fn opened_again(
     }
 }
 
-// Whether these sections at a runtime of their own read and wrote what they should, and what is left of it.
+// Whether these sections at a runtime of their own read and wrote what they should, and what is left of the runtime.
 fn left_by_sections<R: Wait + Abort>(rt: &R, alloc: Global) -> Result<(bool, Left), AllocError> {
     let both = ResourceSet::one(0).with(1);
     let (lock, mut seats) = opened_again(alloc, both)?;

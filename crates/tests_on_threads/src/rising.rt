@@ -1,4 +1,4 @@
-//! Sections of a write request and of an upgrade, in which each call that found no memory is made again.
+//! Sections of a write request and of an upgrade, where each call that found no memory is made again.
 ghost use Rattle.std.specs.Prelude.{◌≡◌, true, IfOk, IfErr};
 ghost use Rattle.std.specs.FinSet.{contains};
 ghost use Rattle.rguard.specs.Guards.{Holding, HoldingToWrite};
@@ -14,7 +14,7 @@ use rvalue::{Edit, Ledger};
 use std::alloc::Global;
 use std::sync::Wait;
 
-/// A guard that reads what is declared together, and may rise; or the seat, where there was no memory.
+/// A guard that reads what is declared together, and may rise; or the seat, if there was no memory.
 fn to_rise<'a, R: Wait, M: Machine>(
     rt: &R,
     alloc: Global,
@@ -42,7 +42,7 @@ fn to_rise<'a, R: Wait, M: Machine>(
     }
 }
 
-// The same, a second time where there was no memory at first.
+// The same, a second time if there was no memory at first.
 fn to_rise_again<'a, R: Wait, M: Machine>(
     rt: &R,
     alloc: Global,
@@ -62,7 +62,7 @@ fn to_rise_again<'a, R: Wait, M: Machine>(
     }
 }
 
-// A guard to write what is declared together, a second time where there was no memory at first.
+// A guard to write what is declared together, a second time if there was no memory at first.
 fn to_write_again<'a, R: Wait, M: Machine>(
     rt: &R,
     alloc: Global,
@@ -81,7 +81,7 @@ fn to_write_again<'a, R: Wait, M: Machine>(
     }
 }
 
-// Shows a resource, a second time where there was no memory at first.
+// Shows a resource, a second time if there was no memory at first.
 fn shown<M: Machine>(alloc: Global, guard: &mut RiseGuard<'_, Ledger, M>, place: u8) -> Option<u64>
     requires { Holding guard.old.seat place }
     ensures { guard.new.seat ≡ guard.old.seat }
@@ -111,7 +111,7 @@ fn risen<'a, R: Wait, M: Machine>(
     guard
 }
 
-// Edits a resource, a second time where there was no memory at first. Whether the edit was taken.
+// Edits a resource, a second time if there was no memory at first. Whether the edit was taken.
 fn edited<M: Machine>(
     alloc: Global,
     guard: &mut WriteGuard<'_, Ledger, M>,
@@ -127,7 +127,7 @@ fn edited<M: Machine>(
     }
 }
 
-// Edits a resource and ends the section, each a second time where there was no memory at first. Whether both were done.
+// Edits a resource and ends the section, each a second time if there was no memory at first. Whether both were done.
 fn edited_last<R: Wait, M: Machine>(
     rt: &R,
     alloc: Global,
@@ -149,8 +149,8 @@ fn edited_last<R: Wait, M: Machine>(
     }
 }
 
-/// One section that edits a resource of those that are declared together. Each call is made a second time where it found no memory. Whether all was
-/// done is told.
+/// One section that edits one of the resources that are declared together. Each call is made a second time if it found
+/// no memory. Answers whether all was done.
 pub fn write_one<R: Wait, M: Machine>(
     rt: &R,
     alloc: Global,
@@ -170,8 +170,8 @@ pub fn write_one<R: Wait, M: Machine>(
     }
 }
 
-/// One section that shows a resource of those that are declared together, rises, and edits it: what was shown. Each call is made a second time where
-/// it found no memory; None where it found none again.
+/// One section that shows one of the resources that are declared together, rises, and edits it: what was shown. Each
+/// call is made a second time if it found no memory; None if it found none again.
 pub fn rise_in<R: Wait, M: Machine>(
     rt: &R,
     alloc: Global,

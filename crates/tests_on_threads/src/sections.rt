@@ -24,7 +24,7 @@ pub type Place<M> = Seat<Ledger, M>;
 /// What is in each ledger at first.
 pub const OPENING: u64 = 1_000_000;
 
-/// A runtime over a ledger for each resource, at which a set is declared, and its seats.
+/// A runtime over a ledger for each resource, where a set is declared, and its seats.
 pub fn opened(
     alloc: Global,
     group: ResourceSet,
@@ -42,7 +42,7 @@ pub fn opened(
     Ok((lock, seats))
 }
 
-/// Takes the last seat out of a list of seats that rest.
+/// Takes the last seat out of a list of resting seats.
 pub fn pop_seat<M: Machine>(
     rt: &impl Abort,
     lock: &Runtime<M>,
@@ -58,7 +58,7 @@ pub fn pop_seat<M: Machine>(
     seats.pop().expect(rt, "a seat")
 }
 
-/// Puts a seat that rests behind others.
+/// Adds a resting seat after others.
 pub fn push_seat<M: Machine>(
     lock: &Runtime<M>,
     group: ResourceSet,
@@ -75,7 +75,7 @@ pub fn push_seat<M: Machine>(
     Ok(())
 }
 
-// All resources, of which the set is declared.
+// All resources, with the set declared.
 fn declared(alloc: Global, group: ResourceSet) -> Result<Groups, AllocError>
     ensures { IfOk result (λ groups. groups ≡ record { q = RESOURCES; groups = group ∷ [] }) }
 {
@@ -98,7 +98,7 @@ fn ledgers(alloc: Global) -> Result<Vec<Ledger>, AllocError>
     vec![in alloc; ledger; RESOURCES as usize]
 }
 
-/// A guard to write these resources; or the seat, where there was no memory.
+/// A guard to write these resources; or the seat, if there was no memory.
 pub fn to_write<'a, R: Wait, M: Machine>(
     rt: &R,
     alloc: Global,
@@ -126,7 +126,7 @@ pub fn to_write<'a, R: Wait, M: Machine>(
     }
 }
 
-/// A guard to read the resources that are declared together; or the seat, where there was no memory.
+/// A guard to read the resources that are declared together; or the seat, if there was no memory.
 pub fn to_read<'a, R: Wait, M: Machine>(
     rt: &R,
     alloc: Global,
@@ -183,7 +183,7 @@ pub fn sum_of<M: Machine>(guard: &ReadGuard<'_, Ledger, M>, set: ResourceSet) ->
     sum
 }
 
-/// Ends a section that writes. Whether all of it was done is told.
+/// Ends a section that writes. Answers whether all of it was done.
 pub fn ended<R: Wait, M: Machine>(
     rt: &R,
     alloc: Global,
@@ -203,7 +203,7 @@ pub fn ended<R: Wait, M: Machine>(
     }
 }
 
-/// One section that edits each of these resources. Whether all was done is told.
+/// One section that edits each of these resources. Answers whether all was done.
 pub fn write_in<R: Wait, M: Machine>(
     rt: &R,
     alloc: Global,
@@ -245,7 +245,7 @@ pub fn read_in<R: Wait, M: Machine>(
     }
 }
 
-/// One section that takes 1 from each of some resources, and adds 1 to each of others. Whether all was done is told.
+/// One section that takes 1 from each of some resources, and adds 1 to each of others. Answers whether all was done.
 pub fn move_in<R: Wait, M: Machine>(
     rt: &R,
     alloc: Global,

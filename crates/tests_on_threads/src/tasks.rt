@@ -25,7 +25,7 @@ pub enum Work {
     Add(ResourceSet),
     /// It takes 1 from each of the first, and adds 1 to each of the others.
     Move(ResourceSet, ResourceSet),
-    /// It reads what is declared together, where this is the sum.
+    /// It reads what is declared together, whose sum is this.
     Read(u64),
 }
 
@@ -139,7 +139,7 @@ fn jobs_for(
     Ok(jobs)
 }
 
-// The seats of the tasks, once it is seen that each of them did all as it should be.
+// The seats of the tasks, after checking that each of them did all as it should.
 fn seats_of(
     rt: &impl Abort,
     alloc: Global,
@@ -162,7 +162,7 @@ fn seats_of(
     Ok(seats)
 }
 
-// Closes a runtime at which each of these tasks had a thread of its own, and made so many sections.
+// Closes a runtime where each of these tasks had a thread of its own, and made this many sections.
 fn left_by<R: Threads + Wait + Abort + Sync>(
     rt: &R,
     alloc: Global,

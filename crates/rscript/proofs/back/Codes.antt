@@ -32,7 +32,7 @@ use Rattle.rscript.proofs.facts.Said.{says, word_by}
 there : {X : Type 0} (o : Option X) (x : X) → o ≡ Some x → not (is_none o) ≡ true
 there o x h = ap (λ p. not (is_none p)) h
 
--- what the fields of a record say names what was declared
+-- the fields of a record of a line name what was declared
 read_known : (names : Names) (fs : List Field) (row : Row) (v : Values fs) → read names fs row ≡ Some v → all_known names fs row ≡ true
 unfolding read all_known
 read_known names [] row v h = refl
@@ -53,7 +53,7 @@ when_none : {C : Type 0} (b : Bool) (c : C) → b ≡ false → first_of (when b
 when_none b c h = rw h refl
 
 module _ (s : SoFar) where
-  -- what is declared without a fault has none
+  -- what is declared without a fault has no fault
   declared_none : (row : Row) (w : ScriptWord) (v : Values (fields_of w)) → read (names_of s.resources) (fields_of w) row ≡ Some v → IsFine s (line_by w v) → first_of (declared_causes s w row) ≡ None
   declared_none row word.Version v reads fine = refl
   declared_none row word.Resource v reads fine =

@@ -58,7 +58,7 @@ pub grouped_run : (rs : List (List ℕ)) (gs : List Set) → are_read_groups gs 
     → Runs (saying 2 rs [] [] [] None) (map HasGroup gs) (saying (last_place 2 3 gs) rs gs [] [] None)
 grouped_run rs gs groups within = groups_run 2 rs [] gs (omega arith) (omega arith) groups within
 
--- the place behind the groups, if there are any
+-- the place after the groups, if there are any
 pub groups_place : (gs : List Set) → (1 ≤ last_place 2 3 gs) × (last_place 2 3 gs ≤ 4)
 groups_place [] = (omega arith, omega arith)
 groups_place (g ∷ gs) = (omega arith, omega arith)

@@ -15,7 +15,7 @@ use Rattle.rscript.proofs.forth.Rows.{row_leads}
 use Rattle.rscript.proofs.back.Codes.{no_code}
 use Rattle.rscript.proofs.back.TaskRuns.{script_run}
 
--- what records lead to
+-- where records lead
 record AreClean (s : SoFar) (rows : List Row) (lines : List Line) : Type 0 where
   pub clean : AllClean code_of with_row s rows
   pub leads : fold with_row s rows ≡ fold with_line s lines

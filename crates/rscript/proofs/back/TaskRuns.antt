@@ -107,7 +107,7 @@ tasks_run p rs gs before (name ∷ after) earlier latest (st ∷ steps) low high
 
 -- ---- a whole script
 
--- where the lines of a script lead: behind its end, and they have said the script
+-- where the lines of a script lead: after its end, and they have said the script
 pub record ScriptRun (p : ScriptFields) : Type 0 where
   pub end : SoFar
   pub runs : Runs nothing_yet (lines_of p) end

@@ -65,7 +65,7 @@ three_hold true true false h = absurd (some_false h)
 three_hold true false c h = cc
 three_hold false b c h = cc
 
--- the place of a line that may stand there
+-- the place of a line that may come there
 pub placed_at : (s : SoFar) (w : ScriptWord) → may_stand s w ≡ true → ((stands w).least ≤ s.last) × (s.last ≤ (stands w).most) × (is_there (stands w).inside (section_of s.latest) ≡ true)
 placed_at s w h =
     let parts = three_hold (nat_le (stands w).least s.last) (nat_le s.last (stands w).most) _ h in

@@ -1,4 +1,4 @@
--- What a record says that has a meaning, and what one without a fault says.
+-- What a record with a meaning says, and what a record without a fault says.
 use Rattle.std.proofs.Common.{◌≡◌, true, false, not, ◌&&◌, Option, Some, None, refl, sym, ap, subst, ◌∙◌}
 use Rattle.rclaim.specs.declared.request.Kind.TheVariants.{Read, Write, Mixed, Upgrade, Nested}
 use Rattle.rtrace_form.specs.Records.{Row}

@@ -1,4 +1,5 @@
--- By which names a record is told: it is read by all names as by those that were declared before it, since the resources that it needs have then been declared whole.
+-- The names by which a record is read: all names give the same as those declared before it, since the resources it
+-- needs are all declared by then.
 use Rattle.std.proofs.Common.{◌≡◌, ℕ, ◌≤◌, List, [], ◌∷◌, fold, Some, refl, sym, ap, subst, ◌∙◌, arith}
 use Rattle.std.specs.Prelude.{option_map}
 use Rattle.rclaim.specs.declared.request.Kind.TheVariants.{Read, Write, Mixed, Upgrade, Nested}
@@ -13,7 +14,7 @@ use Rattle.rscript.specs.SoFar.{SoFar, with_line}
 use Rattle.rscript.proofs.facts.Fine.{IsNext, AllNext, placed_at}
 use Rattle.rscript.proofs.facts.Said.{says}
 
--- a record needs the resources only behind them
+-- a record needs the resources only after they are declared
 needs : (s : SoFar) (a b : List (List ℕ)) (w : ScriptWord) (v : Values (fields_of w)) → (3 ≤ (with_line s (line_by w v)).last → a ≡ b) → AgreeOnAll (names_of a) (names_of b) (fields_of w)
 needs s a b word.Version v r = (tt, (tt, tt))
 needs s a b word.Resource v r = (tt, (tt, tt))
@@ -41,7 +42,7 @@ means_same s a b row line r h =
     let agree = needs s a b told.of told.values (λ e. r (subst (λ (l : Line). 3 ≤ (with_line s l).last) told.tells e)) in
     ap (meant_as (names_of b) row) told.is ∙ ap (option_map (line_by told.of)) (sym (read_same (names_of a) (names_of b) (fields_of told.of) row agree) ∙ told.reads) ∙ ap (λ (l : Line). Some l) told.tells
 
--- behind the resources no line declares one
+-- after the resources no line declares one
 resources_stay : (s : SoFar) (line : Line) → 3 ≤ s.last → IsNext s line → ((with_line s line).resources ≡ s.resources) × (3 ≤ (with_line s line).last)
 resources_stay s Opens far next = absurd (let at = placed_at s word.Version next.placed in omega (arith, at.1, far))
 resources_stay s (HasResource name) far next = absurd (let at = placed_at s word.Resource next.placed in omega (arith, at.1, far))
@@ -54,7 +55,7 @@ pub resources_kept : (s : SoFar) (lines : List Line) → 3 ≤ s.last → AllNex
 resources_kept s [] far next = refl
 resources_kept s (line ∷ lines) far next = let one = resources_stay s line far next.0 in resources_kept (with_line s line) lines one.1 next.1 ∙ one.0
 
--- a line behind the resources declares none
+-- a line after the resources declares no resource
 pub resources_same : (s : SoFar) (line : Line) → 3 ≤ (with_line s line).last → (with_line s line).resources ≡ s.resources
 resources_same s (HasResource name) far = absurd (omega (arith, far))
 resources_same s Opens far = refl
@@ -63,6 +64,6 @@ resources_same s (HasTask name) far = refl
 resources_same s (Does done) far = refl
 resources_same s Ends far = refl
 
--- so it is told by the resources that there are in the end
+-- so it is read by the resources that are there in the end
 pub final_resources : (s : SoFar) (line : Line) (lines : List Line) → AllNext (with_line s line) lines → 3 ≤ (with_line s line).last → s.resources ≡ (fold with_line (with_line s line) lines).resources
 final_resources s line lines next far = sym (resources_kept (with_line s line) lines far next ∙ resources_same s line far)

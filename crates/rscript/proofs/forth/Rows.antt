@@ -46,7 +46,7 @@ rows_said s (row ∷ rows) all =
       leads = ap (λ (t : SoFar). fold with_row t rows) leads ∙ rest.leads;
     }
 
--- and by all names in the end
+-- and by all names that are there in the end
 said_by_all : (s : SoFar) (rows : List Row) (lines : List Line) → SayInTurn s rows lines → AllNext s lines
     → AllZip (λ row line. meaning (names_of (fold with_line s lines).resources) row ≡ Some line) rows lines
 said_by_all s [] [] said next = tt

@@ -1,4 +1,4 @@
--- Where lines without a fault have led: what they are, by what they have said.
+-- Where lines without a fault lead: they are what they have said.
 use Rattle.std.proofs.Common.{◌≡◌, ℕ, ◌≤◌, true, false, List, [], ◌∷◌, ◌++◌, length, Option, Some, None, refl, sym, ap, subst}
 use Rattle.std.proofs.lemmas.List.{append-nil}
 use Rattle.std.specs.Prelude.{is_none, option_to_list}
@@ -14,7 +14,7 @@ use Rattle.rscript.specs.declared.statement.Statement.{Statement}
 use Rattle.rscript.specs.Scripts.{said_lines, lines_of, AreWithin}
 use Rattle.rscript.specs.SoFar.{SoFar, steps_in, section_of, told_in}
 
--- the statements of the latest task may stand behind one another
+-- the statements of the latest task may come one after another
 abbrev pub AreTurns : ℕ → List Set → Option (List Statement) → Type 0
 AreTurns q groups None = Unit {0}
 AreTurns q groups (Some statements) = AllInTurn (FitsBehind q groups) [] statements
@@ -50,7 +50,7 @@ pub all_with : {X : Type 0} (P : X → Type 0) (xs ys : List X) → AllByRecursi
 all_with P [] ys a b = b
 all_with P (x ∷ xs) ys a b = (a.0, all_with P xs ys a.1 b)
 
--- the latest task is one, once its last section is closed
+-- the latest task is a task once its last section is closed
 pub latest_tasks : (q : ℕ) (groups : List Set) (latest : Option (List Statement)) → AreTurns q groups latest → section_of latest ≡ None → AllByRecursion (IsTask q groups) (option_to_list latest)
 latest_tasks q groups None turns closed = tt
 latest_tasks q groups (Some statements) turns closed = (record { turns = turns; closed = closed }, tt)

@@ -1,4 +1,4 @@
--- One line more.
+-- One more line.
 use Rattle.std.proofs.Common.{◌≡◌, ℕ, true, false, List, [], ◌∷◌, ◌++◌, length, Option, Some, None, refl, sym, ap, subst, ◌∙◌, arith, length-append}
 use Rattle.std.proofs.lemmas.Bool.{true≢false}
 use Rattle.std.specs.Prelude.{is_none, option_map, option_to_list}
@@ -21,12 +21,12 @@ use Rattle.rscript.proofs.facts.Fine.{IsNext, placed_at}
 use Rattle.rscript.proofs.forth.TaskLines.{grown_resource, grown_group, grown_task, grown_step, open_lines}
 use Rattle.rscript.proofs.forth.Stands.{Stands, AreTurns, all_with, latest_tasks, turn_more}
 
--- a section that must be closed is
+-- a section that has to be closed is closed
 pub closed_there : {X : Type 0} (o : Option X) → is_none o ≡ true → o ≡ None
 closed_there None h = refl
 closed_there (Some x) h = absurd (true≢false (sym h))
 
--- a statement stands behind tasks, and where it is said to
+-- a statement comes after tasks, at the place where it may come
 pub least_of : (s : Statement) → (stands (statement_word s)).least ≡ 4
 least_of (statement.Begin r) = refl
 least_of (statement.Edit place (edit.Add n)) = refl
@@ -57,7 +57,7 @@ inside_of (statement.Ask part) = refl
 inside_of statement.Rise = refl
 inside_of statement.Finish = refl
 
--- nothing is done yet, so it is right for any resources and groups
+-- nothing is done yet, so this is right for any resources and groups
 none_done : (q : ℕ) (groups : List Set) (earlier : List (List Statement)) → earlier ≡ [] → AllByRecursion (IsTask q groups) earlier
 none_done q groups earlier none = subst (λ (xs : List (List Statement)). AllByRecursion (IsTask q groups) xs) (sym none) tt
 

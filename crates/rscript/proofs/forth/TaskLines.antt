@@ -12,7 +12,7 @@ one_more f xs x rest none =
     ∙ ap (λ (lines : List Line). lines ++ f x ∷ []) (append-nil (map f xs)) ∙ sym (map-append f xs (x ∷ [])) ∙ sym (append-nil (map f (xs ++ x ∷ [])))
     ∙ ap (λ (r : List Line). map f (xs ++ x ∷ []) ++ r) (sym none)
 
--- one task more
+-- one more task
 lines_of_task : (ts : List (List ℕ)) (steps : List (List Statement)) (name : List ℕ) → length steps ≡ length ts
     → task_lines ts steps ++ HasTask name ∷ [] ≡ task_lines (ts ++ name ∷ []) (steps ++ [] ∷ [])
 lines_of_task [] [] name h = refl
@@ -24,7 +24,7 @@ lines_of_task (t ∷ ts) (st ∷ steps) name h =
     ∙ ap (λ (lines : List Line). map Does st ++ lines) (lines_of_task ts steps name (omega (arith, h)))
     )
 
--- one statement more of the last task
+-- one more statement of the last task
 lines_of_step : (ts : List (List ℕ)) (earlier : List (List Statement)) (statements : List Statement) (s : Statement) → length (earlier ++ statements ∷ []) ≡ length ts
     → task_lines ts (earlier ++ statements ∷ []) ++ Does s ∷ [] ≡ task_lines ts (earlier ++ (statements ++ s ∷ []) ∷ [])
 lines_of_step [] earlier statements s h = absurd (let size = length-append earlier (statements ∷ []) in omega (arith, h, size))
@@ -39,7 +39,7 @@ lines_of_step (t ∷ ts) (e ∷ earlier) statements s h =
 behind_head : (rs : List (List ℕ)) (gs : List Set) (xs : List Line) (line : Line) → (map HasResource rs ++ (map HasGroup gs ++ xs)) ++ line ∷ [] ≡ map HasResource rs ++ (map HasGroup gs ++ (xs ++ line ∷ []))
 behind_head rs gs xs line = append_assoc (map HasResource rs) (map HasGroup gs ++ xs) (line ∷ []) ∙ ap (λ (lines : List Line). map HasResource rs ++ lines) (append_assoc (map HasGroup gs) xs (line ∷ []))
 
--- the lines so far are those of what is declared so far; what is empty yet is told by equations
+-- the lines so far are those of what is declared so far; equations say what is still empty
 module _ (lines : List Line) (rs : List (List ℕ)) (gs : List Set) (ts : List (List ℕ)) (steps : List (List Statement)) (are : lines ≡ said_lines rs gs ts steps) where
   pub grown_resource : (name : List ℕ) → gs ≡ [] → ts ≡ [] → lines ++ HasResource name ∷ [] ≡ said_lines (rs ++ name ∷ []) gs ts steps
   grown_resource name q r =
@@ -59,7 +59,7 @@ module _ (lines : List Line) (rs : List (List ℕ)) (gs : List Set) (ts : List (
       ap (λ (xs : List Line). xs ++ HasTask name ∷ []) are
       ∙ ap (λ (xs : List Line). Opens ∷ xs) (behind_head rs gs (task_lines ts steps) (HasTask name) ∙ ap (λ (xs : List Line). map HasResource rs ++ (map HasGroup gs ++ xs)) (lines_of_task ts steps name h))
 
--- a statement more of the latest task
+-- one more statement of the latest task
 pub grown_step : (lines : List Line) (rs : List (List ℕ)) (gs : List Set) (ts : List (List ℕ)) (earlier : List (List Statement)) (statements : List Statement) (s : Statement)
     → lines ≡ said_lines rs gs ts (earlier ++ statements ∷ []) → length (earlier ++ statements ∷ []) ≡ length ts
     → lines ++ Does s ∷ [] ≡ said_lines rs gs ts (earlier ++ (statements ++ s ∷ []) ∷ [])
@@ -68,6 +68,6 @@ grown_step lines rs gs ts earlier statements s are h =
     ∙ ap (λ (xs : List Line). Opens ∷ xs) (behind_head rs gs (task_lines ts (earlier ++ statements ∷ [])) (Does s)
     ∙ ap (λ (xs : List Line). map HasResource rs ++ (map HasGroup gs ++ xs)) (lines_of_step ts earlier statements s h))
 
--- the lines of a script of which nothing is declared
+-- the lines of a script that declares nothing
 pub open_lines : (rs : List (List ℕ)) (gs : List Set) (ts : List (List ℕ)) (steps : List (List Statement)) → rs ≡ [] → gs ≡ [] → ts ≡ [] → said_lines rs gs ts steps ≡ Opens ∷ []
 open_lines rs gs ts steps p q r = λ i. Opens ∷ (map HasResource (p i) ++ (map HasGroup (q i) ++ task_lines (r i) steps))

@@ -1,4 +1,4 @@
--- A line that is spelled is read again.
+-- A line that is spelled is read back.
 use Rattle.std.proofs.Common.{◌≡◌, ℕ, Some, refl, sym, ap, ◌∙◌}
 use Rattle.std.specs.Prelude.{option_map}
 use Rattle.std.specs.FinSet.{union}
@@ -26,7 +26,7 @@ pub record IsWritable (names : Names) (line : Line) : Type 0 where
   pub good : AllGood names (fields_of (word_of line)) (values_of line)
   pub normal : IsNormalLine line
 
--- the request that the record of a request in normal form tells is that request
+-- the request that is read from the record of a request in normal form is that request
 request_back : (kind : Kind) (reads writes first : Set) (len later : ℕ) → FitsKind kind reads writes → FitsFirst kind (union reads writes) first → FitsLater kind later
     → line_by (word.Begin kind) (request_values kind reads writes first len later)
     ≡ Does (statement.Begin (record { kind = kind; reads = reads; writes = writes; first = first; len = len; later = later }))
@@ -56,7 +56,7 @@ line_back (Does statement.Rise) normal = refl
 line_back (Does statement.Finish) normal = refl
 line_back Ends normal = refl
 
--- what is spelled of a line that may be written is read again as the same line
+-- what is spelled of a line that may be written is read back as the same line
 pub meaning_back : (names : Names) (line : Line) → AreTables names → IsWritable names line → meaning names (spelled names line) ≡ Some line
 unfolding meaning
 meaning_back names line tables h =

@@ -1,4 +1,4 @@
--- The record that is written of a word is a record of that word: no two words have a form in common.
+-- The record written of a word is a record of that word: no two words share a form.
 use Rattle.std.proofs.Common.{◌≡◌, Some, refl}
 use Rattle.rclaim.specs.declared.request.Kind.TheVariants.{Read, Write, Mixed, Upgrade, Nested}
 use Rattle.rtrace_form.specs.Fields.{Names, Values, write, has_form}

@@ -1,4 +1,4 @@
--- What the record of a section's beginning tells, from its sets and its lengths.
+-- What the record of a section's beginning says, from its sets and its lengths.
 use Rattle.std.proofs.Common.{◌≡◌, ℕ, Bool, true, false, not, ◌&&◌, codes, List, [], ◌∷◌, Option, Some, None, refl, sym, ap, ◌∙◌}
 use Rattle.std.specs.Prelude.{is_none, option_map, option_and_then}
 use Rattle.rset.specs.Sets.{Set}
@@ -30,7 +30,7 @@ use Rattle.rscript.proofs.record_facts.Tells.{unknown_wrong, uncounted_wrong, to
 
 -- ---- sets
 
--- the sets that a request of this kind takes, where they are told
+-- the sets that a request of this kind takes, where its record names them
 abbrev AreSets : List (List ℕ) → Kind → Row → RequestSets → Type 0
 AreSets rs Read row sets = set_told rs (field_of row 1) ≡ Some sets.reads
 AreSets rs Write row sets = set_told rs (field_of row 1) ≡ Some sets.writes

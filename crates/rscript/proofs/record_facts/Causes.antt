@@ -1,4 +1,4 @@
--- Causes of which none holds.
+-- Causes, none of which holds.
 use Rattle.std.proofs.Common.{◌≡◌, ℕ, Bool, true, false, not, ◌||◌, ◌==◌, List, [], ◌∷◌, ◌++◌, length, Option, Some, None, refl, sym, ap, ◌∙◌}
 use Rattle.std.specs.Prelude.{option_map}
 use Rattle.rset.specs.Names.{is_name, knows}
@@ -21,7 +21,7 @@ use Rattle.rscript.specs.declared.statement.Statement.{Statement}
 use Rattle.rscript.specs.declared.statement.Statement.TheVariants as statement
 use Rattle.rscript.specs.declared.code.ScriptCode.TheVariants.{BadName, Repeated, TooMany, NotHeld, NotWritable}
 
--- of two lists none is there where none of either is
+-- the first cause in two lists is that of the first list, or else that of the second
 pub first_of-append : {X : Type 0} (xs ys : List (Option X)) → first_of (xs ++ ys) ≡ or_else (first_of xs) (first_of ys)
 first_of-append [] ys = refl
 first_of-append (None ∷ xs) ys = first_of-append xs ys

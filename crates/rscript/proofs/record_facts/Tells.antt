@@ -1,4 +1,4 @@
--- What the record of a statement tells, by its fields.
+-- What the record of a statement says, by its fields.
 use Rattle.std.proofs.Common.{◌≡◌, ℕ, Bool, true, false, not, ◌&&◌, cond, codes, List, [], ◌∷◌, Option, Some, None, refl, sym, ap, subst, ◌∙◌, true≢false}
 use Rattle.std.specs.Prelude.{is_none, option_map}
 use Rattle.rset.specs.Names.{number_in}
@@ -44,13 +44,13 @@ module _ (resources : List (List ℕ)) (w : ScriptWord) (row : Row) where
   pub uncounted_wrong : all_known (names_of resources) (fields_of w) row ≡ true → all_counted (fields_of w) row ≡ false → IsWrong resources w row BadNumber
   uncounted_wrong h k = λ groups section. uncounted_first _ _ (meant_causes groups section (meant_as (names_of resources) row (Some w))) h k
 
-  -- what is wrong with a record that tells a statement is what is wrong with the statement
+  -- what is wrong with a record that says a statement is what is wrong with the statement
   pub told_causes : (st : Statement) → Tells resources w row st → (groups : List Set) (section : Option OpenSection) → first_of (said_causes resources groups section row w) ≡ first_of (statement_causes groups section st)
   told_causes st h groups section =
       line_first _ _ (meant_causes groups section (meant_as (names_of resources) row (Some w))) h.known h.counted
       ∙ ap (λ (o : Option Line). first_of (meant_causes groups section o)) h.means
 
--- ---- what the fields tell
+-- ---- what the fields say
 
 module _ (rs : List (List ℕ)) where
   show_fields : (a x : List ℕ) (place : ℕ) → number_in rs x ≡ Some place → Tells rs word.Show (a ∷ x ∷ []) (statement.Show place)
@@ -182,7 +182,7 @@ module _ (rs : List (List ℕ)) where
         (ap (all_known (names_of rs) (fields_of w)) are_three ∙ edit_known w (field_of row 0) (field_of row 1) (field_of row 2) place e h)
         (ap (all_counted (fields_of w)) are_three ∙ edit_uncounted w (field_of row 0) (field_of row 1) (field_of row 2) e k)
 
--- the word of a statement that is none of the others is that of a finish
+-- a statement that is none of the others is a finish
 pub finish_by : (w : ScriptWord) → is_statement w ≡ true → ((kind : Kind) → w ≡ word.Begin kind → ⊥) → (w ≡ word.Show → ⊥) → (w ≡ word.Add → ⊥) → (w ≡ word.Take → ⊥) → (w ≡ word.Put → ⊥) → (w ≡ word.Ask → ⊥)
     → (w ≡ word.Rise → ⊥) → w ≡ word.Finish
 finish_by (word.Begin kind) h o1 o2 o3 o4 o5 o6 o7 = absurd (o1 kind refl)

@@ -1,4 +1,4 @@
--- What is known of a text of which a reader has taken records.
+-- What is known about a text whose records a reader has taken.
 use Rattle.std.proofs.Common.{◌≡◌, ℕ, Bool, true, false, not, List, [], ◌∷◌, ◌++◌, Option, Some, None, refl, sym, ap, subst, ◌∙◌}
 use Rattle.std.proofs.lemmas.List.Sums.{fold_push}
 use Rattle.std.specs.Prelude.{Result, Ok, Err, IfOk}
@@ -23,7 +23,7 @@ use Rattle.rscript.specs.declared.script.ScriptErr.{ScriptErr}
 use Rattle.rscript.specs.declared.script.ScriptErr.TheVariants as script
 use Rattle.rscript.proofs.forth.Rows.{spells}
 
--- one record more says what it adds
+-- one more record says what it adds
 read_more : (rows : List Row) (row : Row) → read_all (followed rows row) ≡ with_row (read_all rows) row
 read_more rows row = fold_push with_row nothing_yet rows row
 
@@ -94,7 +94,7 @@ bad_line {a} {b} {x} {y} e = cc
 bad_code : {a b : ℕ} {x y : ScriptCode} → script.Bad a x ≡ script.Bad b y → x ≡ y
 bad_code {a} {b} {x} {y} e = cc
 
--- the error of a text that was not taken tells its first fault
+-- the error of a text that was not taken is its first fault
 pub fault_told : {T : Type 0} (bytes : List ℕ) (e : TextErr ScriptCode) → ((fault : Fault ScriptCode) → e ≡ text.Bad fault → IsFaultOf script_code is_script_done NoEnd bytes fault)
     → (line : ℕ) (code : ScriptCode) → ◌≡◌ {A = Result T ScriptErr} (Err (error_of e)) (Err (script.Bad line code)) → IsFirstFault bytes line code
 fault_told bytes (text.Bad fault) bad line code is =

@@ -8,7 +8,7 @@ use Rattle.bench_sections.proofs.Seats.{all_made}
 use Rattle.bench_sections.proofs.Total.{sum_is}
 use Rattle.bench_sections.proofs.measure.measured.Goals as goal
 
--- what a clause says of the value in an `Ok` holds of the value that `ok` gives
+-- what a clause says about the value in an `Ok` holds for the value that `ok` gives
 at_ok : {X E : Type 0} (P : X → Type 0) (r : Result X E) (x : X) → IfOk r P → Some x ≡ result_ok r → P x
 at_ok P (Ok y) x holds is = subst P (same_item y x (sym is)) holds
 at_ok P (Err e) x holds is = absurd (cc)

@@ -12,7 +12,7 @@ use Rattle.rrun.proofs.guards.finish.Goals as goal
 abbrev GoesWhole : SeatOf Ledger Edit → GuardFields Ledger Edit → Type 0
 GoesWhole later guard = Goes guard.seat (record { event = Finish guard.seat.number; acts = guard.acts } ∷ []) later
 
--- or without them
+-- or without the acts
 abbrev GoesBare : SeatOf Ledger Edit → GuardFields Ledger Edit → Type 0
 GoesBare later guard = Goes guard.seat (bare (Finish guard.seat.number) ∷ []) later
 
