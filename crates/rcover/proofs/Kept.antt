@@ -52,7 +52,7 @@ least_has by len c own (x ∷ xs) are =
     (λ on. subst (λ b. by (first_or c (cond b (x.claim ∷ line c xs) (line c xs))) ≡ len (first_or c (cond b (x.claim ∷ line c xs) (line c xs)))) (sym on) are.0)
     (λ off. subst (λ b. by (first_or c (cond b (x.claim ∷ line c xs) (line c xs))) ≡ len (first_or c (cond b (x.claim ∷ line c xs) (line c xs)))) (sym off) (least_has by len c own xs are.1))
 
--- ---- one element of a list is exchanged
+-- ---- one element of a list is replaced
 
 -- the sum of the lengths of sections that have theirs
 pub sum_claims : (len : Claim → ℕ) (ss : List CoverSection) → HaveLengths len ss → sum_by (λ s. s.len) ss ≡ sum_by len (claims_of ss)
@@ -67,7 +67,7 @@ keeper_has by len c (x ∷ xs) are =
     (λ on. subst (λ b. IfSome (option_map (λ (y : Claimed). y.claim) (cond b (Some x) (find (keeps_out c) xs))) (λ d. by d ≡ len d)) (sym on) are.0)
     (λ off. subst (λ b. IfSome (option_map (λ (y : Claimed). y.claim) (cond b (Some x) (find (keeps_out c) xs))) (λ d. by d ≡ len d)) (sym off) (keeper_has by len c xs are.1))
 
--- the write that keeps a read claim waiting is one
+-- the write that keeps a read claim waiting is a write
 pub keeper_write : (c : Claim) (m : Moment) → IfSome (keeper_at c m) (λ v. v.write_half ≡ true)
 keeper_write c [] = tt
 keeper_write c (x ∷ xs) =
@@ -84,7 +84,7 @@ keeper_write c (x ∷ xs) =
     writes false false true h = h
     writes false false false h = h
 
--- it stands there, and keeps the read out
+-- it is there, and keeps the read out
 pub keeper_there : (c : Claim) (m : Moment) (v : Claim) → keeper_at c m ≡ Some v → (k : Claimed) × Among k m × (k.claim ≡ v) × (keeps_out c k ≡ true)
 keeper_there c [] v is = absurd (no_one v is)
   where
@@ -103,7 +103,7 @@ keeper_there c (x ∷ xs) v is = at (keeper_there c xs v) (keeps_out c x) refl i
     at more true on is = (x, inl refl, same x.claim is, on)
     at more false off is = let r = more is in (r.0, inr r.1, r.2, r.3)
 
--- a write is satisfied where the first claim that it is is
+-- a write is satisfied if the first claim that is the same one is
 pub holds_none : (c : Claim) (x : Claimed) → is_claim c x.claim ≡ true → c.write_half ≡ true → (xs : Moment) → AllByRecursion (Rises x) xs → holds_at c xs ≡ false
 holds_none c x is write [] all = refl
 holds_none c x is write (y ∷ ys) all =
@@ -143,7 +143,7 @@ holds_first c write m rising = at (find (λ x. is_claim c x.claim) m) refl
     at None is = holds_found c write m rising None is false tt (λ _. refl)
     at (Some x) is = holds_found c write m rising (Some x) is (is_satisfied x) refl (λ h. cc)
 
--- where the write that keeps a read waiting does not become satisfied, what is kept of the wait stays
+-- if the write that keeps a read waiting does not become satisfied, what is kept of the wait stays
 pub read_not_closed : (m n : Moment) (o : Option Claim) → ((v : Claim) → o ≡ Some v → holds_at v m ≡ false → holds_at v n ≡ false) → (a : Sections) → read_closed_if o a m n ≡ a
 read_not_closed m n None none a = refl
 read_not_closed m n (Some v) none a =
@@ -159,7 +159,7 @@ read_not_closed m n (Some v) none a =
 
 -- ---- the read that is taken for a claim
 
--- the section of a claim that there may be is of that
+-- the section of a claim, if there is one, is that claim's
 pub claim_same : (ls : List Lengths) (o : Option Claim) → claim_if (option_map (section_of ls) o) ≡ o
 claim_same ls None = refl
 claim_same ls (Some d) = refl
@@ -176,7 +176,7 @@ taken_has ls len p m are = at (first_at p m) (found_has (length_by ls) len p m a
     at None has = tt
     at (Some d) has = has
 
--- none is taken for a claim that reads and writes nothing
+-- no read is taken for a claim that reads and writes nothing
 pub none_against : (c : Claim) → c.reads ≡ empty → c.writes ≡ empty → (m : Moment) → first_at (reads_against c) m ≡ None
 none_against c reads writes [] = refl
 none_against c reads writes (x ∷ xs) =
@@ -193,7 +193,7 @@ none_against c reads writes (x ∷ xs) =
         ∙ (λ i. not x.claim.write_half && ((meets_empty_left x.claim.writes i || meets_empty_left x.claim.writes i) || (meets_empty_right x.claim.reads i || meets_empty_right x.claim.writes i)))
         ∙ at (not x.claim.write_half)
 
--- what stands at a place is one of a list
+-- what is at a place is an element of a list
 pub in_list : {X : Type 0} (xs : List X) (i : ℕ) (x : X) → slice_get xs i ≡ Some x → Among x xs
 in_list [] i x h = absurd (none-some x h)
 in_list (y ∷ xs) zero x h = inl (sym (same_Some y x h))

@@ -1,4 +1,4 @@
--- Of a claim of another seat than those that are looked at no wait ends.
+-- No wait ends of a claim whose seat is not looked at.
 use Rattle.std.proofs.Common.{◌≡◌, ℕ, suc, ◌+◌, ◌<◌, ◌==◌, Bool, true, false, not, ◌&&◌, ◌||◌, cond, Option, Some, None, List, [], ◌∷◌, ◌++◌, append-nil, arith, drop, get_or, length, take, refl, sym, ap, subst, ◌∙◌, inl, inr}
 use Rattle.std.proofs.lemmas.Bool.{eqb-true}
 use Rattle.std.proofs.lemmas.List.{take-append-drop}
@@ -54,7 +54,7 @@ module _ (m n : Moment) (x : Claimed) where
 
 -- ---- the claims from a place on
 
--- the waits of claims from a place on of seats that are not left go on
+-- from a place on, the waits of claims of seats that are not left go on
 abbrev pub RestGoesOn : Moment → Moment → ℕ → Set → Type 0
 RestGoesOn m n i left = (y : Claimed) → Among y (drop i m) → contains left y.claim.seat ≡ false → (w : Which) → waits_in w m y ≡ true → stands (waits_in w) y.claim n ≡ true
 
@@ -65,7 +65,7 @@ module _ (m n : Moment) (i : ℕ) (left : Set) (rest : RestGoesOn m n i left) wh
   pub rest_same : RestGoesOn m n (i + 1) left
   rest_same y there off w on = rest y (later_in i m y (at_later y there)) off w on
 
-  -- and so they do where one seat less is left, once its first claim is passed
+  -- and so they do if one seat fewer is left, once its first claim is passed
   pub rest_less : (x : Claimed) → EachPair (OneWaits m) m → i < length m → x ≡ get_or m i x → RestGoesOn m n (i + 1) (remove left x.claim.seat)
   rest_less x apart low is y there off w on =
       both_cases (y.claim.seat == x.claim.seat)
@@ -75,7 +75,7 @@ module _ (m n : Moment) (i : ℕ) (left : Set) (rest : RestGoesOn m n i left) wh
       (λ other.
       rest y (later_in i m y (at_later y there)) (sym (contains_remove left x.claim.seat y.claim.seat ∙ ap (λ b. not b && contains left y.claim.seat) other) ∙ off) w on)
 
-  -- where none is left, nothing more is told
+  -- if no seat is left, nothing more is reported
   pub rest_none : left ≡ empty → (es : List Event) (table : ℕ → Sections) → filter_map (λ x. told_if (length_in es) m n table x (wait_of es m x)) (take i m) ≡ told es m n table
   rest_none none es table =
       let f = λ (x : Claimed). told_if (length_in es) m n table x (wait_of es m x) in

@@ -1,4 +1,4 @@
--- Lists of which each pair, or each element, is such.
+-- Lists of which each pair, or each element, satisfies something.
 use Rattle.std.proofs.Common.{drop, add-one, drop-cons, ◌≡◌, ℕ, zero, suc, ◌<◌, ◌+◌, ◌++◌, get_or, arith, List, [], ◌∷◌, length, sym, ap}
 use Rattle.rmodel.specs.declared.claimed.Claimed.{Claimed}
 use Rattle.std.proofs.Math.ListN.{set}
@@ -22,7 +22,7 @@ pub pairs_front : {X : Type 0} (R : X → X → Type 0) (xs ys : List X) → Eac
 pairs_front R [] ys pairs = tt
 pairs_front R (x ∷ xs) ys pairs = (all_from (R x) xs (λ z there. all_at (R x) (xs ++ ys) z pairs.0 (in_append xs ys z there)), pairs_front R xs ys pairs.1)
 
--- a pair of a list that stands apart from one of its elements
+-- the pairs that an element of a list makes with those before it, and with those after it
 pub pairs_before : {X : Type 0} (R : X → X → Type 0) (xs : List X) (x : X) (ys : List X) → EachPair R (xs ++ x ∷ ys) → AllByRecursion (λ y. R y x) xs
 pairs_before R [] x ys pairs = tt
 pairs_before R (z ∷ zs) x ys pairs = ((behind (R z) zs (x ∷ ys) pairs.0).0, pairs_before R zs x ys pairs.1)

@@ -1,4 +1,4 @@
--- Whether a write stands in a wait is asked at its own place and no further.
+-- Whether a write is there in a wait is decided at its own place.
 use Rattle.std.proofs.Common.{◌≡◌, Bool, true, false, ◌&&◌, ◌||◌, cond, Some, [], ◌∷◌, find, refl, sym, ap, ◌∙◌, arith}
 use Rattle.std.proofs.lemmas.Bool.{and_parts}
 use Rattle.std.specs.List.{list_any, AllByRecursion}
@@ -12,7 +12,7 @@ use Rattle.rcover_laws.specs.Moments.{Moment, is_claim}
 use Rattle.rcover_laws.proofs.runs.Moments.{are_one}
 
 module _ (test : Claimed → Bool) (c : Claim) (write : c.write_half ≡ true) where
-  -- no claim behind a write is that write
+  -- no claim after a write is that write
   none_behind : (x : Claimed) → is_claim c x.claim ≡ true → (ys : Moment) → AllByRecursion (Rises x) ys → list_any (λ y. is_claim c y.claim && test y) ys ≡ false
   none_behind x is [] all = refl
   none_behind x is (y ∷ ys) all =

@@ -26,7 +26,7 @@ module _ (m n : Moment) (table : ℕ → Sections) (x : Claimed) where
   pub none_kept : may_wait n x ≡ false → (seat : ℕ) → table seat ≡ kept_with m n table x seat
   none_kept off seat = sym (ap (λ b. (cond b (with_entry table x.claim.seat made_of) table) seat) off)
 
-  -- of one that waits, what is due
+  -- of a claim that waits, what is due is kept
   pub some_kept : may_wait n x ≡ true → (a : Sections) → made_of ≡ a → (seat : ℕ) → with_entry table x.claim.seat a seat ≡ kept_with m n table x seat
   some_kept on a is seat = sym (ap (λ b. (cond b (with_entry table x.claim.seat made_of) table) seat) on ∙ ap (λ s. with_entry table x.claim.seat s seat) is)
 
@@ -36,7 +36,7 @@ module _ (m n : Moment) (table : ℕ → Sections) (x : Claimed) where
       (λ own. sym (ap (λ b. cond b (table x.claim.seat) (table seat)) own ∙ ap table (sym (eqb-true seat x.claim.seat own))))
       (λ other. sym (ap (λ b. cond b (table x.claim.seat) (table seat)) other))
 
-  -- where what is kept stays, the table does
+  -- if what is kept stays, the table does
   pub same_kept : (may_wait n x ≡ true → made_of ≡ table x.claim.seat) → (seat : ℕ) → table seat ≡ kept_with m n table x seat
   same_kept same seat =
       both_cases (may_wait n x)
@@ -47,7 +47,7 @@ module _ (m n : Moment) (table : ℕ → Sections) (x : Claimed) where
 abbrev pub Done : Moment → Moment → (ℕ → Sections) → (ℕ → Sections) → List Claimed → Type 0
 Done m n old table xs = AllByRecursion (λ x. may_wait n x ≡ true → table x.claim.seat ≡ kept_of m n (old x.claim.seat) x) xs
 
--- and what was kept of others is there still
+-- and what was kept of others is still there
 abbrev pub Rest : Moment → (ℕ → Sections) → (ℕ → Sections) → List Claimed → Type 0
 Rest n old table xs = AllByRecursion (λ x. may_wait n x ≡ true → table x.claim.seat ≡ old x.claim.seat) xs
 
@@ -55,7 +55,7 @@ module _ (m n : Moment) (old table table' : ℕ → Sections) (x : Claimed) (is 
   abbrev made : Sections
   made = kept_of m n (table x.claim.seat) x
 
-  -- nothing changes for another seat, nor for any where the claim does not wait
+  -- nothing changes for another seat, or for any seat if the claim does not wait
   pub other : (seat : ℕ) → (may_wait n x ≡ true → seat ≢ x.claim.seat) → table' seat ≡ table seat
   other seat apart =
       is seat
@@ -104,11 +104,11 @@ comes_once s left rises = none_at s left (λ j h. AllPairs-from_increasing (s �
 abbrev pub is_over : Set → List ℕ → Claimed → Bool
 is_over looked left x = is_write_of_these looked x && not (list_any (λ l. l == x.claim.seat) left)
 
--- the writes that are over have what is due, and what was kept of others is there still
+-- the writes that are over have what is due, and what was kept of others is still there
 abbrev pub Visited : Moment → Moment → Set → (ℕ → Sections) → (ℕ → Sections) → List ℕ → List Claimed → Type 0
 Visited m n looked old table left xs = AllByRecursion (λ x. may_wait n x ≡ true → table x.claim.seat ≡ cond (is_over looked left x) (kept_of m n (old x.claim.seat) x) (old x.claim.seat)) xs
 
--- where all are left, nothing is over
+-- if all are left, nothing is over
 pub visited_none : (m n : Moment) (looked : Set) (table : ℕ → Sections) (left : List ℕ) → ((seat : ℕ) → contains looked seat ≡ true → list_any (λ l. l == seat) left ≡ true) → (xs : List Claimed) → Visited m n looked table table left xs
 visited_none m n looked table left all [] = tt
 visited_none m n looked table left all (x ∷ xs) = ((λ on. ap (λ b. cond b (kept_of m n (table x.claim.seat) x) (table x.claim.seat)) (sym still)), visited_none m n looked table left all xs)
@@ -119,7 +119,7 @@ visited_none m n looked table left all (x ∷ xs) = ((λ on. ap (λ b. cond b (k
         (λ on. ap (λ b. b && not (list_any (λ l. l == x.claim.seat) left)) on ∙ ap not (all x.claim.seat (and_parts x.claim.write_half (contains looked x.claim.seat) on).1))
         (λ off. ap (λ b. b && not (list_any (λ l. l == x.claim.seat) left)) off)
 
--- where none is left, all have what is due, as nothing is due of any other claim
+-- if no seat is left, all have what is due, as nothing is due of any other claim
 pub visited_all : (m n : Moment) (looked : Set) (old table : ℕ → Sections) (xs : List Claimed) → AllByRecursion (λ x. is_write_of_these looked x ≡ false → may_wait n x ≡ true → (a : Sections) → kept_of m n a x ≡ a) xs → Visited m n looked old table [] xs → Done m n old table xs
 visited_all m n looked old table [] undue visited = tt
 visited_all m n looked old table (x ∷ xs) undue visited = (
@@ -142,7 +142,7 @@ module _ (m n : Moment) (looked : Set) (old table : ℕ → Sections) (left : Li
       off true b d on = ap (λ e. not (e || d)) on
       off false b d on = refl
 
-  -- and now it is
+  -- and now it is kept
   pub visited_push : (table' : ℕ → Sections) → ((seat : ℕ) → table' seat ≡ kept_with m n table x seat) → Visited m n looked old table' left n
   visited_push table' is = all_from (λ y. may_wait n y ≡ true → table' y.claim.seat ≡ cond (is_over looked left y) (kept_of m n (old y.claim.seat) y) (old y.claim.seat)) n here
     where

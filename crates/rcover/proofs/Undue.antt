@@ -1,4 +1,4 @@
--- What is kept of a wait stays where nothing is due.
+-- What is kept of a wait stays if nothing is due.
 use Rattle.std.proofs.Common.{◌≡◌, ℕ, ◌==◌, Bool, true, false, not, ◌&&◌, ◌||◌, cond, Some, List, sym, ap, refl, ◌∙◌}
 use Rattle.std.specs.Prelude.{if◌then◌else◌, nat_lt}
 use Rattle.std.proofs.lemmas.Bool.{or_left, and_parts, eq-eqb, eqb-true}
@@ -36,7 +36,7 @@ second_off : (a b : Bool) → (a || b) ≡ false → b ≡ false
 second_off true b h = contrary true refl h
 second_off false b h = h
 
--- a wait of before goes on, and that of the upgrade that rises begins
+-- a wait that was there before goes on, and that of the upgrade that rises begins
 pub kept_by_event : (e : Event) (m n : Moment) (x : Claimed) → StoodBy e m n x → (a : Sections) → may_wait n x ≡ true → kept_of m n a x ≡ (if rises_at e x.claim.seat then no_sections else gone_on x.claim a m n)
 kept_by_event e m n x stood a on =
     both_cases (waits_first n x)
@@ -57,13 +57,13 @@ module _ (m n : Moment) (c : Claim) (a : Sections) where
   write_undue : c.write_half ≡ true → head_of n c ≡ head_of m c → gone_on c a m n ≡ a
   write_undue write same = write_gone_on m n c a write ∙ same_closed (head_of m c) (head_of n c) a m same
 
-  -- of a read, where the write that keeps it waiting does not become satisfied
+  -- of a read, if the write that keeps it waiting does not become satisfied
   read_undue : c.write_half ≡ false → ((v : Claim) → keeper_at c m ≡ Some v → holds_at v m ≡ false → holds_at v n ≡ false) → gone_on c a m n ≡ a
   read_undue read none =
       ap (λ b. cond b (write_closed (least_of c m) a m (least_of c n) n) (read_closed_if (keeper_at c m) a m n)) read
       ∙ read_not_closed m n (keeper_at c m) none a
 
--- where nothing is due of a claim that waits, what is kept of it stays
+-- if nothing is due of a claim that waits, what is kept of it stays
 module _ (e : Event) (waiting moved risen looked written : Set) (m n : Moment) (x : Claimed) (hs : List Head) (lost : Head) (tells : HeadsTell hs lost moved risen m n x)
     (looks : (seat : ℕ) → contains looked seat ≡ is_looked_at e waiting moved risen seat) (waits : some_wait n x ≡ true → contains waiting x.claim.seat ≡ true) (undue : is_due e looked written x ≡ false)
     (stood : StoodBy e m n x) (stays : ReadStays written m n x) (a : Sections) (on : may_wait n x ≡ true) where
@@ -99,7 +99,7 @@ module _ (e : Event) (waiting moved risen looked written : Set) (m n : Moment) (
       (λ write. kept_by_event e m n x stood a on ∙ ap (λ b. cond b no_sections (gone_on x.claim a m n)) (write_rises write) ∙ write_same write)
       (λ read. kept_by_event e m n x stood a on ∙ ap (λ b. cond b no_sections (gone_on x.claim a m n)) (first_off (rises_at e seat) (meets x.claim.reads written) (unread read)) ∙ read_same read)
 
--- nothing is due where no write is looked at, and nothing is written of what came to be satisfied
+-- nothing is due if no write is looked at, and nothing is written of what came to be satisfied
 pub none_due : (e : Event) (waiting moved risen looked written : Set) → ((seat : ℕ) → contains looked seat ≡ is_looked_at e waiting moved risen seat) → looked ≡ empty → written ≡ empty → (x : Claimed) → is_due e looked written x ≡ false
 none_due e waiting moved risen looked written looks none_looked none_written x =
     (λ i. cond x.claim.write_half (none i) (quiet i || unmet i)) ∙ at x.claim.write_half

@@ -1,4 +1,4 @@
--- Of whom a wait may end by an event, and what becomes of the heads of writes.
+-- Whose wait may end by an event, and what becomes of the heads of writes.
 pub mod Grants
 pub mod Later
 pub mod Lost

@@ -1,4 +1,4 @@
--- The waits that states tell, followed from moment to moment.
+-- The waits that states show, followed from moment to moment.
 pub mod Asking
 pub mod Gone
 pub mod Knowing

@@ -19,6 +19,6 @@ table_of rs seat = kept_if (slice_get rs seat)
 abbrev pub with_entry : (ℕ → Sections) → ℕ → Sections → ℕ → Sections
 with_entry table seat a other = if other == seat then a else table other
 
--- the table once one claim of a moment n behind m is looked at
+-- the table once one claim of a moment n after m is looked at
 abbrev pub kept_with : Moment → Moment → (ℕ → Sections) → Claimed → (ℕ → Sections)
 kept_with m n table x = if may_wait n x then with_entry table x.claim.seat (kept_of m n (table x.claim.seat) x) else table

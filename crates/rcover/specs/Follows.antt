@@ -22,7 +22,7 @@ use Rattle.rcover.specs.declared.run.Run.{Run}
 abbrev pub IsEmpty : Run → Type 0
 IsEmpty r = kept_in r ≡ no_sections
 
--- a follower has its room: all of it is what was made at first
+-- a follower has its room: all that was made at first
 pub record HaveRoom (a : Following) : Type 0 where
   pub last : vec_capacity a.last ≡ 2 * SEATS
   pub seats : length a.runs.items ≡ SEATS
@@ -61,32 +61,32 @@ pub record Follows (a : Following) (p : Past) : Type 0 where
   pub long : (rest : List Event) → AllByRecursion (AreLong (length_in (p.events ++ rest))) a.runs.items
   pub lengths : (rest : List Event) → AreOf (length_by a.lengths) (length_in (p.events ++ rest)) (state_of p).claims
   pub asks : (seat : ℕ) → seat < SEATS → slice_index a.asks seat ≡ asks_since seat p.events
-  -- no other seat waits than those that are noted
+  -- no seat waits but those that are noted
   pub waiting : HoldWaiting a.waiting (state_of p).claims
-  -- which claims wait to rise is told by the seats that rose
+  -- the seats that rose say which claims wait to rise
   pub rising : TellRising a.rising (state_of p).claims
-  -- and no ask of another seat is pending than of those that are noted
+  -- no ask is pending but of seats that are noted
   pub asking : HoldAsking a.asking (state_of p).claims
-  -- no other seat has a claim that reads than those that are noted
+  -- no seat has a claim that reads but those that are noted
   pub reading : HoldReading a.reading (state_of p).claims
-  -- and of each that has one what it reads
+  -- and for each that has such a claim, what it reads
   pub wanted : TellWanted a.wanted (state_of p).claims
-  -- the least claims of the lines of all writes, if they are told
+  -- the least claims of the lines of all writes, if they are known
   pub heads : TellsNow a.heads (state_of p).claims
   -- and then which seats have a write, and what it takes
   pub writes : TellsWrites a.heads (state_of p).claims
   pub room : HaveRoom a
-  -- and so are the waits that the last event ended
+  -- and the waits that the last event ended
   pub none : p.events ≡ [] → a.ended.items ≡ []
   pub ended : AreLastEnded p a.ended.items
 
--- a machine took an event behind those that a follower followed
+-- a machine took an event after those that a follower followed
 pub record IsAhead (a : Following) (machine : Standing) (p : Past) (e : Event) : Type 0 where
   pub follows : Follows a p
   pub comes : Comes (state_of p) e
   pub state : machine.state ≡ next (state_of p) e
   pub changes : machine.last ≡ changes_between (state_of p) (next (state_of p) e)
-  -- so many claims there were before it
+  -- the number of claims before it
   pub there : a.there ≡ length (state_of p).claims
-  -- and they are noted, if it may end a wait
+  -- and these are noted, if it may end a wait
   pub noted : ends_none a.waiting e ≡ false → a.last.items ≡ (state_of p).claims

@@ -10,7 +10,7 @@ use Rattle.rcover_laws.specs.Line.{least_of}
 use Rattle.rcover_laws.specs.Moments.{Moment}
 use Rattle.rcover.specs.declared.lines.Found.{Found}
 
--- some claims of a moment stand one behind another, and before a write
+-- some claims of a moment are next to each other, and before a write
 pub record AreBefore (m : Moment) (c : Claim) (zs : Moment) : Type 0 where
   pub rising : EachPair Rises m
   pub pairs : EachPair Rises zs
@@ -42,8 +42,8 @@ pub record HasPlace (zs : Moment) (place : ℕ) : Type 0 where
   pub write : at.claim.write_half ≡ true
   pub has : contains at.claim.places place ≡ true
 
--- what is found of the line of a write among these claims: of the least claims of the writes beside it, and of itself, the one of
--- least stamp; and the places of which none of these writes has any
+-- what is found of the line of a write among these claims: the claim of least stamp among the least claims of the writes beside it and itself; and
+-- the places that none of these writes has
 pub record IsFound (m : Moment) (c : Claim) (zs : Moment) (f : Found) : Type 0 where
   pub is_least : IsItself c f ⊎ IsLeastOf m c zs f
   pub not_above : f.stamp ≤ c.stamp

@@ -18,19 +18,19 @@ pub record HasPlaces (h : Heads) : Type 0 where
   pub now_room : vec_capacity h.now ≡ SEATS
   pub behind_room : vec_capacity h.behind ≡ SEATS
 
--- if they are told, they are those of the claims at a moment
+-- if they are known, they are those of the claims at a moment
 abbrev pub TellsNow : Heads → Moment → Type 0
 TellsNow h m = h.told ≡ true → IsTold h.now.items h.behind.items m
 
--- and so is which seats have a write, and what it takes
+-- and so are the seats that have a write, and what it takes
 abbrev pub TellsWrites : Heads → Moment → Type 0
 TellsWrites h m = h.told ≡ true → TellWrites h.writers h.shares m
 
--- a seat that has no write at a moment keeps the head that stands at its place
+-- a seat that has no write at a moment keeps the head at its place
 abbrev pub StayWithoutWrite : List Head → List Head → Moment → Type 0
 StayWithoutWrite hs hs' m = (seat : ℕ) → list_any (is_write_of seat) m ≡ false → slice_get hs' seat ≡ slice_get hs seat
 
--- nothing is told: no seat moved or rose, none has a write, and no head is lost
+-- nothing is known: no seat moved or rose, no seat has a write, and no head is lost
 pub record TellsNothing (h : Heads) : Type 0 where
   pub moved : h.moved ≡ empty
   pub risen : h.risen ≡ empty
@@ -38,13 +38,13 @@ pub record TellsNothing (h : Heads) : Type 0 where
   pub lost : h.lost ≡ no_head
   pub untold : h.told ≡ false
 
--- and for no seat anything is kept: the head of no line, a set without members, and nothing that is taken
+-- and nothing is kept for any seat: the head of no line, a set without members, and nothing that is taken
 pub record AreEmpty (h : Heads) : Type 0 where
   pub heads : h.now.items ≡ replicate SEATS no_head
   pub sets : h.behind.items ≡ replicate SEATS empty
   pub shares : h.shares ≡ replicate SEATS no_share
 
--- claims are such as those of a state
+-- claims are like those of a state
 pub record IsMoment (m : Moment) : Type 0 where
   pub few : length m ≤ 2 * SEATS
   pub seats : AllByRecursion (λ x. x.claim.seat < SEATS) m

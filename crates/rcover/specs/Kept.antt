@@ -1,4 +1,4 @@
--- What is kept of a wait: the sections of its closed stretches, with their lengths.
+-- What is kept of a wait: the sections of its closed periods, with their lengths.
 use Rattle.std.specs.Prelude.{◌≡◌, ◌≢◌, ℕ, Bool, true, ◌&&◌, ◌||◌, Option, Some, None, List, map, slice_get, vec_capacity, if◌then◌else◌}
 use Rattle.std.specs.List.{AllByRecursion}
 use Rattle.rset.specs.declared.TheConstants.{SEATS}
@@ -21,7 +21,7 @@ use Rattle.rcover.specs.Tracked.{kept_by}
 abbrev pub claims_of : List CoverSection → List Claim
 claims_of ss = map (λ s. s.claim) ss
 
--- the claim of a section that there may be
+-- the claim of a section, if there is one
 abbrev pub claim_if : Option CoverSection → Option Claim
 claim_if o = option_map (λ s. s.claim) o
 
@@ -67,10 +67,10 @@ pub record AreLong (len : Claim → ℕ) (r : Run) : Type 0 where
 abbrev pub may_wait : Moment → Claimed → Bool
 may_wait n x = waits_first n x || waits_to_rise n x
 
--- two claims that wait are of two seats
+-- two claims that wait belong to different seats
 abbrev pub WaitApart : Moment → Claimed → Claimed → Type 0
 WaitApart n x y = may_wait n x ≡ true → may_wait n y ≡ true → x.claim.seat ≢ y.claim.seat
 
--- what is kept of the wait of a claim at a moment n behind m, whichever it is
+-- what is kept of the wait of a claim at a moment n after m, whichever wait it is
 abbrev pub kept_of : Moment → Moment → Sections → Claimed → Sections
 kept_of m n a x = if waits_first n x then kept_by waits_first x.claim a m n else kept_by waits_to_rise x.claim a m n

@@ -9,7 +9,7 @@ use Rattle.rcover_laws.specs.Moments.{Moment}
 abbrev pub first_at : (Claim → Bool) → Moment → Option Claim
 first_at p m = option_map (λ x. x.claim) (find (λ x. p x.claim && is_satisfied x) m)
 
--- the same at the last of a moment and those behind it
+-- the same at the last of a moment and those after it
 abbrev pub first_behind : (Claim → Bool) → Moment → List Moment → Option Claim
 first_behind p m [] = first_at p m
 first_behind p m (n ∷ ns) = first_behind p n ns

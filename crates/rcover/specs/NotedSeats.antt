@@ -26,11 +26,11 @@ NoneWaits n seat = AllByRecursion (λ x. may_wait n x ≡ true → seat ≢ x.cl
 abbrev pub is_rising : Set → Claimed → Bool
 is_rising seats x = contains seats x.claim.seat && not (is_satisfied x)
 
--- these seats tell which claims wait to rise: just their claims that are not satisfied
+-- these seats say which claims wait to rise: just their claims that are not satisfied
 abbrev pub TellRising : Set → Moment → Type 0
 TellRising seats n = AllByRecursion (λ x. waits_to_rise n x ≡ is_rising seats x) n
 
--- the seats of all requests of which an ask is pending are among these
+-- the seats of all requests with a pending ask are among these
 abbrev pub HoldAsking : Set → Moment → Type 0
 HoldAsking seats n = AllByRecursion (λ x. waits_for_ask n x ≡ true → contains seats x.claim.seat ≡ true) n
 
@@ -38,6 +38,6 @@ HoldAsking seats n = AllByRecursion (λ x. waits_for_ask n x ≡ true → contai
 abbrev pub HoldReading : Set → Moment → Type 0
 HoldReading seats n = AllByRecursion (λ x. x.claim.write_half ≡ false → contains seats x.claim.seat ≡ true) n
 
--- what is noted of the seat of each claim that reads is what this reads
+-- what is noted of the seat of each claim that reads is what that claim reads
 abbrev pub TellWanted : List Set → Moment → Type 0
 TellWanted wanted n = AllByRecursion (λ x. x.claim.write_half ≡ false → set_at wanted x.claim.seat ≡ x.claim.reads) n

@@ -1,4 +1,4 @@
--- Claims of whose wait an event that is no issue ends none.
+-- Claims whose wait is not ended by an event that is no issue.
 use Rattle.std.specs.Prelude.{◌≡◌, ◌==◌, ℕ, Bool, true, false, not, ◌&&◌, List, []}
 use Rattle.std.specs.List.{list_any}
 use Rattle.rclaim.specs.declared.changes.GrantChange.{GrantChange}
@@ -8,7 +8,7 @@ use Rattle.rcover_laws.specs.Ended.{waits_in}
 use Rattle.rcover_laws.specs.Moments.{Moment}
 use Rattle.rcover_laws.specs.Told.{waits_for_ask, stands}
 
--- some grant is of this seat
+-- some grant is to this seat
 abbrev pub has_grant : List GrantChange → ℕ → Bool
 has_grant gs seat = list_any (λ g. g.seat == seat) gs
 

@@ -25,7 +25,7 @@ no_share = record { places = empty; writes = empty }
 abbrev pub TellShares : List Share → List Claimed → Type 0
 TellShares ss zs = AllByRecursion (λ z. z.claim.write_half ≡ true → slice_get ss z.claim.seat ≡ Some (share_of z.claim)) zs
 
--- what a claim takes in place of what was kept for its seat, if it is a write, and else what there was
+-- what a claim takes replacing what was kept for its seat, if it is a write, and else what there was
 abbrev pub shares_with : List Share → Claimed → ℕ → Option Share
 shares_with ss x seat = if x.claim.write_half then (if seat == x.claim.seat then Some (share_of x.claim) else slice_get ss seat) else slice_get ss seat
 
@@ -42,7 +42,7 @@ pub record TellWrites (writers : Set) (ss : List Share) (m : Moment) : Type 0 wh
   pub seats : HaveWrites writers m
   pub shares : TellShares ss m
 
--- an event takes a write away, where these are the seats that have one
+-- an event takes a write away; these are the seats that have one
 abbrev pub takes_write : Event → Set → Bool
 takes_write e writers = is_finish e && contains writers (seat_of e)
 
@@ -51,10 +51,10 @@ abbrev pub writes_if : Option Share → Set
 writes_if None = empty
 writes_if (Some share) = share.writes
 
--- a write that is told to be satisfied writes this resource, by what is kept for its seat
+-- a write that is reported to be satisfied writes this resource, by what is kept for its seat
 abbrev pub is_written : List Share → List StatusChange → ℕ → Bool
 is_written ss cs l = list_any (λ c. (c.write_half && satisfied_by c.status) && contains (writes_if (slice_get ss c.seat)) l) cs
 
--- the seats that have a write but for that whose claims an event takes away
+-- the seats that have a write, without that whose claims an event takes away
 abbrev pub AreLeft : Event → Set → Set → Type 0
 AreLeft e writers writers' = (seat : ℕ) → contains writers' seat ≡ (contains writers seat && not (takes_seat e seat))

@@ -1,4 +1,4 @@
--- What an event makes of what is noted of seats: which of them wait, ask and read behind it, and what they read.
+-- What an event makes of what is noted of seats: which of them wait, ask and read after it, and what they read.
 use Rattle.std.specs.Prelude.{◌==◌, ℕ, Bool, true, false, nat_lt, not, ◌&&◌, ◌||◌, List, [], if◌then◌else◌}
 use Rattle.std.specs.List.{list_any}
 use Rattle.std.specs.FinSet.{empty, insert, is_subset, len, remove}
@@ -20,7 +20,7 @@ use Rattle.rcover.specs.NotedSeats.{some_wait}
 abbrev pub seat_waits : Moment → ℕ → Bool
 seat_waits n seat = list_any (λ x. (x.claim.seat == seat) && some_wait n x) n
 
--- seats, with one of which it is told whether it waits
+-- seats, with one of them in or out as it waits or not
 abbrev pub with_seat : Set → Moment → ℕ → Set
 with_seat seats n seat = if seat_waits n seat then insert seats seat else remove seats seat
 
@@ -31,7 +31,7 @@ risen_by seats (Finish seat) = remove seats seat
 risen_by seats (Rise seat) = insert seats seat
 risen_by seats (Ask seat part) = seats
 
--- a claim is in a wait or asks for something, where it is told whether the upgrade of its seat rose
+-- a claim is in a wait or asks for something; the flag says whether the upgrade of its seat rose
 abbrev pub waits_by : Bool → Claimed → Bool
 waits_by rose x = (waits_first [] x || (rose && not (is_satisfied x))) || nat_lt 0 (len x.asked)
 
@@ -57,7 +57,7 @@ reading_by seats (Finish seat) = remove seats seat
 reading_by seats (Rise seat) = remove seats seat
 reading_by seats (Ask seat part) = seats
 
--- what is noted of a seat: of that of a request that comes, what it reads
+-- what is noted of a seat: for that of a request that comes, what it reads
 abbrev pub wanted_by : List Set → Event → ℕ → Set
 wanted_by wanted (Issue seat r) other = if other == seat then r.reads else set_at wanted other
 wanted_by wanted (Finish seat) other = set_at wanted other
@@ -68,8 +68,8 @@ wanted_by wanted (Ask seat part) other = set_at wanted other
 abbrev pub has_end : List WaitEnd → ℕ → Bool
 has_end ends seat = list_any (λ w. w.seat == seat) ends
 
--- the place behind which the claims of the seat of an event stand, where so many claims were there and so many are there now:
--- those of an issue stand behind all that were there, and a finish leaves none
+-- the place from which the claims of the event's seat are found, given how many claims were there and how many are there now: those of an issue come
+-- after all that were there, and a finish leaves none
 abbrev pub first_of : Event → ℕ → ℕ → ℕ
 first_of (Issue seat r) there all = there
 first_of (Finish seat) there all = all

@@ -1,4 +1,4 @@
-// The covers of the waits that events end, event by event, over a machine of their own.
+// The covers of the waits that events end, followed event by event over its own machine.
 ghost use Rattle.std.specs.Prelude.{◌≡◌, ◌≤◌, ◌<◌, ◌^◌, [], IfOk, length};
 ghost use Rattle.rset.specs.declared.TheConstants.{SEATS};
 ghost use Rattle.rmodel.specs.Steps.{Comes};
@@ -13,8 +13,8 @@ use rmodel::Machine;
 use rplain::Plain;
 use std::alloc::{AllocError, Global};
 
-/// The waits of a lock, followed event by event beside a machine of its own: of each it keeps what its cover needs, and no
-/// list of events. All room is made when it is made.
+/// The waits of a lock, followed event by event with a machine of its own. It keeps what the cover of each wait needs, and no
+/// list of events. All room is made by `new`.
 #[derive(Drop)]
 pub struct Covers {
     machine: Plain,
@@ -22,12 +22,11 @@ pub struct Covers {
 }
 
 impl Covers {
-    /// Covers that were told no event, over the resources of `groups`, for `seats` seats and at most `cap` incomplete
-    /// requests.
+    /// Covers with no event yet, over the resources of `groups`, for `seats` seats and at most `cap` incomplete requests.
     ///
     /// # Errors
     ///
-    /// Want of memory.
+    /// Out of memory.
     pub fn new(alloc: Global, groups: Groups, seats: u8, cap: u8) -> Result<Covers, AllocError>
         requires seats { (1 ≤ seats) × (seats ≤ SEATS) }
         requires cap { (1 ≤ cap) × (cap ≤ SEATS) }
@@ -39,7 +38,7 @@ impl Covers {
         })
     }
 
-    /// Tells it an event, which comes behind those that it was told before. No memory is taken.
+    /// Takes an event, which comes after those given before. Takes no memory.
     pub fn told(&mut self, event: &Event)
         requires { (p : Past) × Knows self.old p × Comes (state_of p) event.now × (length p.events < 2 ^ 63) }
         ensures { (p : Past) → Knows self.old p → Comes (state_of p) event.now → Knows self.new (with_event p event.now) }

@@ -1,4 +1,4 @@
-// The waits that a moment ends, told from what is kept of them.
+// The waits that a moment ends, reported from what is kept of them.
 ghost use Rattle.std.specs.Prelude.{◌≡◌, ◌≤◌, ◌<◌, ◌==◌, ◌&&◌, ◌||◌, ◌++◌, ◌+◌, not, true, ℕ, List, IfSome, find, length, slice_index, vec_capacity};
 ghost use Rattle.std.specs.List.{AllByRecursion};
 ghost use Rattle.std.specs.Option.{option_map, option_to_list};
@@ -33,7 +33,7 @@ use rcover_laws::{WaitEnd, is_claim, stands, waits_first, waits_for_ask, waits_t
 use rmodel::Claimed;
 use rset::ResourceSet;
 
-/// The wait in which a claim is, if it is in one, where it is told whether the upgrade of its seat rose. So many asks of its seat
+/// The wait that a claim is in, if any. `rose` says whether the upgrade of its seat rose, and `asks` how many asks of its seat
 /// came since its last issue.
 fn wait_by(asks: usize, rose: bool, x: &Claimed) -> Option<Which>
     ensures which { (m : Moment) → waits_to_rise m x.now ≡ (rose && not (is_satisfied x.now)) → (es : List Event) → asks ≡ asks_since x.now.claim.seat es → result ≡ wait_of es m x.now }
@@ -61,7 +61,7 @@ fn is_in(which: Which, moment: &[Claimed], x: &Claimed) -> bool
     }
 }
 
-/// Whether the first claim at a moment that is this one is in this wait, if there is one.
+/// Whether the first claim at a moment that is this one, if there is any, is in this wait.
 fn first_waits(which: Which, c: &Claim, moment: &[Claimed]) -> Option<bool>
     ensures { result ≡ option_map (λ x. waits_in which moment.now x) (find (λ x. is_claim c.now x.claim) moment.now) }
 {
@@ -71,7 +71,7 @@ fn first_waits(which: Which, c: &Claim, moment: &[Claimed]) -> Option<bool>
         .map(|x| is_in(which, moment, x))
 }
 
-/// Whether a claim stands at a moment, in this wait. That of a write is asked at its own place and no further: no other claim
+/// Whether a claim is there at a moment, in this wait. For a write only the claim found at its own place is asked: no other claim
 /// there has its stamp and half.
 fn still_stands(which: Which, c: &Claim, moment: &[Claimed]) -> bool
     requires { EachPair Rises moment.now }
@@ -83,8 +83,8 @@ fn still_stands(which: Which, c: &Claim, moment: &[Claimed]) -> bool
     first_waits(which, c, moment).unwrap_or(false)
 }
 
-/// The seats of which a wait may end by an event of this seat with these grants, where no seats wait but these, and no asks are
-/// pending but of these: its own, those to which something is granted, and those that ask.
+/// The seats whose wait may end by an event of this seat with these grants, where no seats wait but these, and no asks are
+/// pending but of these: the event's seat, those to which something is granted, and those that ask.
 fn seats_looked_at(
     waiting: ResourceSet,
     asking: ResourceSet,
@@ -96,8 +96,8 @@ fn seats_looked_at(
     busy_seats(seat, grants).union(asking).meet(waiting)
 }
 
-/// Adds the wait of a claim at the last moment, if it is in one and the next moment ends it, where it is told whether the upgrade
-/// of its seat rose. `scratch` is room.
+/// Adds the wait of a claim at the last moment, if it is in one and the next moment ends it. `rose` says whether the upgrade of
+/// its seat rose, and `scratch` is room.
 fn tell_wait(
     ended: &mut Vec<WaitEnd>,
     scratch: &mut Run,
@@ -132,13 +132,13 @@ fn tell_wait(
     ended.push_reserved(end_of(scratch, which, &x.claim));
 }
 
-/// Makes `ended` the waits with at least one moment that stand at the `last` moment and not at the `next`, the one behind an event
-/// of this seat with these grants: one behind another as their claims stand, each with the numbers of its cover, units included. What
-/// was in `ended` is gone; it has the room that it had, which suffices, and `scratch` is room for one wait. No memory is taken.
+/// Makes `ended` the waits with at least one moment that are there at the `last` moment and not at the `next`, the one after an
+/// event of this seat with these grants. They are in the order of their claims, each with the numbers of its cover, units
+/// included. What was in `ended` is gone; its room stays and suffices, and `scratch` is room for one wait. Takes no memory.
 ///
-/// Of the last moment it is told what `runs` keep, the `heads` of the writes, the `lengths` of the last request of each seat, and
-/// how many asks each made. No seats wait there but those `waiting`, which claims wait to rise is told by the seats that rose, and
-/// no asks are pending but of the seats `asking`.
+/// The last moment is known from what `runs` keep, the `heads` of the writes, the `lengths` of the last request of each seat, and
+/// how many asks each made. No seats wait there but those `waiting`, the seats that rose say which claims wait to rise, and no
+/// asks are pending but of the seats `asking`.
 pub fn tell(
     ended: &mut Vec<WaitEnd>,
     scratch: &mut Run,
@@ -179,7 +179,7 @@ pub fn tell(
             return;
         }
         if left.has(x.claim.seat) {
-            // Of two claims of one seat the later is in no wait.
+            // Of two claims of a seat, the later is in no wait.
             left = left.without(x.claim.seat);
             let at = x.claim.seat as usize;
             let rose = rising.has(x.claim.seat);

@@ -41,15 +41,15 @@ fn looked_at(
 {
     let changed = waiting.meet(moved.union(risen));
     let seat = event.seat();
-    // The wait of its seat begins with a rise alone.
+    // The wait of its seat begins only with a rise.
     if has_stood(event, seat) {
         return changed;
     }
     changed.with(seat)
 }
 
-/// Whether what is kept of the wait of a claim may change: the write is looked at, or the wait of the read begins, or what came to
-/// be satisfied writes some of what it reads.
+/// Whether what is kept of a claim's wait may change: the write is looked at, or the wait of the read begins, or what came to be
+/// satisfied writes some of what it reads.
 fn is_due(event: &Event, looked: ResourceSet, written: ResourceSet, x: &Claimed) -> bool
     requires { x.now.claim.seat < SEATS }
     ensures { result ≡ is_due event.now looked written x.now }
@@ -61,7 +61,7 @@ fn is_due(event: &Event, looked: ResourceSet, written: ResourceSet, x: &Claimed)
     }
 }
 
-/// Whether a claim waits, before it holds anything or to rise, where the seats that rose tell which claims wait to rise.
+/// Whether a claim waits before it holds anything, or waits to rise. `rising` says which claims wait to rise.
 fn may_wait(rising: ResourceSet, x: &Claimed) -> bool
     requires { x.now.claim.seat < SEATS }
     ensures { (n : Moment) → waits_to_rise n x.now ≡ is_rising rising x.now → result ≡ may_wait n x.now }
@@ -69,8 +69,8 @@ fn may_wait(rising: ResourceSet, x: &Claimed) -> bool
     waits_first(x) || still_rises(rising.has(x.claim.seat), x)
 }
 
-// Its values are many, and need not be handed over.
-/// Keeps of the wait of a claim what is due at the next moment.
+// Inlined: it has too many arguments to be worth a call.
+/// Keeps what is due of a claim's wait at the next moment.
 #[inline(always)]
 fn keep_wait(
     runs: &mut [Run],
@@ -118,8 +118,8 @@ fn keep_wait(
     );
 }
 
-// Its values are many, and need not be handed over.
-/// Keeps of the wait of a claim at the next moment what is due there, if it waits.
+// Inlined: it has too many arguments to be worth a call.
+/// Keeps what is due of a claim's wait at the next moment, if the claim waits.
 #[inline(always)]
 fn keep_due(
     runs: &mut [Run],
@@ -162,7 +162,7 @@ fn keep_due(
     );
 }
 
-/// Keeps of the wait of a claim at the next moment what is due there, if something is and it waits.
+/// Keeps what is due of a claim's wait at the next moment, if anything is and the claim waits.
 fn keep_at(
     runs: &mut [Run],
     taken: &mut FoundRead,
@@ -207,7 +207,7 @@ fn keep_at(
     );
 }
 
-/// Keeps of the waits of all claims at the next moment what is due there. Of the writes only those of these seats are looked at.
+/// Keeps what is due of the waits of all claims at the next moment. Of the writes, only those of these seats are looked at.
 fn keep_looked(
     runs: &mut [Run],
     looked: ResourceSet,
@@ -250,7 +250,7 @@ fn keep_looked(
     }
 }
 
-/// The write of a seat, where the place is noted at which it stands.
+/// The write of a seat whose place is noted.
 fn write_at<'a>(places: &[usize], next: &'a [Claimed], seat: u8) -> &'a Claimed
     requires { StandsAt places.now next.now seat }
     ensures there { Among result.now next.now }
@@ -260,8 +260,8 @@ fn write_at<'a>(places: &[usize], next: &'a [Claimed], seat: u8) -> &'a Claimed
     &next[places[usize::from(seat)]]
 }
 
-/// Keeps of the waits of the writes of some seats at the next moment what is due there, where these writes stand at the places that
-/// are noted. Nothing is due of any other claim.
+/// Keeps what is due of the waits of some seats' writes at the next moment, where these writes are at the noted places. Nothing
+/// is due of any other claim.
 fn keep_writes(
     runs: &mut [Run],
     looked: ResourceSet,
@@ -310,17 +310,17 @@ fn keep_writes(
     }
 }
 
-/// Brings what is kept of the waits of all seats from the `last` moment to the `next`, the one behind an event: each wait there
-/// stood before it, but for that of an upgrade that rises. Of each claim that waits at the next moment, before it holds anything or
-/// to rise, the run of its seat keeps just what is due (`kept_of`): nothing where the wait begins, and else what it kept, with what
-/// is taken for the stretches that are over. The runs of all other seats keep what they kept. Lengths are in units, and those that
-/// are kept stay right where `lengths` are. There are as many runs as before, each with its room, and no memory is taken.
+/// Brings what is kept of the waits of all seats from the `last` moment to the `next`, the one after an event. Each wait there
+/// was there before it, except that of an upgrade that rises. For each claim that waits at the next moment, before it holds
+/// anything or to rise, the run of its seat keeps just what is due (`kept_of`): nothing if the wait begins, and else what it
+/// kept, with what is taken for the periods that are over. The runs of all other seats keep what they kept. Lengths are in units,
+/// and the kept ones stay right if `lengths` are. There are as many runs as before, each with its room, and no memory is taken.
 ///
-/// No seats wait at the next moment but those `waiting`; which claims wait to rise is told by the seats that rose; and no seats have
-/// a claim that reads but those `reading`, each what is `wanted` of its seat. Where a read reads nothing that is `written`, the
-/// write that keeps it waiting does not become satisfied. `moved` are the seats of the writes whose head was the one that is `lost`
+/// No seats wait at the next moment but those `waiting`; the seats that rose say which claims wait to rise; and no seats have a
+/// claim that reads but those `reading`, each reading what `wanted` says of its seat. If a read reads nothing that is `written`,
+/// the write that keeps it waiting does not become satisfied. `moved` are the seats of the writes whose head was the `lost` one
 /// and is another now, and `risen` those of the writes whose least claim came to be satisfied: `heads` has the heads of both, and
-/// they stand at the `places` that are noted of their seats.
+/// the writes are at the `places` noted for their seats.
 pub fn keep(
     runs: &mut [Run],
     waiting: ResourceSet,
@@ -374,7 +374,8 @@ pub fn keep(
     );
 }
 
-/// Keeps nothing of the wait of a seat. What is kept of all others stays, there are as many runs as before, and each has its room.
+/// Keeps nothing of the wait of a seat. What is kept of all others stays; there are as many runs as before, and each has its
+/// room.
 pub fn clear_run(runs: &mut [Run], seat: u8)
     requires seat { seat < length runs.old }
     requires room { AllByRecursion HasRoom runs.old }

@@ -1,4 +1,4 @@
-// A follower: the waits of a lock, followed event by event beside a machine that is there.
+// A follower: the waits of a lock, followed event by event beside its caller's machine.
 ghost use Rattle.std.specs.Prelude.{◌≡◌, ◌≤◌, ◌<◌, ◌^◌, ◌*◌, ◌↔◌, [], true, false, ℕ, IfOk, IfErr, OnOk, OnErr, IsOk, Some, length, vec_capacity};
 ghost use Rattle.std.specs.List.{AllByRecursion};
 ghost use Rattle.rset.specs.declared.TheConstants.{SEATS};
@@ -41,23 +41,23 @@ const PLACES: usize = SEATS as usize;
 // Room for the claims of all seats.
 const CLAIMS: usize = 2 * PLACES;
 
-/// The waits of a lock, followed event by event beside a machine that its caller has: of each it keeps what its cover needs,
-/// and no list of events. All room is made when it is made.
+/// The waits of a lock, followed event by event beside a machine that its caller has. It keeps what the cover of each wait needs,
+/// and no list of events. All room is made by `new`.
 #[derive(Drop)]
 pub struct Following {
-    // The seats that wait, with others maybe.
+    // The seats that wait, and maybe others.
     waiting: ResourceSet,
-    // The seats of the upgrades that rose, with others maybe of which no claim is there.
+    // The seats of the upgrades that rose, and maybe others that have no claim.
     rising: ResourceSet,
-    // The seats of the requests of which an ask is pending, with others maybe.
+    // The seats whose requests have a pending ask, and maybe others.
     asking: ResourceSet,
-    // The seats of the requests that have a claim that reads, with others maybe.
+    // The seats whose requests have a claim that reads, and maybe others.
     reading: ResourceSet,
-    // Of each seat, what its last request reads.
+    // For each seat, what its last request reads.
     wanted: [ResourceSet; PLACES],
     // The claims before the last event that might end a wait.
     last: Vec<Claimed>,
-    // How many claims there were before the last event.
+    // The number of claims before the last event.
     there: usize,
     // What is kept of the wait of each seat.
     runs: Vec<Run>,
@@ -66,7 +66,7 @@ pub struct Following {
     asks: [usize; PLACES],
     // The least claims of the lines of all writes.
     heads: Heads,
-    // Of each seat, which of the claims its write is, if its head changed by the last event that might end a wait.
+    // For each seat, the place of its write among the claims, if its head changed by the last event that might end a wait.
     places: [usize; PLACES],
     // Room for the sections of one wait.
     scratch: Run,
@@ -98,8 +98,8 @@ fn new_runs(alloc: Global) -> Result<Vec<Run>, AllocError>
     Ok(runs)
 }
 
-/// Makes a list a copy of these claims, in the room that it has. The room stays. It is made as long as they are, and then copied
-/// at one go.
+/// Makes a list a copy of these claims, in the room that it has, which stays. It is made as long as they are, and then copied as
+/// a whole.
 fn copy_claims(to: &mut Vec<Claimed>, from: &[Claimed])
     requires { length from.now ≤ vec_capacity to.old }
     ensures items { to.new.items ≡ from.now }
@@ -113,11 +113,11 @@ fn copy_claims(to: &mut Vec<Claimed>, from: &[Claimed])
 }
 
 impl Following {
-    /// A follower that followed no event, and notes nothing of any seat. Any machine that took none yet may be followed.
+    /// A follower that followed no event, and notes nothing of any seat. Any machine that took no event yet may be followed.
     ///
     /// # Errors
     ///
-    /// Want of memory.
+    /// Out of memory.
     pub fn new(alloc: Global) -> Result<Following, AllocError>
         ensures follows { IfOk result (λ made. (groups : ReadGroups) (seats cap : ℕ) → seats ≤ SEATS → 1 ≤ cap → cap ≤ SEATS → Follows made (begun groups seats cap)) }
         ensures nothing { IfOk result (λ made. NotesNothing made) }
@@ -140,12 +140,12 @@ impl Following {
         })
     }
 
-    /// Steps the machine by an event, and follows it. The machine stands behind the events that were followed before. No
-    /// memory is taken.
+    /// Steps the machine by an event, and follows it. The machine has taken just the events that were followed before. Takes no
+    /// memory.
     ///
     /// # Errors
     ///
-    /// The refusal of the machine. Then the machine stands as before, and the same events are followed.
+    /// The refusal of the machine. The machine is then as before, and the same events are followed.
     pub fn step(&mut self, machine: &mut Plain, event: &Event) -> Result<(), Refused>
         requires fits { Fits machine.old.state event.now }
         requires known { (p : Past) × Follows self.old p × (machine.old.state ≡ state_of p) × (length p.events < 2 ^ 63) }
@@ -167,7 +167,7 @@ impl Following {
         Ok(())
     }
 
-    // Notes how many claims there are before an event, and which, if it may end a wait.
+    // Notes how many claims there are before an event, and the claims themselves if it may end a wait.
     fn note(&mut self, machine: &Plain, event: &Event)
         requires known { (p : Past) × Follows self.old p × (machine.now.state ≡ state_of p) }
         ensures still { (p : Past) → Follows self.old p → Follows self.new p }
@@ -205,7 +205,7 @@ impl Following {
         }
     }
 
-    // Follows a finish where nobody waits: nothing is left of its seat, and all that is kept of others stays.
+    // Follows a finish where nobody waits: nothing is kept of its seat, and all that is kept of others stays.
     fn let_go(&mut self, event: &Event)
         requires ahead { (machine : Standing) × (p : Past) × IsAhead self.old machine p event.now }
         requires calm { ends_none self.old.waiting event.now ≡ true }
@@ -216,7 +216,7 @@ impl Following {
         self.heads.close();
     }
 
-    // Follows an event that ends no wait and is no finish. Of the wait of its seat nothing is kept yet, and all other waits go on
+    // Follows an event that ends no wait and is no finish. Nothing is kept yet of the wait of its seat, and all other waits go on
     // as they are.
     fn go_on(&mut self, machine: &Plain, event: &Event)
         requires ahead { (p : Past) × IsAhead self.old machine.now p event.now × (length p.events < 2 ^ 63) }
@@ -241,8 +241,8 @@ impl Following {
             .pass(is_issue(event), self.there, machine.claims());
     }
 
-    // Follows an event that may end a wait: each wait of before it is looked at, and each of after it. It stays a call, so that
-    // an event that ends none needs no room for it.
+    // Follows an event that may end a wait: looks at each wait before it, and at each after it. It stays a call, so that an event
+    // that ends no wait needs no room for it.
     #[inline(never)]
     fn advance(&mut self, machine: &Plain, event: &Event)
         requires ahead { (p : Past) × IsAhead self.old machine.now p event.now × (length p.events < 2 ^ 63) }
@@ -254,8 +254,7 @@ impl Following {
         self.keep_waits(machine, event);
     }
 
-    // Tells the waits that an event ended, by what is kept of the moment before it.
-    // It is a part of `advance`, and no call.
+    // Finds the waits that an event ended, by what is kept of the moment before it. It is part of `advance`, and inlined there.
     #[inline(always)]
     fn tell_ended(&mut self, machine: &Plain, event: &Event)
         requires ahead { (p : Past) × IsAhead self.old machine.now p event.now }
@@ -280,8 +279,7 @@ impl Following {
         );
     }
 
-    // Notes what an event that ended the waits which were told leaves of the seats.
-    // It is a part of `advance`, and no call.
+    // Notes what an event leaves of the seats, given the waits that it ended. It is part of `advance`, and inlined there.
     #[inline(always)]
     fn note_left(&mut self, machine: &Plain, event: &Event)
         requires { (a : Following) × (p : Past) × HasTold a self.old machine.now p event.now × (length p.events < 2 ^ 63) }
@@ -301,8 +299,8 @@ impl Following {
         );
     }
 
-    // Goes on to the moment behind an event with the heads of the writes, and with what is kept of the waits.
-    // It is a part of `advance`, and no call.
+    // Goes on to the moment after an event, with the heads of the writes and with what is kept of the waits. It is part of
+    // `advance`, and inlined there.
     #[inline(always)]
     fn keep_waits(&mut self, machine: &Plain, event: &Event)
         requires { (a : Following) × (p : Past) × HasNoted a self.old machine.now p event.now }

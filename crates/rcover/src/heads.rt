@@ -20,25 +20,25 @@ use std::alloc::{AllocError, Global};
 // A place for each seat.
 const PLACES: usize = SEATS as usize;
 
-/// The least claims of the lines of all writes, for each seat, and what those writes take.
+/// The least claims of the lines of all writes, by seat, and what those writes take.
 #[derive(Drop)]
 pub struct Heads {
-    /// Those of the claims that are there. What stands at the place of a seat without a write stays.
+    /// The heads at the present moment. A seat without a write keeps whatever is at its place.
     pub now: Vec<Head>,
-    /// Of each seat, those of the writes whose least claim is its own, with others maybe.
+    /// For each seat, the seats of the writes whose least claim is its own, and maybe others.
     pub behind: Vec<ResourceSet>,
-    /// That of the write that an event took away, as it was before, by the last `lose`. Where that event took none, it is of the seat
-    /// `SEATS`, which no claim has: so what goes by the seat of this claim finds nothing, and needs no test for it.
+    /// The head of the write that an event took away, as it was before, by the last `lose`. If that event took no write, it is of
+    /// the seat `SEATS`, which no claim has: so whatever goes by the seat of this claim finds nothing, and needs no test.
     pub lost: Head,
-    /// The seats of the writes that have another head since by a look-up: each of them had the one that is lost.
+    /// The seats of the writes that have had another head since, by a look-up: each of them had the lost one.
     pub moved: ResourceSet,
     /// The seats of the writes whose least claim stayed and came to be satisfied.
     pub risen: ResourceSet,
     /// The seats that have a write.
     pub writers: ResourceSet,
-    /// What the write of each of them takes; of a seat without one anything may be kept.
+    /// What the write of each of them takes; for a seat without a write it may be anything.
     pub shares: [Share; PLACES],
-    // Whether they are told: they are not, where nobody asked for them.
+    // Whether the heads are known: they are not when nobody asked for them.
     told: bool,
 }
 
@@ -69,11 +69,11 @@ fn new_sets(alloc: Global) -> Result<Vec<ResourceSet>, AllocError>
 }
 
 impl Heads {
-    /// Heads that are not told, with all room for them: for each seat the head of no line, which is not satisfied.
+    /// Heads that are not known, with all room for them: for each seat the head of no line, which is not satisfied.
     ///
     /// # Errors
     ///
-    /// Want of memory.
+    /// Out of memory.
     pub fn new(alloc: Global) -> Result<Heads, AllocError>
         ensures room { IfOk result (λ made. HasPlaces made) }
         ensures told { IfOk result (λ made. TellsNow made []) }
@@ -93,7 +93,8 @@ impl Heads {
         })
     }
 
-    /// Goes on to a moment that nobody asks for. Where an event `brought` the claims from a place on, only of those it is told.
+    /// Goes on to a moment that nobody asks for. If an event `brought` the claims from a place on, the heads of just those are
+    /// added.
     pub fn pass(&mut self, brought: bool, there: usize, moment: &[Claimed])
         requires moment { IsMoment moment.now }
         requires room { HasPlaces self.old }
@@ -118,7 +119,7 @@ impl Heads {
         }
     }
 
-    /// Is told no more, as nobody asks for it.
+    /// Forgets the heads, as nobody asks for them.
     pub fn close(&mut self)
         requires room { HasPlaces self.old }
         ensures room { HasPlaces self.new }
@@ -129,7 +130,7 @@ impl Heads {
         self.told = false;
     }
 
-    /// Tells of the claims that are there, if it is not told.
+    /// Finds the heads of the claims that are there, if they are not known.
     pub fn tell_now(&mut self, moment: &[Claimed])
         requires moment { IsMoment moment.now }
         requires room { HasPlaces self.old }
@@ -150,8 +151,8 @@ impl Heads {
         }
     }
 
-    /// Notes the head of the write that an event takes away, if it takes one, and that its seat has none from then on; and else
-    /// that of no line. Answers the places of that write; none, where it takes none.
+    /// Notes the head of the write that an event takes away, if it takes one, and that its seat has no write from then on; if
+    /// not, notes that of no line. Answers the places of that write, or no places.
     pub fn lose(&mut self, event: &Event) -> ResourceSet
         requires low { seat_of event.now < SEATS }
         requires room { HasPlaces self.old }
@@ -174,9 +175,10 @@ impl Heads {
         self.shares[at].places
     }
 
-    /// Goes on to the moment behind an event that brings no claim. The head of the write that it takes away is noted; `gone` are
+    /// Goes on to the moment after an event that brings no claim. The head of the write that it takes away is noted; `gone` are
     /// the places of that write, `came` the seats of the writes that became satisfied, and `touched` those of the writes that
-    /// have one of these for their least claim. Of each seat that moves or rises `places` gets the place of its write in the moment.
+    /// have one of these for their least claim. For each seat that moves or rises, `places` gets the place of its write in the
+    /// moment.
     pub fn turn(
         &mut self,
         places: &mut [usize],

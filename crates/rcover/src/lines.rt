@@ -26,8 +26,8 @@ pub struct Head {
     pub holds: bool,
 }
 
-/// What is found of the line of a write from its end: the seat and the stamp of its least claim so far, and the places of the write
-/// of which no write so far has any.
+/// What is found of the line of a write, looking from its end: the seat and the stamp of its least claim so far, and the places
+/// of the write that no write so far has.
 #[derive(Clone, Copy)]
 pub(crate) struct Found {
     pub(crate) seat: u8,
@@ -63,7 +63,7 @@ fn own_head(x: &Claimed) -> Head
     }
 }
 
-/// What is found of a line once another claim is reached, with these places left.
+/// What is found of a line once another claim is reached, if these places are left.
 fn lower(found: Found, least: &Claim, left: ResourceSet) -> Found
     ensures { result ≡ lowered found least.now left }
 {
@@ -82,9 +82,9 @@ fn lower(found: Found, least: &Claim, left: ResourceSet) -> Found
     }
 }
 
-/// Finds of the line of a write what a claim before the others tells, and answers whether each place was met. If that claim is a
-/// write with some of the places that are left, the least claim of its line is reached; with none of them, it is reached by a later
-/// write too.
+/// Takes into what is found of a write's line a claim before the others, and answers whether each place was met. If that claim is
+/// a write with some of the places that are left, the least claim of its line is reached; if it has none of them, that claim is
+/// reached by a later write too.
 fn reach(found: &mut Found, heads: &[Head], y: &Claimed) -> bool
     requires seat { y.now.claim.seat < length heads.now }
     ensures found { (m : Moment) (c : Claim) (zs : Moment) → AreBefore m c (y.now ∷ zs) → TellAt heads.now m (y.now ∷ []) → IsFound m c zs found.old → IsFound m c (y.now ∷ zs) found.new }
@@ -122,8 +122,8 @@ pub(crate) fn found_before(heads: &[Head], before: &[Claimed], x: &Claimed) -> F
     found
 }
 
-/// Tells of a write behind others its head, by the heads of those and what is found among them. That of its least claim is copied
-/// where it stands.
+/// Sets the head of a write that comes after others, by the heads of those and what is found among them. That of its least claim
+/// is copied from its place.
 pub(crate) fn put_head(heads: &mut [Head], found: &Found, x: &Claimed)
     requires write { x.now.claim.write_half ≡ true }
     requires seat { x.now.claim.seat < length heads.old }
@@ -143,7 +143,7 @@ pub(crate) fn put_head(heads: &mut [Head], found: &Found, x: &Claimed)
     }
 }
 
-/// Notes that the least claim in the line of the write of a seat is of this other seat.
+/// Notes that the least claim in the line of a seat's write belongs to this other seat.
 pub(crate) fn note_behind(behind: &mut [ResourceSet], least: u8, seat: u8)
     requires { seat < SEATS }
     ensures own { least < length behind.old → contains (set_at behind.new least) seat ≡ true }
@@ -155,7 +155,7 @@ pub(crate) fn note_behind(behind: &mut [ResourceSet], least: u8, seat: u8)
     }
 }
 
-/// Tells of a claim behind others its head, if it is a write.
+/// Sets the head of a claim that comes after others, if it is a write.
 fn tell_head(heads: &mut [Head], behind: &mut [ResourceSet], before: &[Claimed], x: &Claimed)
     requires low { x.now.claim.seat < SEATS }
     requires seat { x.now.claim.seat < length heads.old }
@@ -174,7 +174,7 @@ fn tell_head(heads: &mut [Head], behind: &mut [ResourceSet], before: &[Claimed],
     }
 }
 
-/// Tells of each write at a moment its head, where it is told of those before this place.
+/// Sets the head of each write at a moment, where those before this place are known.
 pub(crate) fn tell_heads(
     heads: &mut [Head],
     behind: &mut [ResourceSet],
@@ -198,7 +198,7 @@ pub(crate) fn tell_heads(
     }
 }
 
-/// The set of a seat; none where it has none.
+/// The set of a seat, or the empty set if it has none.
 pub fn set_of(behind: &[ResourceSet], seat: u8) -> ResourceSet
     ensures { result ≡ set_at behind.now seat }
 {
@@ -208,7 +208,7 @@ pub fn set_of(behind: &[ResourceSet], seat: u8) -> ResourceSet
     }
 }
 
-/// The same seats, with those of the writes whose least claim is told to be satisfied.
+/// The same seats, with those of the writes whose least claim is reported to be satisfied.
 fn with_touched(touched: ResourceSet, behind: &[ResourceSet], s: &StatusChange) -> ResourceSet
     ensures { (seat : ℕ) → contains result seat ≡ (contains touched seat || ((s.now.write_half && satisfied_by s.now.status) && contains (set_at behind.now s.now.seat) seat)) }
 {
@@ -219,8 +219,8 @@ fn with_touched(touched: ResourceSet, behind: &[ResourceSet], s: &StatusChange) 
     }
 }
 
-/// The seats of the writes whose least claims are of a seat that is lost, or of one of which a write is told to be satisfied; with
-/// others maybe, as the sets behind a seat may have others.
+/// The seats of the writes whose least claims are of the lost seat, or of a seat whose write is reported to be satisfied; and
+/// maybe others, as the sets in `behind` may have others.
 pub fn touched_by(behind: &[ResourceSet], lost: u8, statuses: &[StatusChange]) -> ResourceSet
     ensures { (seat : ℕ) → contains result seat ≡ is_touched behind.now lost statuses.now seat }
 {

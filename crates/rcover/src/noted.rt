@@ -30,7 +30,7 @@ pub(crate) fn note_lengths(lengths: &mut [Lengths], event: &Event)
     }
 }
 
-/// Counts an ask that an event brings, and from the start at an issue.
+/// Counts an ask that an event brings; an issue sets the count to 0.
 pub(crate) fn note_ask(asks: &mut [usize], event: &Event)
     requires seat { seat_of event.now < length asks.old }
     requires few { slice_index asks.old (seat_of event.now) < 2 ^ 63 }

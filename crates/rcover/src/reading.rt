@@ -1,4 +1,4 @@
-// What is noted of which seats have a claim that reads, and what it reads.
+// Notes of which seats have a claim that reads, and of what it reads.
 ghost use Rattle.std.specs.Prelude.{if◌then◌else◌, ◌≡◌, ◌<◌, ℕ, length};
 ghost use Rattle.std.specs.FinSet.{insert, remove};
 ghost use Rattle.rset.specs.declared.TheConstants.{SEATS};
@@ -16,7 +16,7 @@ fn has_read(kind: Kind) -> bool
     matches!(kind, Kind::Read | Kind::Upgrade)
 }
 
-/// Notes of the seat of a request that comes whether it has a claim that reads.
+/// Notes whether the request that a seat issues has a claim that reads.
 pub(crate) fn note_reading(reading: &mut ResourceSet, seat: u8, request: &Request)
     requires { seat < SEATS }
     ensures { reading.new ≡ (if has_read request.now.kind then insert reading.old seat else remove reading.old seat) }
@@ -28,7 +28,7 @@ pub(crate) fn note_reading(reading: &mut ResourceSet, seat: u8, request: &Reques
     };
 }
 
-/// Notes of the seat of a request that comes what it reads.
+/// Notes what the request that a seat issues reads.
 pub(crate) fn note_wanted(wanted: &mut [ResourceSet], event: &Event)
     requires { seat_of event.now < length wanted.old }
     ensures value { (seat : ℕ) → set_at wanted.new seat ≡ wanted_by wanted.old event.now seat }

@@ -4,7 +4,7 @@ ghost use Rattle.rmodel.specs.Claims.{is_satisfied};
 
 use rmodel::Claimed;
 
-/// Whether a claim waits to rise, where it is told whether the upgrade of its seat rose: it did, and the claim is not satisfied.
+/// Whether a claim waits to rise: the upgrade of its seat `rose`, and the claim is not satisfied.
 pub fn still_rises(rose: bool, x: &Claimed) -> bool
     ensures { result ≡ (rose && not (is_satisfied x.now)) }
 {

@@ -22,7 +22,7 @@ use rcover_laws::{Wanted, is_claim, is_wanted, keeper_at};
 use rmodel::Claimed;
 use rset::ResourceSet;
 
-/// The sections of the closed stretches of a wait. Those of the present one are seen at its last moment.
+/// The sections of the closed periods of a wait. Those of the present period are seen at its last moment.
 #[derive(Drop)]
 pub struct Run {
     /// Those that count as reads.
@@ -31,14 +31,14 @@ pub struct Run {
     pub writes: Vec<CoverSection>,
 }
 
-/// The read that was taken at the last moment for claims that read and write this, with its length. It is looked for once.
+/// The read that was taken at the last moment for claims that read and write this, with its length. It is looked for only once.
 #[derive(Clone, Copy)]
 pub struct FoundRead {
     /// What those claims read.
     pub reads: ResourceSet,
     /// What they write.
     pub writes: ResourceSet,
-    /// None, where no read was.
+    /// None, if there was no such read.
     pub section: Option<CoverSection>,
 }
 
@@ -65,7 +65,7 @@ pub(crate) fn section_at(
     section_if(lengths, first_at(wanted, moment))
 }
 
-/// What is taken for a claim that reads and writes nothing: none.
+/// What is taken for a claim that reads and writes nothing: no read.
 pub fn none_taken() -> FoundRead
     ensures { (ls : List Lengths) (m : Moment) → IsTaken ls m result }
 {
@@ -126,7 +126,7 @@ fn keep_taken(
     add_found(reads, &taken.section);
 }
 
-/// Whether the stretch of the least claim of a line goes on at the next moment: it is the least still, and unsatisfied.
+/// Whether the period of the least claim of a line goes on at the next moment: it is still the least, and unsatisfied.
 fn goes_on(least: &Head, next_least: &Head) -> bool
     ensures { result ≡ (is_claim least.now.claim next_least.now.claim && not next_least.now.holds) }
 {
@@ -146,9 +146,9 @@ fn keep_section(writes: &mut Vec<CoverSection>, section: &CoverSection, next_lea
     push_section(writes, section);
 }
 
-// Its values are many, and need not be handed over.
-/// Keeps what is over of the wait of a write whose head was the one that is lost: that claim itself, if it was satisfied, and else
-/// the read that was taken for it. `section` is its own.
+// Inlined: it has too many arguments to be worth a call.
+/// Keeps what is over of the wait of a write whose head was the lost one: the lost claim itself, if it was satisfied, and else
+/// the read that was taken for it. `section` is the lost claim's own.
 #[inline(always)]
 fn close_lost(
     run: &mut Run,
@@ -178,9 +178,9 @@ fn close_lost(
     keep_taken(&mut run.reads, taken, lengths, &lost.claim, last);
 }
 
-// Its values are many, and need not be handed over.
-/// Keeps what is over of the wait of a write at the next moment: where it had the head that is lost, what that leaves, and where its
-/// least claim came to be satisfied, the read that was taken for it.
+// Inlined: it has too many arguments to be worth a call.
+/// Keeps what is over of the wait of a write at the next moment: what the lost head leaves, if the write had it, and the read
+/// that was taken for its least claim, if that came to be satisfied.
 #[inline(always)]
 fn go_on_write(
     run: &mut Run,
@@ -219,7 +219,7 @@ fn go_on_write(
     }
 }
 
-/// Whether the first claim at a moment that is this one is satisfied, if there is one.
+/// Whether the first claim at a moment that is this one, if there is any, is satisfied.
 fn first_holds(c: &Claim, moment: &[Claimed]) -> Option<bool>
     ensures { result ≡ option_map is_satisfied (find (λ x. is_claim c.now x.claim) moment.now) }
 {
@@ -285,8 +285,8 @@ fn close_read_of(
     close_read(reads, lengths, keeper_at(c, last), last, next);
 }
 
-// Its values are many, and need not be handed over.
-/// What a run keeps once the next moment comes: the wait of the claim goes on.
+// Inlined: it has too many arguments to be worth a call.
+/// What a run keeps at the next moment, if the wait of the claim goes on.
 #[inline(always)]
 fn go_on(
     run: &mut Run,
@@ -335,8 +335,8 @@ pub fn clear(run: &mut Run)
     run.writes.clear();
 }
 
-// Its values are many, and need not be handed over.
-/// Keeps of the wait of a claim what is due at the next moment: it begins, if its upgrade rises, and else it goes on.
+// Inlined: it has too many arguments to be worth a call.
+/// Keeps what is due of a claim's wait at the next moment: the wait begins if its upgrade rises, and else it goes on.
 #[inline(always)]
 pub fn keep_by(
     run: &mut Run,

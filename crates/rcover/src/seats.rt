@@ -1,4 +1,4 @@
-// Of which seats changes tell.
+// The seats that changes are about.
 ghost use Rattle.std.specs.Prelude.{◌≡◌, ◌<◌, ◌==◌, ◌&&◌, ◌||◌, true, ℕ};
 ghost use Rattle.std.specs.FinSet.{contains};
 ghost use Rattle.rset.specs.declared.TheConstants.{SEATS};
@@ -10,7 +10,7 @@ use crate::writes_told::is_write_told;
 use rclaim::{GrantChange, StatusChange};
 use rset::{ResourceSet, SEATS};
 
-/// The same seats with this one, if it is told that it `comes`.
+/// The same seats, with this one if it `comes`.
 fn with_seat_if(seats: ResourceSet, comes: bool, seat: u8) -> ResourceSet
     ensures { (other : ℕ) → other < SEATS → contains result other ≡ ((seat == other && comes) || contains seats other) }
 {
@@ -21,14 +21,14 @@ fn with_seat_if(seats: ResourceSet, comes: bool, seat: u8) -> ResourceSet
     }
 }
 
-/// The same seats with that of a status, if it is told that a write became satisfied.
+/// The same seats, with that of a change if it reports that a write became satisfied.
 fn with_told(seats: ResourceSet, s: &StatusChange) -> ResourceSet
     ensures { (other : ℕ) → other < SEATS → contains result other ≡ ((s.now.seat == other && (s.now.write_half && satisfied_by s.now.status)) || contains seats other) }
 {
     with_seat_if(seats, is_write_told(s), s.seat)
 }
 
-/// The seats of the writes that these changes tell to have become satisfied, and no others.
+/// The seats of the writes that these changes report to have become satisfied, and no others.
 pub fn seats_told(statuses: &[StatusChange]) -> ResourceSet
     ensures { (seat : ℕ) → seat < SEATS → contains result seat ≡ tells_write_of statuses.now seat }
 {

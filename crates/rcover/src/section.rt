@@ -24,9 +24,9 @@ pub struct CoverSection {
 /// The lengths of the last request of a seat.
 #[derive(Clone, Copy)]
 pub struct Lengths {
-    /// That of its section, of an upgrade before it rises.
+    /// The length of its section; for an upgrade, of its section before it rises.
     pub len: u32,
-    /// That of an upgrade once it rose.
+    /// The length of an upgrade's section once it rose.
     pub later: u32,
 }
 
@@ -63,7 +63,7 @@ pub fn section_of(lengths: &[Lengths], d: &Claim) -> CoverSection
     }
 }
 
-/// The section of the claim that there may be.
+/// The section of a claim, if there is one.
 pub(crate) fn section_if(lengths: &[Lengths], found: Option<Claim>) -> Option<CoverSection>
     ensures { result ≡ option_map (section_of lengths.now) found }
 {
@@ -83,7 +83,7 @@ pub(crate) fn push_section(sections: &mut Vec<CoverSection>, section: &CoverSect
     sections.push_reserved(*section);
 }
 
-/// Adds a section, if it is not there.
+/// Adds a section, if it is not in the list.
 fn add_section(sections: &mut Vec<CoverSection>, section: &CoverSection)
     requires { length (with_different (claims_of sections.old.items) section.now.claim) ≤ vec_capacity sections.old }
     ensures claims { claims_of sections.new.items ≡ with_different (claims_of sections.old.items) section.now.claim }
@@ -96,7 +96,7 @@ fn add_section(sections: &mut Vec<CoverSection>, section: &CoverSection)
     push_section(sections, section);
 }
 
-/// Adds the section that there may be, if it is not there.
+/// Adds a section, if there is one and it is not in the list.
 pub(crate) fn add_found(sections: &mut Vec<CoverSection>, found: &Option<CoverSection>)
     requires { length (with_option (claims_of sections.old.items) (claim_if found.now)) ≤ vec_capacity sections.old }
     ensures claims { claims_of sections.new.items ≡ with_option (claims_of sections.old.items) (claim_if found.now) }

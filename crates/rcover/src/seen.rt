@@ -43,7 +43,7 @@ fn show_write(shown: &mut Run, run: &Run, lengths: &[Lengths], least: &Head, mom
     );
 }
 
-/// Makes `shown` the one read, or none, that is wanted at the last moment.
+/// Makes `shown` the read that is wanted at the last moment, or no section.
 fn show_found(shown: &mut Run, lengths: &[Lengths], wanted: &Wanted, moment: &[Claimed])
     requires room { HasRoom shown.old }
     ensures shown { kept_in shown.new ≡ record { reads = option_to_list (first_at (is_wanted wanted.now) moment.now); writes = [] } }
@@ -95,8 +95,8 @@ fn show_read_if(
     }
 }
 
-/// Makes `into` the sections of a wait of a claim at its last moment, of which the run keeps the closed ones. `least` is the head
-/// of the claim, if that is a write.
+/// Makes `into` the sections of a claim's wait at its last moment; the run keeps the closed ones. `least` is the head of the
+/// claim, if that is a write.
 pub fn show(
     into: &mut Run,
     run: &Run,
@@ -127,7 +127,7 @@ pub fn show(
     }
 }
 
-/// What is told of a wait with these sections.
+/// What is reported of a wait with these sections.
 pub fn end_of(shown: &Run, which: Which, c: &Claim) -> WaitEnd
     requires { AreAtMost SEATS (kept_in shown.now) }
     ensures { (len : Claim → ℕ) → AreLong len shown.now → result ≡ wait_end which c.now (numbers_of len (kept_in shown.now)) }

@@ -65,7 +65,7 @@ fn with_writer(writers: ResourceSet, x: &Claimed) -> ResourceSet
     }
 }
 
-/// Notes which seats have a write at a moment, and what each takes, where it is noted of those before this place.
+/// Notes which seats have a write at a moment, and what each takes, where those before this place are noted.
 pub(crate) fn note_writes(
     writers: &mut ResourceSet,
     shares: &mut [Share],
@@ -87,7 +87,7 @@ pub(crate) fn note_writes(
     }
 }
 
-/// Whether an event takes a write away, where these are the seats that have one.
+/// Whether an event takes a write away; `writers` are the seats that have one.
 pub(crate) fn takes_write(event: &Event, writers: ResourceSet) -> bool
     requires { seat_of event.now < SEATS }
     ensures { result ≡ takes_write event.now writers }
@@ -105,7 +105,7 @@ fn writes_of(shares: &[Share], seat: u8) -> ResourceSet
     }
 }
 
-/// The same resources, with what a write takes to write that is told to be satisfied.
+/// The same resources, with what a write writes that is reported to be satisfied.
 fn with_written(written: ResourceSet, shares: &[Share], s: &StatusChange) -> ResourceSet
     ensures { (l : ℕ) → contains result l ≡ (contains written l || ((s.now.write_half && satisfied_by s.now.status) && contains (writes_if (slice_get shares.now s.now.seat)) l)) }
 {
@@ -116,7 +116,7 @@ fn with_written(written: ResourceSet, shares: &[Share], s: &StatusChange) -> Res
     }
 }
 
-/// All that those writes write that are told to be satisfied.
+/// All that is written by the writes that are reported to be satisfied.
 pub fn written_by(shares: &[Share], statuses: &[StatusChange]) -> ResourceSet
     ensures { (l : ℕ) → contains result l ≡ is_written shares.now statuses.now l }
 {

@@ -1,4 +1,4 @@
-// The heads of writes, gone on with over an event that brings no claim.
+// The heads of writes, carried on over an event that brings no claim.
 ghost use Rattle.std.specs.Prelude.{◌≡◌, ◌≢◌, ◌≤◌, ◌<◌, ◌++◌, ◌∷◌, ◌&&◌, ◌==◌, if◌then◌else◌, ℕ, true, false, Some, length, slice_get};
 ghost use Rattle.std.specs.List.{AllByRecursion};
 ghost use Rattle.std.specs.FinSet.{contains, is_subset};
@@ -16,14 +16,14 @@ use crate::lines::{Found, Head, found_before, note_behind, put_head};
 use rmodel::Claimed;
 use rset::{ResourceSet, SEATS};
 
-/// What became of the heads of the writes that were gone on with so far.
+/// What became of the heads that were carried on so far.
 #[derive(Clone, Copy)]
 pub(crate) struct Moves {
     /// The seats of those that have another head by a look-up.
     pub(crate) moved: ResourceSet,
     /// The seats of those whose least claim stayed and came to be satisfied.
     pub(crate) risen: ResourceSet,
-    /// The places of the write that is lost, and of those that moved: a write with none of them keeps its least claim.
+    /// The places of the write that is lost, and of those that moved: a write with none of these places keeps its least claim.
     pub(crate) dirty: ResourceSet,
 }
 
@@ -34,7 +34,7 @@ fn has_seat(seats: ResourceSet, seat: u8) -> bool
     seat < SEATS && seats.has(seat)
 }
 
-/// Goes on with the head of a write whose least claim stays: it is satisfied, if that is one of those that `came` to be.
+/// Carries on the head of a write whose least claim stays: it is satisfied, if that claim is one of those that `came` to be.
 fn rise_head(now: &mut [Head], moves: &mut Moves, came: ResourceSet, x: &Claimed)
     requires seat { x.now.claim.seat < SEATS }
     requires now { x.now.claim.seat < length now.old }
@@ -53,7 +53,7 @@ fn rise_head(now: &mut [Head], moves: &mut Moves, came: ResourceSet, x: &Claimed
     }
 }
 
-/// Goes on with the head of a write behind others whose least claim is lost and found not to stay.
+/// Carries on the head of a write that comes after others, whose least claim is lost and found not to stay.
 fn move_head(
     now: &mut [Head],
     behind: &mut [ResourceSet],
@@ -78,7 +78,7 @@ fn move_head(
     moves.dirty = moves.dirty.union(x.claim.places);
 }
 
-/// Goes on with the head of a write behind others whose least claim is lost, and maybe stays: it is looked up.
+/// Carries on the head of a write that comes after others, whose least claim is the lost one and may stay so: it is looked up.
 fn find_head(
     now: &mut [Head],
     behind: &mut [ResourceSet],
@@ -109,7 +109,7 @@ fn find_head(
     move_head(now, behind, moves, &found, x);
 }
 
-/// Goes on with the head of a claim behind others, if it is a write.
+/// Carries on the head of a claim that comes after others, if it is a write.
 fn turn_head(
     now: &mut [Head],
     behind: &mut [ResourceSet],
@@ -147,7 +147,7 @@ fn turn_head(
     find_head(now, behind, moves, lost, came, before, x);
 }
 
-/// Notes of the seat of a claim where this stands, if it is a write.
+/// Notes the place of a claim by its seat, if it is a write.
 fn note_place(places: &mut [usize], place: usize, x: &Claimed)
     requires { x.now.claim.seat < length places.old }
     ensures places { (seat : ℕ) → slice_get places.new seat ≡ (if x.now.claim.write_half && seat == x.now.claim.seat then Some place else slice_get places.old seat) }
@@ -158,8 +158,8 @@ fn note_place(places: &mut [usize], place: usize, x: &Claimed)
     }
 }
 
-/// Goes on with the heads of the writes at a moment. `gone` are the places of the write that is lost. Of each seat that moves or
-/// rises `places` gets the place of its write in the moment.
+/// Carries on the heads of the writes at a moment. `gone` are the places of the write that is lost. For each seat that moves or
+/// rises, `places` gets the place of its write in the moment.
 pub(crate) fn turn_heads(
     now: &mut [Head],
     behind: &mut [ResourceSet],

@@ -17,7 +17,7 @@ use rcover_laws::{WaitEnd, waits_first};
 use rmodel::Claimed;
 use rset::{ResourceSet, SEATS};
 
-/// Whether a claim waits, before it holds anything or to rise.
+/// Whether a claim waits before it holds anything, or waits to rise.
 fn may_wait(rose: bool, x: &Claimed) -> bool
     ensures { result ≡ (waits_first [] x.now || (rose && not (is_satisfied x.now))) }
 {
@@ -31,8 +31,8 @@ fn some_wait(rose: bool, x: &Claimed) -> bool
     may_wait(rose, x) || x.asked.len() > 0
 }
 
-/// The place behind which the claims of the seat of an event stand: those that an issue brings stand behind all that were
-/// there, and a finish leaves none.
+/// A place before which the moment has no claim of the event's seat: an issue's claims come after all that were there, and a
+/// finish leaves none.
 pub(crate) fn first_of(event: &Event, there: usize, moment: &[Claimed]) -> usize
     ensures { result ≡ first_of event.now there (length moment.now) }
 {
@@ -43,8 +43,8 @@ pub(crate) fn first_of(event: &Event, there: usize, moment: &[Claimed]) -> usize
     }
 }
 
-/// Whether one of some claims is of a seat, and in a wait or asking for something, where it is told whether the upgrade of the
-/// seat rose.
+/// Whether one of some claims is of a seat, and in a wait or asking for something. `rose` says whether the upgrade of the seat
+/// rose.
 fn some_waits(rose: bool, some: &[Claimed], seat: u8) -> bool
     ensures { result ≡ list_any (λ x. (x.claim.seat == seat) && waits_by rose x) some.now }
 {
@@ -63,15 +63,15 @@ fn seat_waits(rising: ResourceSet, moment: &[Claimed], first: usize, seat: u8) -
     some_waits(rising.has(seat), &moment[first..], seat)
 }
 
-/// Whether an event ends no wait, where these seats wait: it is an issue, or none does.
+/// Whether an event ends no wait, where these seats wait: it is an issue, or nobody waits.
 pub(crate) fn ends_none(waiting: ResourceSet, event: &Event) -> bool
     ensures { result ≡ ends_none waiting event.now }
 {
     is_issue(event) || waiting.within(ResourceSet::empty())
 }
 
-/// Notes of a seat whether it waits at a moment, where no claim before this place is of the seat. A set of seats is kept as one
-/// of numbers.
+/// Notes whether a seat waits at a moment, where no claim before this place is of the seat. A set of seats is kept as a set of
+/// numbers.
 pub(crate) fn note_seat(
     waiting: &mut ResourceSet,
     rising: ResourceSet,
@@ -92,9 +92,9 @@ pub(crate) fn note_seat(
     };
 }
 
-/// Notes by an event which upgrades rose: that of a rise, and none of a request that comes or is over; of which requests an ask
-/// may be pending: of one that asks, and of none that comes or is over; and which requests have a claim that reads: one that comes
-/// and reads, and none that rises or is over.
+/// Notes by an event which upgrades rose (that of a rise, and no request that comes or is over), which requests may have a
+/// pending ask (one that asks, and no request that comes or is over), and which have a claim that reads (one that comes and
+/// reads, and no request that rises or is over).
 pub(crate) fn note_event(
     rising: &mut ResourceSet,
     asking: &mut ResourceSet,
@@ -136,7 +136,7 @@ fn without_end(seats: ResourceSet, end: &WaitEnd) -> ResourceSet
     }
 }
 
-/// Notes of the seats whose waits ended that they wait no more.
+/// Notes that the seats whose waits ended wait no more.
 pub(crate) fn note_ended(waiting: &mut ResourceSet, ended: &[WaitEnd])
     ensures { (seat : ℕ) → seat < SEATS → contains waiting.new seat ≡ (not (has_end ended.now seat) && contains waiting.old seat) }
 {

@@ -12,7 +12,7 @@ use crate::stood::has_stood;
 use rclaim::Event;
 use rset::ResourceSet;
 
-/// Whether what is noted of one of these seats has some of what came to be held.
+/// Whether one of these seats wants some of what came to be held, by what is noted of it.
 fn some_wanted(wanted: &[ResourceSet], seats: ResourceSet, written: ResourceSet) -> bool
     ensures none { result ≡ false → (seat : ℕ) → contains seats seat ≡ true → meets (set_at wanted.now seat) written ≡ false }
     ensures some { result ≡ true → ((seat : ℕ) × (contains seats seat ≡ true) × (meets (set_at wanted.now seat) written ≡ true)) }
@@ -28,8 +28,8 @@ fn some_wanted(wanted: &[ResourceSet], seats: ResourceSet, written: ResourceSet)
     false
 }
 
-/// Whether nothing is due of any read that waits: no wait begins, and nothing came to be held that is noted of a seat which waits
-/// and has a claim that reads.
+/// Whether nothing is due of any read that waits: no wait begins, and no waiting seat with a claim that reads wants some of what
+/// came to be held.
 pub(crate) fn reads_stay(
     event: &Event,
     written: ResourceSet,

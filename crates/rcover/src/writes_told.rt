@@ -1,4 +1,4 @@
-// What an event and its changes tell of writes.
+// What an event and its changes report of writes.
 ghost use Rattle.std.specs.Prelude.{◌≡◌, ◌&&◌};
 ghost use Rattle.rmodel.specs.Claims.{satisfied_by};
 ghost use Rattle.rcover.specs.Lines.{is_finish};
@@ -12,7 +12,7 @@ pub fn is_finish(event: &Event) -> bool
     matches!(event, Event::Finish { .. })
 }
 
-/// Whether it is told that a write became satisfied.
+/// Whether a change reports that a write became satisfied.
 pub fn is_write_told(s: &StatusChange) -> bool
     ensures { result ≡ (s.now.write_half && satisfied_by s.now.status) }
 {

@@ -1,3 +1,3 @@
--- What the events so far tell of claims.
+-- What the events so far say of claims.
 pub mod Asks
 pub mod KnownAsks

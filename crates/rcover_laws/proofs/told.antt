@@ -1,4 +1,4 @@
--- The waits that states tell.
+-- The waits that states show.
 pub mod Asked
 pub mod EachWait
 pub mod OneClaim

@@ -1,4 +1,4 @@
--- What it is for a wait to be covered.
+-- When a wait is covered.
 use Rattle.std.specs.Prelude.{◌≡◌, ◌≢◌, ◌≤◌, ◌+◌, true, false, not, Some, List, [], length, filter, ◌⊎◌, is_some}
 use Rattle.std.specs.List.{AllByRecursion}
 use Rattle.std.specs.FinSet.{intersection}
@@ -11,7 +11,7 @@ use Rattle.rcover_laws.specs.Line.{least_of, is_least, leasts, kept_moments, rea
 use Rattle.rcover_laws.specs.Moments.{Moment, is_claim, holds_at}
 use Rattle.rcover_laws.specs.Sections.{Covers, keeper_of, moments_without, read_sections, ask_sections}
 
--- at a moment an entitled or satisfied write keeps the read claim c waiting, and it is v alone
+-- at a moment an entitled or satisfied write keeps the read claim c waiting: v, and no other write
 pub record IsKeptBy (c v : Claim) (m : Moment) : Type 0 where
   pub at : Claimed
   pub among : Among at m
@@ -25,35 +25,36 @@ pub record IsReadCovered (c : Claim) (ms : List Moment) : Type 0 where
   pub keeper : Claim
   pub is_keeper : keeper_of c ms ≡ Some keeper
   pub kept : AllByRecursion (IsKeptBy c keeper) ms
-  -- once it is satisfied it is so to the end of the wait
+  -- once it is satisfied it stays so to the end of the wait
   pub stays : EachPair (λ m n. holds_at keeper m ≡ true → holds_at keeper n ≡ true) ms
   -- one of its sections goes on at each moment
   pub covered : Covers (read_sections c ms) ms
-  -- one section is taken that counts as a read where the write is not satisfied at some moment, and else none; and one at most that counts as a write
+  -- one section is taken that counts as a read, if the write is not satisfied at some moment, and else no such section; and at most one that counts
+  -- as a write
   pub one_read : moments_without keeper ms ≢ [] → length (read_sections c ms).reads ≡ 1
   pub no_read : moments_without keeper ms ≡ [] → (read_sections c ms).reads ≡ []
   pub one_write : length (read_sections c ms).writes ≤ 1
-  -- the one that counts as a read reads what the write writes
+  -- the section that counts as a read reads what the write writes
   pub reads_written : AllByRecursion (λ x. meets x.reads keeper.writes ≡ true) (read_sections c ms).reads
 
--- each claim but c is of another seat than c, and each of a seat of its own
+-- each claim but c belongs to another seat than c, and no two of them to the same seat
 pub record AreOfOtherSeats (c : Claim) (ds : List Claim) : Type 0 where
   pub from_it : AllByRecursion (λ d. (d ≡ c) ⊎ (d.seat ≢ c.seat)) ds
   pub among_them : EachPair (λ d e. d.seat ≢ e.seat) ds
 
 -- the wait of a write claim is covered, over these moments
 pub record IsWriteCovered (c : Claim) (ms : List Moment) : Type 0 where
-  -- the least of the line only rises
+  -- the least claim of the line only rises
   pub rises : EachPair (λ m n. (least_of c m).stamp ≤ (least_of c n).stamp) ms
-  -- each of them but the claim itself is of another seat, and each of a seat of its own
+  -- each least claim but the claim itself belongs to another seat, and no two of them to the same seat
   pub other_seats : AreOfOtherSeats c (leasts c ms)
-  -- once one of them is satisfied as the least it is so as long as it is the least
+  -- once one of them is satisfied as the least, it stays so as long as it is the least
   pub stays : AllByRecursion (λ d. EachPair (λ m n. is_least c d m ≡ true → is_least c d n ≡ true → holds_at d m ≡ true → holds_at d n ≡ true) ms) (leasts c ms)
   -- a read is taken for each that is not satisfied at some moment at which it is the least
   pub reads_exist : AllByRecursion (λ d. kept_moments c d ms ≢ [] → is_some (read_for c ms d) ≡ true) (leasts c ms)
   -- one of its sections goes on at each moment
   pub covered : Covers (write_sections c ms) ms
-  -- of the claim itself no write section is taken; so there are as many at most as other claims are the least, and one read section more at most
+  -- no write section is taken of the claim itself; so there are at most as many as other claims are the least, and at most one read section more
   pub not_itself : AllByRecursion (λ d. is_claim d c ≡ false) (write_sections c ms).writes
   pub few_writes : length (write_sections c ms).writes ≤ length (filter (λ d. not (is_claim d c)) (leasts c ms))
   pub few_reads : length (write_sections c ms).reads ≤ length (filter (λ d. not (is_claim d c)) (leasts c ms)) + 1

@@ -23,7 +23,7 @@ waits_in First m x = waits_first m x
 waits_in Rise m x = waits_to_rise m x
 waits_in (Ask number) m x = waits_for_ask m x
 
--- the wait in which a claim is after some events, if it is in one
+-- the wait that a claim is in after some events, if any
 abbrev pub wait_of : List Event → Moment → Claimed → Option Which
 wait_of es m x =
     if waits_first m x then Some First
@@ -36,18 +36,18 @@ sections_in First x ms = if x.claim.write_half then write_sections x.claim ms el
 sections_in Rise x ms = write_sections x.claim ms
 sections_in (Ask number) x ms = ask_sections x.claim x.asked ms
 
--- what is told of a wait: whose it is, and the numbers of its cover
+-- what is reported of a wait: whose it is, and the numbers of its cover
 abbrev pub wait_end : Which → Claim → Numbers → WaitEnd
 wait_end w c n = record { seat = c.seat; stamp = c.stamp; which = w; reads = n.reads; writes = n.writes; units = n.units }
 
--- a wait of a claim at the last of these moments, if a next moment n ends it
+-- a wait of a claim at the last of these moments, if the next moment n ends it
 abbrev pub ended_if : List Event → List Moment → Moment → Claimed → Option Which → Option WaitEnd
 ended_if es ms n x None = None
 ended_if es ms n x (Some w) =
     if stands (waits_in w) x.claim n then None
     else Some (wait_end w x.claim (numbers_of (length_in es) (sections_in w x (wait_so_far (waits_in w) x.claim ms))))
 
--- the waits that an event behind others ends, by rising stamp
+-- the waits that an event after others ends, by rising stamp
 abbrev pub ended_by : LockState → List Event → Event → List WaitEnd
 ended_by o es e =
     let m = (after o es).claims in

@@ -1,4 +1,5 @@
--- What a history tells of requests: which claims it makes needed, the length of the section of each, and the number of a request among those of its seat.
+-- What a history says of requests: which claims it makes needed, the length of each claim's section, and the number of a request among those of its
+-- seat.
 use Rattle.std.specs.Prelude.{ℕ, zero, suc, ◌+◌, ◌-◌, ◌==◌, List, [], ◌∷◌, fold, map, if◌then◌else◌}
 use Rattle.std.specs.List.{range_with_len}
 use Rattle.rset.specs.Sets.{Set}

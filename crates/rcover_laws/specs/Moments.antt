@@ -23,7 +23,7 @@ later s (e ∷ es) = (next s e).claims ∷ later (next s e) es
 abbrev pub moments : LockState → List Event → List Moment
 moments s es = s.claims ∷ later s es
 
--- two claims are one: of one stamp, and both read claims or both write claims
+-- two claims are the same: the same stamp, and both read claims or both write claims
 abbrev pub is_claim : Claim → Claim → Bool
 is_claim c d = (c.stamp == d.stamp) && is_same c.write_half d.write_half
 
@@ -31,7 +31,7 @@ is_claim c d = (c.stamp == d.stamp) && is_same c.write_half d.write_half
 abbrev pub holds_at : Claim → Moment → Bool
 holds_at c m = list_any (λ x. is_satisfied x && is_claim c x.claim) m
 
--- a claim stands among those of a moment
+-- a claim is among those of a moment
 pub record There (c : Claim) (m : Moment) : Type 0 where
   pub at : Claimed
   pub among : Among at m

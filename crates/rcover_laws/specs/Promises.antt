@@ -1,4 +1,4 @@
--- What is promised of waits: for every list of accepted events, and each run of moments that more of them make.
+-- What is promised of waits, for every list of accepted events and each run of moments that more of them make.
 use Rattle.std.specs.Prelude.{ℕ, List, ◌++◌}
 use Rattle.std.specs.List.{AllByRecursion}
 use Rattle.rset.specs.Sets.{Set}
@@ -41,7 +41,8 @@ WaitsAreWithinBounds =
     (groups : ReadGroups) (seats cap : ℕ) (events more rest : List Event) → AreAccepted (opening groups seats cap) (events ++ more)
     → AreWithinBounds groups seats cap (events ++ (more ++ rest)) (moments (after (opening groups seats cap) events) more)
 
--- each wait that the state after some events tells is covered and within its bound over its moments so far, by the needs of any history that begins with these events
+-- each wait that the state after some events shows is covered and within its bound over its moments so far, by the needs of any history that begins
+-- with these events
 abbrev pub EachWaitIsBounded : Type 0
 EachWaitIsBounded =
     (groups : ReadGroups) (seats cap : ℕ) (events rest : List Event) → AreAccepted (opening groups seats cap) events

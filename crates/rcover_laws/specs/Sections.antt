@@ -8,7 +8,7 @@ use Rattle.rmodel.specs.Claims.{conflicts, conflicts_on, is_satisfied}
 use Rattle.rmodel.specs.Laws.{keeps_out}
 use Rattle.rcover_laws.specs.Moments.{Moment, is_claim, holds_at}
 
--- the claim of least stamp that passes a test and is satisfied at all of these moments; claims stand by rising stamp
+-- the claim of least stamp that passes a test and is satisfied at all of these moments; claims are in order of rising stamp
 abbrev pub holder_of : (Claim → Bool) → List Moment → Option Claim
 holder_of p [] = None
 holder_of p (m ∷ ms) = option_map (λ x. x.claim) (find (λ x. p x.claim && is_satisfied x && list_all (holds_at x.claim) ms) m)

@@ -1,4 +1,4 @@
--- The waits that states tell: which wait a claim is in, and the moments of that wait so far.
+-- The waits that a state shows: which wait a claim is in, and the moments of that wait so far.
 use Rattle.std.specs.Prelude.{◌≡◌, ℕ, Bool, true, false, not, ◌&&◌, ◌==◌, nat_lt, List, [], ◌∷◌, if◌then◌else◌}
 use Rattle.std.specs.List.{list_any, list_all}
 use Rattle.std.specs.FinSet.{len}
@@ -18,11 +18,11 @@ use Rattle.rcover_laws.specs.Within.{numbers_of}
 abbrev pub is_rising_half : Claim → Bool
 is_rising_half c = is_upgrade c.kind && c.write_half
 
--- a claim is in its first wait: it holds nothing; the write half of an upgrade has none
+-- a claim is in its first wait: it holds nothing; the write half of an upgrade has no first wait
 abbrev pub waits_first : Moment → Claimed → Bool
 waits_first m x = is_nothing (held_by x) && not (is_rising_half x.claim)
 
--- some read claim of the seat of a claim is there
+-- the seat of a claim has a read claim
 abbrev pub has_read_claim : Moment → Claim → Bool
 has_read_claim m c = list_any (λ y. (y.claim.seat == c.seat) && not y.claim.write_half) m
 
@@ -34,7 +34,7 @@ waits_to_rise m x = is_rising_half x.claim && not (has_read_claim m x.claim) && 
 abbrev pub waits_for_ask : Moment → Claimed → Bool
 waits_for_ask m x = not (is_nothing (held_by x)) && nat_lt 0 (len x.asked)
 
--- a claim stands at a moment, and passes a test there
+-- a claim is there at a moment, and passes a test
 abbrev pub stands : (Moment → Claimed → Bool) → Claim → Moment → Bool
 stands test c m = list_any (λ x. is_claim c x.claim && test m x) m
 
@@ -52,7 +52,7 @@ pub record IsBounded (covered : Type 0) (numbers bound : Numbers) : Type 0 where
   pub is_covered : covered
   pub is_within : IsWithin numbers bound
 
--- each wait in which a claim is, over its moments so far
+-- each wait that a claim is in, over its moments so far
 pub record AreBounded (ns : List Needed) (lengths number : Claim → ℕ) (seats cap : ℕ) (ms : List Moment) (m : Moment) (x : Claimed) : Type 0 where
   pub first_read : x.claim.write_half ≡ false → waits_first m x ≡ true
       → IsBounded (IsReadCovered x.claim (wait_so_far waits_first x.claim ms)) (numbers_of lengths (read_sections x.claim (wait_so_far waits_first x.claim ms))) (first_bound ns seats cap x.claim.seat (number x.claim))

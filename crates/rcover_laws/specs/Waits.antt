@@ -1,4 +1,4 @@
--- Waits: what is so of a claim, or of an ask, at each moment of its wait.
+-- Waits: what holds of a claim, or of an ask, at each moment of its wait.
 use Rattle.std.specs.Prelude.{◌≡◌, ◌≢◌, true, false}
 use Rattle.std.specs.List.{AllByRecursion}
 use Rattle.std.specs.FinSet.{empty}
@@ -26,7 +26,7 @@ pub record WriteWaits (c : Claim) (m : Moment) : Type 0 where
   pub unsatisfied : is_satisfied at ≡ false
   pub alone : AllByRecursion (λ x. x.claim.seat ≡ c.seat → x.claim.write_half ≡ true) m
 
--- the claim of a nested request that was granted something asks for this part, and it has not come to it
+-- the claim of a nested request that was granted something asks for this part, and does not have it yet
 pub record AskWaits (c : Claim) (part : Set) (m : Moment) : Type 0 where
   pub at : Claimed
   pub among : Among at m

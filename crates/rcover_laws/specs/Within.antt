@@ -1,4 +1,4 @@
--- What it is for a wait to be within its bound.
+-- When a wait is within its bound.
 use Rattle.std.specs.Prelude.{◌≡◌, ℕ, ◌+◌, true, false, List, length}
 use Rattle.std.specs.List.{sum_by, AllByRecursion}
 use Rattle.rset.specs.Sets.{Set}
@@ -18,7 +18,7 @@ use Rattle.rcover_laws.specs.Waits.{ReadWaits, WriteWaits, AskWaits}
 abbrev pub numbers_of : (Claim → ℕ) → Sections → Numbers
 numbers_of len a = record { reads = length a.reads; writes = length a.writes; units = sum_by len a.reads + sum_by len a.writes }
 
--- over these moments no wait goes above its bound by these needs, where the lengths of claims and the numbers of requests are such
+-- over these moments no wait goes above its bound by these needs, with these lengths of claims and these numbers of requests
 pub record AreWithin (ns : List Needed) (len number : Claim → ℕ) (seats cap : ℕ) (ms : List Moment) : Type 0 where
   pub reads : (c : Claim) → AllByRecursion (ReadWaits c) ms → IsWithin (numbers_of len (read_sections c ms)) (first_bound ns seats cap c.seat (number c))
   pub writes : (c : Claim) → is_upgrade c.kind ≡ false → AllByRecursion (WriteWaits c) ms → IsWithin (numbers_of len (write_sections c ms)) (first_bound ns seats cap c.seat (number c))

@@ -1,4 +1,4 @@
-// What is asked of claims at a moment.
+// Questions about claims at a moment.
 ghost use Rattle.std.specs.Prelude.{◌≡◌};
 ghost use Rattle.rmodel.specs.Claims.{touches, conflicts};
 ghost use Rattle.rmodel.specs.Laws.{keeps_out};
@@ -10,7 +10,7 @@ use rclaim::Claim;
 use rmodel::Claimed;
 use rset::ResourceSet;
 
-/// Whether two claims are one: of one stamp, and both read claims or both write claims.
+/// Whether two claims are the same: the same stamp, and both read claims or both write claims.
 pub fn is_claim(c: &Claim, d: &Claim) -> bool
     ensures { result ≡ is_claim c.now d.now }
 {

@@ -2,14 +2,15 @@
 //! contract is the law.
 ghost use Rattle.rcover_laws.specs.Promises.{ReadsAreCovered, WritesAreCovered, AsksAreCovered, WaitsAreWithinBounds, EachWaitIsBounded};
 
-/// *Read waits are covered*: while a read claim waits, one and the same write keeps it waiting. A section that reads what
-/// that write writes goes on until the write is satisfied, and then the write's own section goes on.
+/// *Read waits are covered*: while a read claim waits, one and the same write keeps it waiting. A section that reads what that
+/// write writes goes on until the write is satisfied; then the write's own section goes on.
 pub fn reads_are_covered()
     ensures { ReadsAreCovered }
 {}
 
-/// *Write waits are covered*: while a write claim waits, the least of its line only rises, and each of them but the claim
-/// itself is of a task of its own. For each a read section goes on until it is satisfied, and then its own section goes on.
+/// *Write waits are covered*: while a write claim waits, the least claim of its line only rises, and each such least claim but
+/// the claim itself belongs to a different task. For each, a read section goes on until it is satisfied; then its own section
+/// goes on.
 pub fn writes_are_covered()
     ensures { WritesAreCovered }
 {}
@@ -19,13 +20,13 @@ pub fn asks_are_covered()
     ensures { AsksAreCovered }
 {}
 
-/// *No wait goes above its bound*: of each wait, ended or not, no number of its cover is above that of the bound of its
-/// request, by the needs of any history that begins with the events so far.
+/// *No wait goes above its bound*: for each wait, ended or not, no number of its cover is above that of the bound of its request,
+/// by the needs of any history that begins with the events so far.
 pub fn waits_are_within_bounds()
     ensures { WaitsAreWithinBounds }
 {}
 
-/// *Each wait is bounded*: of each claim of each state that accepted events lead to, the wait that the state tells is covered
+/// *Each wait is bounded*: for each claim of each state that accepted events lead to, the wait that the state shows is covered
 /// over its moments so far, and no number of its cover is above that of its bound.
 pub fn each_wait_is_bounded()
     ensures { EachWaitIsBounded }

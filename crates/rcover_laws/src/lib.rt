@@ -1,5 +1,8 @@
-//! What waits are covered by: the theorems, and what is asked of claims at a moment. While a claim waits, one of few sections goes
-//! on at each moment.
+//! What covers a wait, and the theorems about it. While a claim waits, at each moment a section goes on that belongs to its
+//! cover, which is a small set of sections.
+//!
+//! The theorems are in [`laws`]. [`WaitEnd`] is a wait that has ended, with the numbers of its cover; the other items are
+//! questions about claims at a moment, as the definitions put them.
 #![tactic(auto)]
 
 mod claims;

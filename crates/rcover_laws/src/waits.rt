@@ -23,7 +23,7 @@ pub fn waits_first(x: &Claimed) -> bool
     x.held().is_nothing() && !is_rising_half(&x.claim)
 }
 
-/// Whether some read claim of the seat of a claim is there.
+/// Whether the seat of a claim has a read claim at a moment.
 fn has_read_claim(moment: &[Claimed], c: &Claim) -> bool
     ensures { result ≡ has_read_claim moment.now c.now }
 {
@@ -57,8 +57,8 @@ fn waits_in(which: Which, moment: &[Claimed], x: &Claimed) -> bool
     }
 }
 
-/// Whether a claim stands at a moment, in this wait of its request. Of an ask the number is not looked at: one ask alone of a
-/// request is pending.
+/// Whether a claim is there at a moment, in this wait of its request. For an ask its number is not looked at: a request has at
+/// most one pending ask.
 pub fn stands(which: Which, c: &Claim, moment: &[Claimed]) -> bool
     ensures { result ≡ stands (waits_in which) c.now moment.now }
 {

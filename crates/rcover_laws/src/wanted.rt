@@ -1,4 +1,4 @@
-// Which claim is looked for as a section of a wait.
+// Which claim is looked for as a section of a cover.
 ghost use Rattle.std.specs.Prelude.{◌≡◌};
 ghost use Rattle.rcover_laws.specs.Lists.{is_wanted};
 
@@ -10,15 +10,15 @@ use rset::ResourceSet;
 /// Which claim is looked for.
 #[derive(Clone, Copy)]
 pub enum Wanted {
-    /// One that conflicts with this claim.
+    /// A claim that conflicts with this claim.
     Against(Claim),
     /// A read claim that does.
     ReadAgainst(Claim),
-    /// One that conflicts with this claim on a part of what it reads and writes.
+    /// A claim that conflicts with this claim on a part of what it reads and writes.
     OnPart(Claim, ResourceSet),
 }
 
-/// Whether a claim is one that is looked for.
+/// Whether a claim is wanted.
 pub fn is_wanted(wanted: &Wanted, d: &Claim) -> bool
     ensures { result ≡ is_wanted wanted.now d.now }
 {

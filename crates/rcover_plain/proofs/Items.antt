@@ -1,4 +1,4 @@
--- The moments that lists of claims are, and tests of them.
+-- Lists of claims as moments, and tests of them.
 use Rattle.std.proofs.Common.{◌≡◌, Bool, ◌&&◌, ◌||◌, List, [], ◌∷◌, refl, ap}
 use Rattle.std.specs.List.{list_any, list_all}
 use Rattle.std.specs.declared.vec.Vec.{Vec}

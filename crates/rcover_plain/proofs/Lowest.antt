@@ -28,7 +28,7 @@ or_none : (b : Bool) → (b || false) ≡ b
 or_none true = refl
 or_none false = refl
 
--- a claim shares a place with one of them where its places meet these
+-- a claim shares a place with one of them if its places meet these
 meets_all : (x c : Claim) (ds : List Claim) → meets x.places (all_places c ds) ≡ list_any (share_place x) (c ∷ ds)
 unfolding all_places
 meets_all x c [] = sym (or_none (share_place x c))

@@ -1,4 +1,4 @@
--- Lists with one element more.
+-- Lists with one more element.
 use Rattle.std.proofs.Common.{◌≡◌, ℕ, ◌+◌, ◌<◌, Bool, true, false, cond, Option, List, [], ◌∷◌, ◌++◌, filter, length, get_or, take, map, refl, sym, ap, ◌∙◌}
 use Rattle.std.proofs.lemmas.List.{map_more, map-append}
 use Rattle.std.proofs.lemmas.List.Elements.{filter-append}
@@ -15,7 +15,7 @@ use Rattle.rcover_laws.specs.Lists.{with_different, with_option}
 use Rattle.rcover_laws.proofs.runs.Push.{append_none, different_push, different_option}
 use Rattle.rcover_laws.proofs.lists.Pushed.{found_more}
 
--- the lists of claims as far as one more of them
+-- the lists of claims up to one more of them
 pub moments_more : (vs : List (Vec Claimed Global)) (i : ℕ) (v : Vec Claimed Global) (m : Moment) → i < length vs → v ≡ get_or vs i v → m ≡ v.items → moments_in (take (i + 1) vs) ≡ moments_in (take i vs) ++ m ∷ []
 moments_more vs i v m h there is = map_more (λ (u : Vec Claimed Global). u.items) vs i v h ∙ ap (λ n. moments_in (take i vs) ++ n ∷ []) (sym (is ∙ ap (λ (u : Vec Claimed Global). u.items) there))
 

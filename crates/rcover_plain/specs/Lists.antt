@@ -17,7 +17,7 @@ use Rattle.rmodel.specs.Rules.{is_earlier_write}
 use Rattle.rcover_laws.specs.Moments.{Moment}
 use Rattle.rcover_laws.specs.Sections.{Sections}
 
--- the moments that lists of claims are
+-- lists of claims as moments
 abbrev pub moments_in : List (Vec Claimed Global) → List Moment
 moments_in vs = map (λ v. v.items) vs
 
@@ -42,7 +42,7 @@ with_lowest c low x =
 unfoldable pub lowest_of : Claim → Moment → Lowest
 lowest_of c m = fold (with_lowest c) (record { least = c; places = c.places }) (reverse m)
 
--- the length of the section of a claim by an event, if that is the issue of its request, where so many issues come before it
+-- the length of a claim's section by an event, if that is the issue of its request, given how many issues come before it
 abbrev pub length_at : Claim → ℕ → Event → Option ℕ
 length_at c zero (Issue seat r) = Some (length_of r c)
 length_at c (suc before) (Issue seat r) = None
@@ -50,7 +50,7 @@ length_at c before (Finish seat) = None
 length_at c before (Rise seat) = None
 length_at c before (Ask seat part) = None
 
--- how many issues come before that of a request once an event came
+-- how many issues come before that of a request, once an event came
 abbrev pub before_left : ℕ → Event → ℕ
 before_left before (Issue seat r) = before - 1
 before_left before (Finish seat) = before

@@ -26,7 +26,7 @@ use rmodel::{Claimed, Machine, is_upgrade};
 use rplain::Plain;
 use std::alloc::{AllocError, Global};
 
-/// The length of the section of a claim of a request.
+/// The length of a claim's section, for a claim of this request.
 fn length_of(request: &Request, c: &Claim) -> u32
     ensures value { result ≡ length_of request.now c.now }
     ensures bound { result ≤ LENGTH_LIMIT }
@@ -38,7 +38,7 @@ fn length_of(request: &Request, c: &Claim) -> u32
     }
 }
 
-/// The length of the section of a claim by an event, if that is the issue of its request; so many issues come before it.
+/// The length of a claim's section by an event, if that is the issue of its request. That issue has `before` issues before it.
 fn length_at(c: &Claim, before: u64, event: &Event) -> Option<u32>
     ensures value { result ≡ length_at c.now before event.now }
     ensures bound { IfSome result (λ n. n ≤ LENGTH_LIMIT) }
@@ -55,7 +55,7 @@ fn length_at(c: &Claim, before: u64, event: &Event) -> Option<u32>
     }
 }
 
-/// How many issues come before that of a request once an event came.
+/// How many issues come before that of a request, once an event came.
 fn before_left(before: u64, event: &Event) -> u64
     ensures { result ≡ before_left before event.now }
 {
@@ -116,7 +116,7 @@ fn last_ask(events: &[Event], c: &Claim) -> usize
     count.saturating_sub(1)
 }
 
-/// The wait in which a claim is after some events, if it is in one.
+/// The wait that a claim is in after some events, if any.
 fn wait_of(events: &[Event], moment: &[Claimed], x: &Claimed) -> Option<Which>
     ensures { result ≡ wait_of events.now moment.now x.now }
 {
@@ -131,7 +131,7 @@ fn wait_of(events: &[Event], moment: &[Claimed], x: &Claimed) -> Option<Which>
     }
 }
 
-/// What is told of a wait with this cover.
+/// What is reported of a wait with this cover.
 fn wait_end(events: &[Event], which: Which, c: &Claim, cover: &Cover) -> WaitEnd
     requires { AreFew (sections_of cover.now) }
     ensures { result ≡ wait_end which c.now (numbers_of (length_in events.now) (sections_of cover.now)) }
@@ -208,7 +208,7 @@ fn all_ended(
     Ok(ended)
 }
 
-/// What the last event ends behind those before it, at a machine at which nothing was done yet.
+/// What the last event ends after those before it, at a machine at which nothing was done yet.
 fn ended_behind(
     alloc: Global,
     machine: &mut Plain,
@@ -225,14 +225,14 @@ fn ended_behind(
     all_ended(alloc, before, &moments, &last, machine.claims())
 }
 
-/// The waits with at least one moment that the last of these events ended, by rising stamp, with the numbers of their covers.
-/// Where there is no event there are none. The events are accepted one after another.
+/// The waits with at least one moment that the last of these events ended, by rising stamp, with the numbers of their covers. If
+/// there is no event, there are no waits. The events are accepted one after another.
 ///
 /// It goes through the states from the first and keeps every moment: it says what the covers are, and takes long.
 ///
 /// # Errors
 ///
-/// Want of memory, where there is an event.
+/// Out of memory, if there is an event.
 pub fn plain_cover(
     alloc: Global,
     groups: &Groups,

@@ -79,7 +79,7 @@ fn claims_if(alloc: Global, holds: bool, c: Claim) -> Result<Vec<Claim>, AllocEr
     Ok(claims)
 }
 
-/// A list of the claim that there may be.
+/// A list of the claim, if there is one.
 fn claims_from(alloc: Global, found: Option<Claim>) -> Result<Vec<Claim>, AllocError>
     ensures { IfOk result (λ cs. cs.items ≡ option_to_list found) }
 {
@@ -89,7 +89,7 @@ fn claims_from(alloc: Global, found: Option<Claim>) -> Result<Vec<Claim>, AllocE
     }
 }
 
-/// The sections of a read wait that this write keeps waiting.
+/// The sections of a read wait that `v` keeps waiting.
 fn cover_by(alloc: Global, v: &Claim, moments: &[Vec<Claimed>]) -> Result<Cover, AllocError>
     ensures { IfOk result (λ a. sections_of a ≡ sections_by v.now (moments_in moments.now)) }
 {

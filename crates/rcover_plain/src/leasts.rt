@@ -17,7 +17,7 @@ use rmodel::Claimed;
 use rset::ResourceSet;
 use std::alloc::{AllocError, Global};
 
-/// The least claim of a line that is found from its end, and the places of all its claims.
+/// The least claim of a line as found from its end, and the places of all its claims.
 #[derive(Clone, Copy)]
 pub(crate) struct Lowest {
     pub(crate) least: Claim,
@@ -101,7 +101,7 @@ fn add_different(claims: &mut Vec<Claim>, d: Claim) -> Result<(), AllocError>
     Ok(())
 }
 
-/// Adds the claim that there may be, if it is not there.
+/// Adds the claim, if there is one and it is not there.
 fn add_option(claims: &mut Vec<Claim>, found: Option<Claim>) -> Result<(), AllocError>
     ensures { OnOk result (claims.new.items ≡ with_option claims.old.items found) }
 {

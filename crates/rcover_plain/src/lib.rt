@@ -1,5 +1,7 @@
-//! The covers of the waits that the last of some events ended, by their definition: every moment is kept, and each wait is looked at
-//! from its first moment on. What they are is said here; `rwaits` follows the same waits with few looks.
+//! The covers of the waits that the last of some events ended, computed word for word by their definition.
+//!
+//! [`plain_cover`] keeps every moment, and looks at each wait from its first moment on. It says what covers are; `rcover` follows
+//! the same waits with far less work.
 #![tactic(auto)]
 
 mod by_definition;

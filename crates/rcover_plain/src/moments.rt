@@ -13,7 +13,7 @@ use rmodel::{Claimed, Machine};
 use rplain::Plain;
 use std::alloc::{AllocError, Global};
 
-/// A list of its own of these claims.
+/// A copy of these claims as a list of its own.
 pub(crate) fn copy_of(alloc: Global, claims: &[Claimed]) -> Result<Vec<Claimed>, AllocError>
     ensures { IfOk result (λ v. v.items ≡ claims.now) }
 {
@@ -32,7 +32,7 @@ pub(crate) fn push_moment(
     Ok(())
 }
 
-/// Adds a moment, if this holds of it.
+/// Adds a moment, if `holds`.
 pub(crate) fn push_if(
     alloc: Global,
     all: &mut Vec<Vec<Claimed>>,
@@ -74,7 +74,7 @@ pub(crate) fn moments_of(
     Ok(all)
 }
 
-/// Goes on with the moments of a wait: it stands at one more, or it does not and there are none.
+/// Carries on the moments of a wait: it is there at one more, or it is not and there are no moments.
 fn go_on(
     alloc: Global,
     run: &mut Vec<Vec<Claimed>>,

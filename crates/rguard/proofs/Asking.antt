@@ -67,7 +67,7 @@ waits_of after taken number kind b s h room = record {
   room = inl room;
 }
 
--- a guard keeps what it keeps with more room
+-- a guard with more room keeps what it keeps
 pub holds_reserved : {V E : Type 0} (after : V → E → V) (taken : V → E → Bool) (number : V → ℕ) (b : Beginning V) (s : SectionFields V E) (roomy : LentFields V) → roomy.reads ≡ s.lent.reads → roomy.writes ≡ s.lent.writes
     → HoldsFrom after taken number kinds.Nest b s → HoldsFrom after taken number kinds.Nest b (record { site = s.site; seat = s.seat; lent = roomy; own = s.own; acts = s.acts })
 holds_reserved after taken number b s roomy reads writes h = record {
@@ -82,7 +82,7 @@ holds_reserved after taken number b s roomy reads writes h = record {
   as_kind = h.as_kind;
 }
 
--- what a seat holds that holds something is ready
+-- a seat that holds something and has no pending ask is ready
 pub ready_of : (s : LockState) (n : ℕ) → is_not_holding s.claims n ≡ false → is_ready s n ≡ true
 ready_of s n holding = ap (λ (b : Bool). not (has_request s.claims n && b)) holding ∙ none (has_request s.claims n)
   where
@@ -133,7 +133,7 @@ module _ {V E : Type 0} (after : V → E → V) (taken : V → E → Bool) (numb
   abbrev entry : EntryFields E
   entry = bare (Ask n part)
 
-  -- it waits then for the part
+  -- it then waits for the part
   module _ (room : HasRoom s.lent) (now : Contents V E) (pass later : SeatOf V E) (longer : now.entries ≡ found.entries ++ entry ∷ []) (pass_is : pass ≡ entered s.seat found.entries) (left_is : later ≡ left pass now.entries now)
       (now_began : now.beginning ≡ found.beginning) (now_lawful : IsLawfulFrom after taken number now.beginning now.entries) (now_taken : now.taken ≡ found.taken) where
     lawful_later : IsLawfulFrom after taken number b now.entries
@@ -196,7 +196,7 @@ module _ {V E : Type 0} (after : V → E → V) (taken : V → E → Bool) (numb
       room = inl room;
     }
 
--- what the guard holds has the value that it had, after a turn without an entry
+-- what the guard holds still has the value that it had, after a turn without an entry
 pub keeps_values : {V E : Type 0} (after : V → E → V) (taken : V → E → Bool) (number : V → ℕ) (b : Beginning V) (site site2 : Site) (k later : SeatOf V E) (acts : List (Act E)) (found : Contents V E) (f : Finds after taken number b k found)
     → k.opening ≡ Some b → later.opening ≡ k.opening → later.seen ≡ found.entries → KeepsValues after (record { site = site; seat = k; acts = acts }) (record { site = site2; seat = later; acts = acts })
 keeps_values after taken number b site site2 k later acts found f opens same seen l value held has d its =
@@ -207,7 +207,7 @@ keeps_values after taken number b site site2 k later acts found f opens same see
       was.2 ∙ ap (λ v. value_within after v acts l) (sym (ap (λ es. value_of after was.0 es l) seen ∙ value_later after taken number b k found f l (held b opens) was.0)),
     )
 
--- and it holds that still, and may ask for the same
+-- and it still holds that, and may ask for the same
 pub keeps_holding : {V E : Type 0} (after : V → E → V) (taken : V → E → Bool) (number : V → ℕ) (b : Beginning V) (k later : SeatOf V E) (found : Contents V E) (f : Finds after taken number b k found)
     → k.opening ≡ Some b → later.opening ≡ k.opening → later.number ≡ k.number → later.seen ≡ found.entries → KeepsHolding k later
 keeps_holding {V} {E} after taken number b k later found f opens same same_seat seen = record {

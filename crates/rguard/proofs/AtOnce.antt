@@ -1,4 +1,4 @@
--- A guard that was there at once, as one that was waited for: its wait had nothing to wait for.
+-- A guard that was there at once counts as one that was waited for: its wait had nothing to wait for.
 use Rattle.std.proofs.Common.{[], ◌∷◌, refl}
 use Rattle.rclaim.specs.Requests.{RequestFields}
 use Rattle.rclaim.specs.declared.event.Event.TheVariants.{Issue}

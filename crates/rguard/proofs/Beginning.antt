@@ -37,11 +37,11 @@ use Rattle.rguard.proofs.seats.Idle.{idle_has_none}
 use Rattle.rguard.proofs.Lending.{lent_nothing}
 use Rattle.rguard.proofs.seats.Turning.{went, one_turn, seen_is, number_is, has_now, knows_now}
 
--- The seat `k` of the lock has entered, and found this state
+-- The seat `k` of the lock has entered and found this state
 module _ {V E : Type 0} (after : V → E → V) (taken : V → E → Bool) (number : V → ℕ) (site : Site) (k : SeatOf V E) (found : Contents V E) (of : IsOf site k)
     (tells : IsTrueOf (λ (entry : EntryFields E). seat_of entry.event) (λ n (before later : Contents V E). slice_get later.taken n ≡ slice_get before.taken n) k found.beginning found.entries found)
     (lawful : IsLawfulFrom after taken number found.beginning found.entries) (values : length found.beginning.values ≡ found.beginning.groups.q) where
-  -- the seat, if it had seen all this before
+  -- the seat, as if it had seen all this before
   abbrev seeing : SeatOf V E
   seeing = record k { seen = found.entries }
 
@@ -119,7 +119,7 @@ module _ {V E : Type 0} (after : V → E → V) (taken : V → E → Bool) (numb
         (ap (λ (s : LockState). holds_of s.claims k.number) lock_same ∙ idle_holds_nothing (lock_after of.began found.entries).claims k.number no_request) (are.within k.number g.0 g.1) in
         g.1 ∙ ap Some (within_nothing g.0 within)
 
-  -- it leaves the state with one entry more, or none
+  -- it leaves the state with one more entry, or with none
   module _ (now : Contents V E) (pass later : SeatOf V E) (more : List (EntryFields E)) (longer : now.entries ≡ found.entries ++ more) (pass_is : pass ≡ entered k found.entries) (left_is : later ≡ left pass now.entries now) where
     pub goes_on : Goes k more later
     goes_on =
@@ -158,7 +158,7 @@ module _ {V E : Type 0} (after : V → E → V) (taken : V → E → Bool) (numb
     as_new kinds.Upgrade lent is = (tt, (λ i. may_rise (lock_next i).claims (same i)) ∙ may_rise_next (lock_after of.began found.entries) k.number r reached comes is)
     as_new kinds.Nested lent is = (λ i. may_ask (lock_next i).claims (same i)) ∙ may_ask_next (lock_after of.began found.entries) k.number r reached comes is
 
-    -- what its wait keeps
+    -- what its wait keeps when it begins
     pub waits_first : (lent : LentFields V) → lent ≡ room_for r
         → WaitsFrom after taken number (kind_for r.kind) of.began (record { site = site; seat = later; lent = lent; own = []; acts = [] })
     waits_first lent empty =

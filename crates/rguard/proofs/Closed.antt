@@ -1,4 +1,4 @@
--- What a lock that is closed tells of its seats, from how it began: for proofs of programs above.
+-- What a closed lock says of its seats, from how it began: for proofs of programs above.
 use Rattle.std.proofs.Common.{◌≡◌, ℕ, ◌<◌, Bool, List, [], ◌∷◌, ◌++◌, map, length, replicate, Some, sym, ap, subst, ◌∙◌}
 use Rattle.std.proofs.lemmas.List.{length-replicate}
 use Rattle.std.proofs.lemmas.Option.{get_or_from_slice_get}
@@ -33,7 +33,7 @@ module _ {V E : Type 0} where
         λ b opens. ap (λ (x : Beginning V). x.values) (same_item b began (sym opens ∙ ap (λ (s : SeatOf V E). s.opening) is)) ∙ values_are,
       )
 
-  -- seats that are numbered in their order: each number has its seat
+  -- if seats are numbered in their order, each number has its seat
   pub all_there : (seats now : List (SeatOf V E)) → now ≡ seats → ((k : ℕ) (d : SeatOf V E) → k < length now → (slice_index_or now k d).number ≡ k) → (n : ℕ) → n < length seats → Any (λ seat. seat.number ≡ n) seats
   all_there seats now same order n inside =
       let there = get_there seats n inside in
@@ -63,7 +63,7 @@ seat_there s (events.Finish seat) fits = fits
 seat_there s (events.Rise seat) fits = fits
 seat_there s (events.Ask seat part) fits = fits.0
 
--- each entry of a lawful history is of a seat that there is
+-- each entry of a lawful history is of a seat that exists
 module _ {V E : Type 0} (after : V → E → V) (taken : V → E → Bool) (number : V → ℕ) (b : Beginning V) where
   pub seats_there : (earlier entries : List (EntryFields E)) → AllInTurn (MayFollow after taken number b) earlier entries → AllByRecursion (λ (entry : EntryFields E). seat_of entry.event < b.seats) entries
   seats_there earlier [] turns = tt

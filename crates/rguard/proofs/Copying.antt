@@ -1,4 +1,4 @@
--- Copies, looked through from the front: what is found at one of them, or behind it.
+-- Copies, looked through from the front: what is found at one of them, or after it.
 use Rattle.std.proofs.Common.{◌≡◌, ℕ, suc, ◌+◌, ◌<◌, ◌==◌, Bool, true, false, cond, List, ◌∷◌, ◌++◌, [], take, drop, length, get_or, Some, refl, sym, ap, ◌∙◌, arith}
 use Rattle.std.specs.Prelude.{slice_index_or, is_some}
 use Rattle.std.proofs.lemmas.Bool.{eq-eqb, eqb-true, true≢false}
@@ -9,7 +9,7 @@ use Rattle.rstate.specs.Shares.{ShareFields, whole}
 use Rattle.rstate.proofs.homes.Lists.{same_item}
 use Rattle.rguard.specs.Copies.{shares_of}
 
--- the copy stands at this place of the list
+-- the copy is at this place of the list
 module _ {X : Type 0} (copies : List (ℕ × X)) (i l : ℕ) (copy : ℕ × X) (there : i < length copies) (is : copy ≡ get_or copies i copy) where
   ahead : drop i copies ≡ copy ∷ drop (i + 1) copies
   ahead = drop_more copies i copy there ∙ ap (λ (c : ℕ × X). c ∷ drop (i + 1) copies) (sym is)
@@ -35,7 +35,7 @@ module _ {X : Type 0} (copies : List (ℕ × X)) (i l : ℕ) (copy : ℕ × X) (
       let more : index_of (drop i copies) l ≡ index_of (drop (i + 1) copies) l + 1 = ap (λ (xs : List (ℕ × X)). index_of xs l) ahead ∙ ap (λ (b : Bool). cond b 0 (index_of (drop (i + 1) copies) l + 1)) (else_same differ) in
       omega arith
 
--- one copy more has its shares
+-- one more copy has its shares
 pub shares_more : {V : Type 0} (n : ℕ) (copies : List (ℕ × V)) (i : ℕ) (copy : ℕ × V) (made more : List (ℕ × ShareFields V)) → i < length copies → copy ≡ get_or copies i copy
     → made ≡ shares_of n (take i copies) → more ≡ shares_of n (copy ∷ []) → made ++ more ≡ shares_of n (take (i + 1) copies)
 shares_more {V} n copies i copy made more there is was one =

@@ -29,17 +29,17 @@ use Rattle.rguard.proofs.seats.Idle.{busy_push}
 use Rattle.rguard.proofs.Lending.{lent_same}
 use Rattle.rguard.proofs.Looking.{right_later, value_read, value_written}
 
--- no event changes how many seats there are, nor the groups
+-- no event changes the number of seats, or the groups
 pub sizes : {V E : Type 0} (b : Beginning V) (entries : List (EntryFields E)) → SameSizes (first_of b) (lock_after b entries)
 sizes b entries = subst (λ (s : LockState). SameSizes (first_of b) s) (sym (lock_is_after b entries)) (sizes_after (first_of b) (map event_of entries))
 
--- any act may stand with the end of a section
+-- the end of a section may have any acts
 pub all_stand : {E : Type 0} (n : ℕ) (acts : List (Act E)) → AllByRecursion (λ act. IsTrue (stands_with (Finish n) act)) acts
 all_stand n [] = tt
 all_stand n (act ∷ acts) = (refl, all_stand n acts)
 
 module _ {V E : Type 0} (after : V → E → V) (taken : V → E → Bool) (number : V → ℕ) (b : Beginning V) (k : SeatOf V E) (found : Contents V E) (f : Finds after taken number b k found) where
-  -- an entry of the seat that comes, with acts that are right, may follow
+  -- an entry of the seat whose event comes, with acts that are right, may follow
   pub follows : (e : Event) (acts : List (Act E)) → seat_of e ≡ k.number → Comes (lock_after b found.entries) e → AllByRecursion (λ act. IsTrue (stands_with e act)) acts → ActsAreRight after taken number b k.seen k.number acts
       → MayFollow after taken number found.beginning found.entries (record { event = e; acts = acts })
   follows e acts of comes stand right =

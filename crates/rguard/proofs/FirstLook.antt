@@ -21,7 +21,7 @@ use Rattle.rguard.proofs.Beginning.{waits_first}
 use Rattle.rguard.proofs.Looking.{ready_seen, held_is, may_take_lent, may_take_room, holds_now}
 use Rattle.rguard.proofs.seats.Finding.{Finds}
 
--- The seat `k` of the lock has entered, found this state, and issued the request: the state is `now` then
+-- The seat `k` of the lock has entered, found this state, and issued the request: then the state is `now`
 module _ {V E : Type 0} (after : V → E → V) (taken : V → E → Bool) (number : V → ℕ) (site : Site) (k : SeatOf V E) (found : Contents V E) (of : IsOf site k)
     (tells : IsTrueOf (λ (entry : EntryFields E). seat_of entry.event) (λ n (before later : Contents V E). slice_get later.taken n ≡ slice_get before.taken n) k found.beginning found.entries found)
     (lawful : IsLawfulFrom after taken number found.beginning found.entries) (values : length found.beginning.values ≡ found.beginning.groups.q) (idle : is_busy k.mine ≡ false)
@@ -61,7 +61,7 @@ module _ {V E : Type 0} (after : V → E → V) (taken : V → E → Bool) (numb
   ready_between later ready n opening seen same is ready_is =
       ready_seen after taken number of.began between now finds_between later ready opening seen same (ap (is_ready (lock_of now)) (sym (is ∙ sym number_same)) ∙ ready_is)
 
-  -- it is not ready, and leaves the state so
+  -- it is not ready, and leaves the state as it is
   pub not_ready : (later : SeatOf V E) (n : ℕ) → later ≡ between → n ≡ k.number → is_ready (lock_of now) n ≡ false → IsReady later false
   not_ready later n left_is is ready =
       ready_between later false n (ap (λ (x : SeatOf V E). x.opening) left_is ∙ waits_between.knows.opening) (ap (λ (x : SeatOf V E). x.seen) left_is) (ap (λ (x : SeatOf V E). x.number) left_is) is ready

@@ -18,7 +18,7 @@ module _ {V E : Type 0} where
     mine = q.mine ∙ ap (λ es. es ++ ys) p.mine ∙ append_assoc a.mine xs ys;
   }
 
-  -- a seat of the lock stays one
+  -- a seat of the lock stays a seat of it
   pub of_later : (site : Site) (a b : SeatOf V E) (more : List (EntryFields E)) → IsOf site a → Goes a more b → IsOf site b
   of_later site a b more of goes = record {
     gate = goes.same.0 ∙ of.gate;

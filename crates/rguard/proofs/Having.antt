@@ -1,4 +1,4 @@
--- What a seat holds that is ready: all that its request is about. For proofs above, which know the request from the seat's own entries.
+-- What a ready seat holds: all that its request is about. For proofs above, which know the request from the seat's own entries.
 use Rattle.std.proofs.Common.{◌≡◌, ℕ, ◌==◌, ◌&&◌, not, Bool, true, false, List, [], ◌∷◌, ◌++◌, map, refl, sym, ap, subst, ◌∙◌, inl, inr, append-nil, append_assoc}
 use Rattle.std.proofs.lemmas.Bool.{true≢false, eq-eqb, or_parts}
 use Rattle.std.specs.List.{AllByRecursion}
@@ -30,7 +30,7 @@ use Rattle.rguard.specs.Seats.{bare}
 use Rattle.rguard.proofs.seats.Along.{AreOfOthers, maker, others_behind, differs}
 use Rattle.rguard.proofs.seats.Claims.{is_of, of_seat, claim_next, issued_next}
 
--- a claim is the one of a request of this kind that reads and writes this
+-- a claim is that of a request of this kind that reads and writes this
 record IsFor (kind : Kind) (reads writes : Set) (c : Claim) : Type 0 where
   kind_is : c.kind ≡ kind
   reads_are : c.reads ≡ reads
@@ -72,7 +72,7 @@ module _ (n : ℕ) (r : RequestFields) (plain : is_plain r.kind ≡ true) where
         | inr b ↦ contrary (has_request s.claims n) requested (ap (has_request s.claims) (sym x_of) ∙ b.idle)
       ])
 
-  -- what the seat holds then that holds something
+  -- what a seat holds that holds something
   holds_all : (s : LockState) → IsReached s → AreFor s → is_not_holding s.claims n ≡ false → holds_of s.claims n ≡ record { reads = r.reads; writes = r.writes }
   holds_all s reached are some = holding s.claims n (each_alone s reached) by_one none
     where
@@ -106,7 +106,7 @@ module _ (n : ℕ) (r : RequestFields) (plain : is_plain r.kind ≡ true) where
         (subst (λ (s : LockState). has_request s.claims n ≡ true) (sym (lock_push b earlier e)) (claim_next n (is_of n) (of_seat n) (lock_after b earlier) e.event reached fits.0.comes (differs (maker e) n others.0) ∙ requested))
         (subst AreFor (sym (lock_push b earlier e)) (after_other (lock_after b earlier) e.event reached fits.0.comes requested was)))
 
-    -- A seat whose last own entry of a lawful history is this issue, and of which nothing is pending, holds all that it asked for
+    -- A seat whose last own entry of a lawful history is this issue, and that has nothing pending, holds all that it asked for
     pub holds_request : (before more : List (EntryFields E)) → IsLawfulFrom after taken number b ((before ++ bare (Issue n r) ∷ []) ++ more)
         → entries_by maker n ((before ++ bare (Issue n r) ∷ []) ++ more) ≡ entries_by maker n (before ++ bare (Issue n r) ∷ [])
         → is_ready (lock_after b ((before ++ bare (Issue n r) ∷ []) ++ more)) n ≡ true

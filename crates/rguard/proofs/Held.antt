@@ -1,4 +1,4 @@
--- What a seat holds whose request was issued and is ready, by what the calls tell of it. For proofs above.
+-- What a seat holds whose request was issued and is ready, by what the calls say of it. For proofs above.
 use Rattle.std.proofs.Common.{◌≡◌, ℕ, ◌==◌, ◌||◌, Bool, true, false, cond, List, [], ◌∷◌, ◌++◌, refl, sym, ap, subst, ◌∙◌, append-nil}
 use Rattle.std.specs.FinSet.{contains}
 use Rattle.rclaim.specs.Requests.{RequestFields}
@@ -18,7 +18,7 @@ use Rattle.rguard.specs.Guards.{GuardFields, AsSeen, HasSeenLawful, HasSeenOwn, 
 use Rattle.rguard.proofs.seats.Along.{maker}
 use Rattle.rguard.proofs.Having.{is_plain, holds_request}
 
--- a list has this entry of its own last: what stands before, and what stands behind, which is of others
+-- a list has this entry as the last one of its seat: what comes before, and what comes after, which is of others
 record HasLast {E : Type 0} (n : ℕ) (entry : EntryFields E) (all : List (EntryFields E)) : Type 0 where
   before : List (EntryFields E)
   more : List (EntryFields E)
@@ -45,7 +45,7 @@ has_last {E} n entry mine (x ∷ all) own = at (maker x == n) refl mine own (λ 
         longer (further ms rest)
 
 module _ {V E : Type 0} (after : V → E → V) (taken : V → E → Bool) (number : V → ℕ) where
-  -- it holds all that its request is about, where that is a read, a write or a mixed request
+  -- it holds all that its request is about, if that is a read, a write or a mixed request
   pub holds_issued : (seat later : SeatOf V E) (r : RequestFields) → is_plain r.kind ≡ true → Goes seat (bare (Issue seat.number r) ∷ []) later
       → HasSeenLawful after taken number later → HasSeenOwn later → IsReady later true
       → AsSeen later (λ b. holds_of (lock_after b later.seen).claims later.number ≡ record { reads = r.reads; writes = r.writes })
@@ -59,13 +59,13 @@ module _ {V E : Type 0} (after : V → E → V) (taken : V → E → Bool) (numb
       (entries_by-append maker later.number (last.before ++ issue ∷ []) last.more ∙ ap (λ es. entries_by maker later.number (last.before ++ issue ∷ []) ++ es) last.others ∙ append-nil (entries_by maker later.number (last.before ++ issue ∷ [])))
       (subst (λ es. is_ready (lock_after b es) later.number ≡ true) last.is (ready b opens)))
 
-  -- so it may edit what that writes
+  -- so it may edit what the request writes
   pub may_write : (seat later : SeatOf V E) (r : RequestFields) (l : ℕ) → is_plain r.kind ≡ true → Goes seat (bare (Issue seat.number r) ∷ []) later
       → HasSeenLawful after taken number later → HasSeenOwn later → IsReady later true → contains r.writes l ≡ true → HoldingToWrite later l
   may_write seat later r l plain goes lawful own ready there b opens =
       ap (λ (g : Granted). contains g.writes l) (holds_issued seat later r plain goes lawful own ready b opens) ∙ there
 
-  -- and read what that reads
+  -- and read what the request reads
   pub may_read : (seat later : SeatOf V E) (r : RequestFields) (l : ℕ) → is_plain r.kind ≡ true → Goes seat (bare (Issue seat.number r) ∷ []) later
       → HasSeenLawful after taken number later → HasSeenOwn later → IsReady later true → contains r.reads l ≡ true → Holding later l
   may_read seat later r l plain goes lawful own ready there b opens =

@@ -1,4 +1,4 @@
--- The last state of a lock: all seats are idle, so no request is incomplete, and what a seat tells of it.
+-- The last state of a lock: all seats are idle, so no request is incomplete, and what a seat knows of it.
 use Rattle.std.proofs.Common.{◌≡◌, ℕ, ◌<◌, ◌≤◌, ◌==◌, Bool, false, List, length, Option, Some, sym, ap, subst, ◌∙◌, inl, inr, ◌⊎◌, arith}
 use Rattle.std.specs.Prelude.{slice_get, slice_index_or, All, Any}
 use Rattle.std.proofs.lemmas.Bool.{eqb-true, cases_lt}
@@ -18,14 +18,14 @@ use Rattle.rguard.specs.LentSeats.{SeatOf, IsOf, IsIdle, is_busy}
 use Rattle.rguard.proofs.Ending.{sizes}
 use Rattle.rguard.proofs.seats.Idle.{idle_has_none}
 
--- what a seat tells of the last state
+-- what a seat knows of the last state
 abbrev pub Tells : {V E : Type 0} → SeatOf V E → Contents V E → Type 0
 Tells {V} {E} k c = IsTrueOf (λ (entry : EntryFields E). seat_of entry.event) (λ n (before later : Contents V E). slice_get later.taken n ≡ slice_get before.taken n) k c.beginning c.entries c
 
 module _ {V E : Type 0} (after : V → E → V) (taken : V → E → Bool) (number : V → ℕ) (site : Site) (seats : List (SeatOf V E)) (last : Contents V E)
     (of : All (λ k. IsOf site k) seats) (idle : All (λ k. IsIdle k) seats) (all : (n : ℕ) → n < site.seats → Any (λ k. k.number ≡ n) seats)
     (tells : All (λ k. Tells k last) seats) (lawful : IsLawfulFrom after taken number last.beginning last.entries) (some : 0 < site.seats) where
-  -- a seat tells how many there are
+  -- a seat knows how many there are
   seats_are : last.beginning.seats ≡ site.seats
   seats_are =
       let any = all 0 some in
@@ -51,7 +51,7 @@ module _ {V E : Type 0} (after : V → E → V) (taken : V → E → Bool) (numb
           beyond x.claim.seat n (lock_of last).seats site.seats (all_at (λ x. x.claim.seat < (lock_of last).seats) (lock_of last).claims x (reached_lawful after taken number last.beginning last.entries lawful).sound.seated there)
           ((sizes last.beginning last.entries).seats ∙ seats_are) above (eqb-true x.claim.seat n h)))
 
--- what is left, as a seat tells it
+-- what is left, as a seat knows it
 pub closed_by : {V E : Type 0} (after : V → E → V) (taken : V → E → Bool) (number : V → ℕ) (k : SeatOf V E) (last : Contents V E) (entries : List (EntryFields E)) (values : List V) → Tells k last → entries ≡ last.entries
     → IsLawfulFrom after taken number last.beginning last.entries → length values ≡ last.beginning.groups.q
     → ((l : ℕ) (opening : V) → slice_get last.beginning.values l ≡ Some opening → slice_get values l ≡ Some (value_now after last l opening)) → IsClosedBy after taken number entries values k
@@ -62,7 +62,7 @@ closed_by {V} {E} after taken number k last entries values tells same lawful cou
       own = tells.own;
     })
 
--- and those who watch were told its steps
+-- and the watchers were given its steps
 pub told_to : {V E : Type 0} (k : SeatOf V E) (last : Contents V E) (entries : List (EntryFields E)) (watched : Option (List Seen)) → Tells k last → entries ≡ last.entries → HaveBeenTold last.beginning last.entries watched → IsToldTo watched entries k
 told_to {V} {E} k last entries watched tells same told =
     λ b opens. subst (λ (es : List (EntryFields E)). HaveBeenTold b es watched) (sym same)

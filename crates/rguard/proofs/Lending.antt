@@ -13,7 +13,7 @@ use Rattle.rstate.specs.Shares.{ShareFields, whole}
 use Rattle.rstate.proofs.homes.Moved.{place_among}
 
 module _ {V : Type 0} where
-  -- what is lent, of values that are the same where it is lent
+  -- what is lent, of values that are the same for all that is lent
   pub lent_same : (seats : ℕ) (g : Granted) (values : List V) (at later at2 later2 : ℕ → V → V) (lent : LentFields V)
       → ((l : ℕ) → contains g.reads l ≡ true → (v : V) → slice_get values l ≡ Some v → at2 l v ≡ at l v) → ((l : ℕ) → contains g.writes l ≡ true → (v : V) → slice_get values l ≡ Some v → later2 l v ≡ later l v)
       → IsLent seats g values at later lent → IsLent seats g values at2 later2 lent
@@ -30,7 +30,7 @@ module _ {V : Type 0} where
         ∙ ap (whole (seats + 1)) (sym (writes loan.0 (sym (was.writes_has loan.0) ∙ place_among loan lent.writes there) v listed)));
   }
 
-  -- what is lent, with more room
+  -- what is lent stays lent with more room
   pub lent_reserved : (seats : ℕ) (g : Granted) (values : List V) (at later : ℕ → V → V) (lent roomy : LentFields V) → roomy.reads ≡ lent.reads → roomy.writes ≡ lent.writes
       → IsLent seats g values at later lent → IsLent seats g values at later roomy
   lent_reserved seats g values at later lent roomy reads writes was = record {
@@ -42,7 +42,7 @@ module _ {V : Type 0} where
     writes_are = subst (λ (xs : List (ℕ × ShareFields V)). AllByRecursion (λ loan. (v : V) → slice_get values loan.0 ≡ Some v → loan.1 ≡ whole (seats + 1) (later loan.0 v)) xs) (sym writes) was.writes_are;
   }
 
-  -- nothing is lent where nothing was taken
+  -- nothing is lent if nothing was taken
   pub lent_nothing : (seats : ℕ) (values : List V) (at later : ℕ → V → V) (reads_room writes_room : ℕ) → IsLent seats nothing values at later (record { reads = []; writes = []; reads_room = reads_room; writes_room = writes_room })
   lent_nothing seats values at later reads_room writes_room = record {
     reads_once = tt;
@@ -54,7 +54,7 @@ module _ {V : Type 0} where
   }
 
 module _ {V X : Type 0} (values : List V) (P : ℕ → V → X) where
-  -- the first item of a resource that is there
+  -- the first item of a resource that is in the list
   pub place_there : (loans : List (ℕ × X)) (l : ℕ) (v : V) → AllByRecursion (λ loan. (v : V) → slice_get values loan.0 ≡ Some v → loan.1 ≡ P loan.0 v) loans → has l (places loans) ≡ true → slice_get values l ≡ Some v
       → at_place loans l ≡ Some (P l v)
   place_there [] l v are there listed = absurd (true≢false (sym there))
@@ -67,7 +67,7 @@ module _ {V X : Type 0} (values : List V) (P : ℕ → V → X) where
       at false is rest = rest (ap (λ (c : Bool). c || has l (places loans)) (sym is) ∙ there) listed
 
 module _ {X : Type 0} where
-  -- and none that is not
+  -- and no item of a resource that is not
   pub place_none : (loans : List (ℕ × X)) (l : ℕ) → has l (places loans) ≡ false → at_place loans l ≡ None
   place_none [] l none = refl
   place_none (loan ∷ loans) l none = at (loan.0 == l) refl (place_none loans l)

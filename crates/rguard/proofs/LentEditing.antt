@@ -1,4 +1,4 @@
--- A section with one act more, and a section that may end.
+-- A section with one more act, and a section that may end.
 use Rattle.std.proofs.Common.{◌≡◌, ℕ, suc, ◌+◌, ◌==◌, ◌||◌, Bool, true, false, cond, IsTrue, List, [], ◌∷◌, ◌++◌, fold, Some, None, refl, sym, ap, subst, ◌∙◌, inl, inr, append-nil, arith}
 use Rattle.std.specs.Prelude.{slice_get, slice_set}
 use Rattle.std.specs.FinSet.{contains}
@@ -60,7 +60,7 @@ module _ {V E : Type 0} (after : V → E → V) (taken : V → E → Bool) (numb
         lent = h.has_lent.lent;
       })
 
-  -- one act more is right
+  -- one more act is right
   pub right_more : (act : Act E) (opening : V) → ActsAreRight after taken number b s.seat.seen s.seat.number s.acts → slice_get b.values (place_of act) ≡ Some opening
       → IsTrue (is_held (reads_of (lock_seen b s.seat) s.seat.number) (writes_of (lock_seen b s.seat) s.seat.number) act)
       → IsAnsweredAfter after taken number (λ l. value_seen after s.seat l opening) s.acts act → ActsAreRight after taken number b s.seat.seen s.seat.number (s.acts ++ act ∷ [])
@@ -72,7 +72,7 @@ module _ {V E : Type 0} (after : V → E → V) (taken : V → E → Bool) (numb
       answered_at : (act : Act E) (v : V) → v ≡ opening → IsAnsweredAfter after taken number (λ l. value_seen after s.seat l opening) s.acts act → IsAnsweredAfter after taken number (λ l. value_of after v s.seat.seen l) s.acts act
       answered_at act v is answered = subst (λ (x : V). IsAnsweredAfter after taken number (λ l. value_of after x s.seat.seen l) s.acts act) (sym is) answered
 
-  -- one show more
+  -- one more show
   pub shown_more : (kind : GuardKind) (place shown : ℕ) (opening : V) → HoldsFrom after taken number kind b s → slice_get b.values place ≡ Some opening → is_held_by (lock_seen b s.seat) s.seat.number place ≡ true
       → shown ≡ number (value_edited after s place opening) → HoldsFrom after taken number kind b (record { site = s.site; seat = s.seat; lent = s.lent; own = s.own; acts = s.acts ++ Shown place shown ∷ [] })
   shown_more kind place shown opening h listed held is = record {
@@ -102,7 +102,7 @@ module _ {V E : Type 0} (after : V → E → V) (taken : V → E → Bool) (numb
 
 -- ---- edits
 
--- an edit of another resource is none of this
+-- an edit of another resource does not edit this one
 edits_else : {E : Type 0} (acts : List (Act E)) (place : ℕ) (edit : E) (done : Bool) (l : ℕ) → (place == l) ≡ false → edits_in (acts ++ Edited place edit done ∷ []) l ≡ edits_in acts l
 edits_else {E} acts place edit done l differ =
     edits_in-append acts (Edited place edit done ∷ []) l ∙ ap (λ (c : Bool). edits_in acts l ++ (cond c (edit ∷ []) [] ++ [])) differ ∙ append-nil (edits_in acts l)
@@ -118,7 +118,7 @@ pub turned : (m n : ℕ) → (n == m) ≡ false → (m == n) ≡ false
 turned m n differ = false_from (m == n) (λ h. contrary (n == m) (eq-eqb n m (sym (eqb-true m n h))) differ)
 
 module _ {X : Type 0} where
-  -- one item in the place of another of the same number
+  -- one item replaced by another of the same number
   pub places_replaced : (loans : List (ℕ × X)) (l : ℕ) (x : X) → places (replaced loans l x) ≡ places loans
   places_replaced [] l x = refl
   places_replaced (loan ∷ loans) l x = at (loan.0 == l) refl (places_replaced loans l x)
@@ -127,7 +127,7 @@ module _ {X : Type 0} where
       at true is rest = ap (λ n. n ∷ places loans) (sym (eqb-true loan.0 l is))
       at false is rest = ap (λ n. places (slice_set (loan ∷ loans) n (l, x))) (plus_one (index_of loans l)) ∙ ap (λ ns. loan.0 ∷ ns) rest
 
-  -- what holds of the item in its place, and of the items of other numbers, holds of all
+  -- what holds of the replacing item, and of the items of other numbers, holds of all
   pub all_replaced : (P : ℕ × X → Type 0) (loans : List (ℕ × X)) (l : ℕ) (x : X) → Once (places loans) → P (l, x) → AllByRecursion (λ loan. (loan.0 == l) ≡ false → P loan) loans → AllByRecursion P (replaced loans l x)
   all_replaced P [] l x once new others = tt
   all_replaced P (loan ∷ loans) l x once new others = at (loan.0 == l) refl (all_replaced P loans l x once.1 new others.1)
@@ -141,7 +141,7 @@ module _ {X : Type 0} where
 
 module _ {V E : Type 0} (after : V → E → V) (taken : V → E → Bool) (number : V → ℕ) (kind : GuardKind) (b : Beginning V) (s : SectionFields V E) (h : HoldsFrom after taken number kind b s)
     (l : ℕ) (opening : V) (listed : slice_get b.values l ≡ Some opening) (held : contains (writes_of (lock_seen b s.seat) s.seat.number) l ≡ true) where
-  -- the copies with one of this resource
+  -- the copies with one of this resource among them
   record HasCopy (own : List (ℕ × V)) : Type 0 where
     once : Once (places own)
     written : (m : ℕ) → has m (places own) ≡ true → contains (held_at b s.seat).writes m ≡ true

@@ -27,7 +27,7 @@ length_replicate : {X : Type 0} (n : ℕ) (x : X) → length (replicate n x) ≡
 length_replicate n x = length-replicate n x
 
 module _ {V E : Type 0} (after : V → E → V) (taken : V → E → Bool) (number : V → ℕ) (b : Beginning V) where
-  -- what a seat holds are resources that there are
+  -- a seat holds only resources that exist
   pub held_listed : (entries : List (EntryFields E)) (n l : ℕ) → IsLawfulFrom after taken number b entries → n < b.seats → length b.values ≡ b.groups.q → is_held_by (lock_after b entries) n l ≡ true → l < length b.values
   held_listed entries n l lawful there values held =
       elim (or_cases (contains (holds_of (lock_after b entries).claims n).reads l) (contains (holds_of (lock_after b entries).claims n).writes l) held) [

@@ -33,7 +33,7 @@ use Rattle.rguard.proofs.Lending.{lent_same, lent_nothing}
 use Rattle.rguard.proofs.Looking.{value_read, value_written}
 use Rattle.rguard.proofs.seats.Turning.{seen_is, number_is, has_now, knows_now}
 
--- shows may stand with a rise
+-- a rise may have shows as its acts
 shows_stand : {E : Type 0} (n : ℕ) (acts : List (Act E)) → AreShows acts → AllByRecursion (λ act. IsTrue (stands_with (Rise n) act)) acts
 shows_stand n [] shows = tt
 shows_stand n (Edited place edit done ∷ acts) shows = absurd (true≢false (sym shows.0))
@@ -70,7 +70,7 @@ module _ {V E : Type 0} (after : V → E → V) (taken : V → E → Bool) (numb
   abbrev entry : EntryFields E
   entry = record { event = Rise s.seat.number; acts = s.acts }
 
-  -- it waits then to write, with nothing lent
+  -- it then waits to write, with nothing lent
   module _ (now : Contents V E) (pass later : SeatOf V E) (longer : now.entries ≡ found.entries ++ entry ∷ []) (pass_is : pass ≡ entered s.seat found.entries) (left_is : later ≡ left pass now.entries now)
       (now_began : now.beginning ≡ found.beginning) (now_lawful : IsLawfulFrom after taken number now.beginning now.entries) (now_taken : now.taken ≡ slice_set found.taken s.seat.number nothing) where
     lock_next : lock_after b later.seen ≡ next (lock_after b found.entries) (Rise s.seat.number)

@@ -37,7 +37,7 @@ use Rattle.rguard.proofs.seats.Finding.{Finds, lock_is, reached_now, within_late
 use Rattle.rguard.proofs.Lending.{lent_same, within_reads, within_writes}
 
 module _ {V E : Type 0} (after : V → E → V) (taken : V → E → Bool) (number : V → ℕ) (b : Beginning V) (k : SeatOf V E) (found : Contents V E) (f : Finds after taken number b k found) where
-  -- the acts of the seat are right still
+  -- the acts of the seat are still right
   pub right_later : (acts : List (Act E)) → ActsAreRight after taken number b k.seen k.number acts → ActsAreRight after taken number b found.entries k.number acts
   right_later acts right = record {
     held = held_more (lock_after b k.seen) (lock_after b found.entries) k.number (λ l. still_from (lock_after b k.seen) (lock_after b found.entries) k.number l (within_later after taken number b k found f)) acts right.held;
@@ -45,7 +45,7 @@ module _ {V E : Type 0} (after : V → E → V) (taken : V → E → Bool) (numb
         (λ l held. value_later after taken number b k found f l held (openings l)) [] acts (places_held (lock_after b k.seen) k.number acts right.held) (right.answers openings are);
   }
 
-  -- whether nothing of the seat is pending, as a seat tells it that has seen this state
+  -- whether nothing of the seat is pending, as a seat knows that has seen this state
   pub ready_seen : (later : SeatOf V E) (ready : Bool) → later.opening ≡ Some b → later.seen ≡ found.entries → later.number ≡ k.number → is_ready (lock_of found) k.number ≡ ready → IsReady later ready
   ready_seen later ready opening seen same is = λ d its.
       let e : b ≡ d = same_item b d (sym opening ∙ its) in
@@ -61,14 +61,14 @@ module _ {V E : Type 0} (after : V → E → V) (taken : V → E → Bool) (numb
     pub within_now : is_within g (holds_of (lock_after b found.entries).claims k.number) ≡ true
     within_now = within_all g (held_at b k) (holds_of (lock_after b found.entries).claims k.number) within (within_later after taken number b k found f)
 
-    -- what is lent is lent still
+    -- what is lent is still lent
     pub lent_later : (lent : LentFields V) → IsLent b.seats g b.values (value_seen after k) (value_seen after k) lent → IsLentNow after found g lent
     lent_later lent was =
         subst (λ (d : Beginning V). IsLent d.seats g d.values (value_now after found) (value_now after found) lent) (sym f.began)
         (lent_same b.seats g b.values (value_seen after k) (value_seen after k) (value_now after found) (value_now after found) lent
         (λ l reads v listed. value_read l reads v) (λ l writes v listed. value_written l writes v) was)
 
-  -- what a kind of guard has beside is there still, with the acts that a wait has
+  -- what a kind of guard has besides is still there, with the acts that a wait has
   pub as_later : (kind : GuardKind) (site : Site) (later : SeatOf V E) (lent lent2 : LentFields V) (own : List (ℕ × V)) (acts : List (Act E)) → later.seen ≡ found.entries → later.number ≡ k.number
       → IsAs kind b (record { site = site; seat = k; lent = lent; own = own; acts = acts }) → IsAs kind b (record { site = site; seat = later; lent = lent2; own = own; acts = acts })
   as_later Read site later lent lent2 own acts seen same was = was
@@ -78,7 +78,7 @@ module _ {V E : Type 0} (after : V → E → V) (taken : V → E → Bool) (numb
   as_later Nest site later lent lent2 own acts seen same was =
       (λ i. may_ask (lock_after b (seen i)).claims (same i)) ∙ claim_later after taken number b k found f (may_ask_by k.number) (of_seat_and k.number (λ c. is_nested c.kind)) ∙ was
 
-  -- the copies are right still, of what was taken then or more
+  -- the copies are still right, of what was taken then or more
   pub copies_later : (g h : Granted) (site : Site) (later : SeatOf V E) (lent lent2 : LentFields V) (own : List (ℕ × V)) (acts : List (Act E)) → is_within g (held_at b k) ≡ true → is_within g h ≡ true → later.seen ≡ found.entries
       → AreCopies after b g (record { site = site; seat = k; lent = lent; own = own; acts = acts }) → AreCopies after b h (record { site = site; seat = later; lent = lent2; own = own; acts = acts })
   copies_later g h site later lent lent2 own acts within more seen was = record {
@@ -91,7 +91,7 @@ module _ {V E : Type 0} (after : V → E → V) (taken : V → E → Bool) (numb
     unedited = was.unedited;
   }
 
--- A wait of this kind, whose seat finds this state, and goes on to `later` with no entry
+-- A wait of this kind, whose seat finds this state and goes on to `later` with no entry
 module _ {V E : Type 0} (after : V → E → V) (taken : V → E → Bool) (number : V → ℕ) (kind : GuardKind) (b : Beginning V) (site : Site) (k : SeatOf V E) (lent : LentFields V) (own : List (ℕ × V)) (acts : List (Act E))
     (w : WaitsFrom after taken number kind b (record { site = site; seat = k; lent = lent; own = own; acts = acts })) (found : Contents V E) (f : Finds after taken number b k found) where
   abbrev held_now : Granted
@@ -112,7 +112,7 @@ module _ {V E : Type 0} (after : V → E → V) (taken : V → E → Bool) (numb
       subst (λ (h : Granted). IsLentNow after found h lent) (has_had g (ap (slice_get found.taken) (sym same) ∙ there))
       (lent_later after taken number b k found f w.had w.within lent w.has_lent.lent)
 
-  -- the claims of the seat are the same still
+  -- the claims of the seat are still the same
   room_later : HasRoomWithin (lock_after b k.seen).claims k.number lent → HasRoomWithin (lock_after b found.entries).claims k.number lent
   room_later room = record {
     most = room.most;
@@ -147,7 +147,7 @@ module _ {V E : Type 0} (after : V → E → V) (taken : V → E → Bool) (numb
   requested : has_request (lock_after b found.entries).claims k.number ≡ true
   requested = claim_later after taken number b k found f (is_of k.number) (of_seat k.number) ∙ w.issued
 
-  -- it waits still
+  -- it still waits
   pub waits_still : (later : SeatOf V E) → later.seen ≡ found.entries → later.number ≡ k.number → HasTaken later w.had → Knows after taken number b site later
       → WaitsFrom after taken number kind b (record { site = site; seat = later; lent = lent; own = own; acts = acts })
   waits_still later seen same has knows = record {
@@ -167,7 +167,7 @@ module _ {V E : Type 0} (after : V → E → V) (taken : V → E → Bool) (numb
     room = still_room later seen same w.room;
   }
 
-  -- it is over where nothing of the seat is pending, and all that the seat holds was lent to it
+  -- it is over if nothing of the seat is pending, and all that the seat holds was lent to it
   pub holds_now : (later : SeatOf V E) (lent2 : LentFields V) → later.seen ≡ found.entries → later.number ≡ k.number → is_ready (lock_of found) k.number ≡ true → HasTaken later held_now
       → IsLentNow after found (holds_of (lock_of found).claims k.number) lent2 → Knows after taken number b site later
       → HoldsFrom after taken number kind b (record { site = site; seat = later; lent = lent2; own = own; acts = acts })

@@ -1,4 +1,4 @@
--- The passes of a gate: those of its seats, and behind them that of its scribe.
+-- The passes of a gate: those of its seats, and after them that of its scribe.
 use Rattle.std.proofs.Common.{◌≡◌, ℕ, zero, suc, ◌+◌, ◌<◌, ◌≤◌, List, [], ◌∷◌, ◌++◌, length, Some, refl, sym, ap, subst, ◌∙◌, inl, inr, ◌⊎◌, arith, length-append}
 use Rattle.std.specs.Prelude.{slice_get, slice_index_or, All, Any}
 use Rattle.std.proofs.lemmas.Bool.{cases_lt}
@@ -30,7 +30,7 @@ module _ {X : Type 0} (all first : List X) (last : X) (is : all ≡ first ++ las
   pub last_is : (x : X) → slice_get all n ≡ Some x → last ≡ x
   last_is x there = same_item last x (sym (get_last first last) ∙ (λ i. slice_get (sym is i) (first_count i)) ∙ there)
 
--- a new gate with so many seats and one pass more: its seats, and its scribe
+-- a new gate with so many seats and one more pass: its seats, and its scribe
 module _ {V E : Type 0} (site : Site) (all first : List (SeatOf V E)) (last : SeatOf V E) (n : ℕ) (gate : GateId) (passes : ℕ) (state c : Contents V E)
     (is : all ≡ first ++ last ∷ []) (count : length all ≡ n + 1) (each : (k : ℕ) → k < n + 1 → slice_get all k ≡ Some (newcomer gate k state.beginning state)) (state_is : state ≡ c)
     (site_is : site ≡ record { gate = gate; seats = n; passes = passes }) (passes_are : passes ≡ n + 1) where

@@ -1,4 +1,4 @@
--- What a seat holds that is ready, of an upgrade that has not risen: all that it reads. For proofs above.
+-- What a ready seat holds of an upgrade that has not risen: all that it reads. For proofs above.
 use Rattle.std.proofs.Common.{◌≡◌, ℕ, ◌==◌, ◌&&◌, not, Bool, true, false, List, [], ◌∷◌, ◌++◌, map, refl, sym, ap, subst, ◌∙◌, inl, inr, append-nil, append_assoc}
 use Rattle.std.proofs.lemmas.Bool.{true≢false, eq-eqb, eqb-true, or_parts, and_parts}
 use Rattle.std.specs.FinSet.{empty}
@@ -65,7 +65,7 @@ module _ (n : ℕ) (r : RequestFields) (raises : r.kind ≡ kinds.Upgrade) where
         | inr b ↦ contrary (has_request s.claims n) requested (ap (has_request s.claims) (sym x_of) ∙ b.idle)
       ])
 
-  -- the half that holds is the one that reads, while that is there
+  -- the half that holds is the one that reads, as long as that is there
   holds_reads : (s : LockState) → IsReached s → AreHalvesOf s → may_rise s.claims n ≡ true → is_not_holding s.claims n ≡ false → holds_of s.claims n ≡ record { reads = r.reads; writes = empty }
   holds_reads s reached are rises some = holding s.claims n (each_alone s reached) by_one none
     where
@@ -115,7 +115,7 @@ module _ (n : ℕ) (r : RequestFields) (raises : r.kind ≡ kinds.Upgrade) where
         (subst (λ (s : LockState). has_request s.claims n ≡ true) (sym (lock_push b earlier e)) (claim_next n (is_of n) (of_seat n) (lock_after b earlier) e.event reached fits.0.comes (differs (maker e) n others.0) ∙ requested))
         (subst AreHalvesOf (sym (lock_push b earlier e)) (halves_other (lock_after b earlier) e.event reached fits.0.comes requested was)))
 
-    -- A seat whose last own entry of a lawful history is this issue, and of which nothing is pending, holds all that it reads
+    -- A seat whose last own entry of a lawful history is this issue, and that has nothing pending, holds all that it reads
     pub holds_upgrade : (before more : List (EntryFields E)) → IsLawfulFrom after taken number b ((before ++ bare (Issue n r) ∷ []) ++ more)
         → entries_by maker n ((before ++ bare (Issue n r) ∷ []) ++ more) ≡ entries_by maker n (before ++ bare (Issue n r) ∷ [])
         → is_ready (lock_after b ((before ++ bare (Issue n r) ∷ []) ++ more)) n ≡ true

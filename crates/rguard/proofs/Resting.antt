@@ -34,7 +34,7 @@ each_rising P s holds = each (rising s) (λ l there. holds l (rising_member s l 
     )
 
 module _ {V E : Type 0} where
-  -- who may write two sets may write each of them
+  -- a seat that may write two sets may write each of them
   pub write_left : (s t : Set) (seat : SeatOf V E) → MayWriteAll (union s t) seat → MayWriteAll s seat
   write_left s t seat both l there = both l (contains_union s t l ∙ or_left (contains s l) (contains t l) there)
 
@@ -47,7 +47,7 @@ unfolding is_inside
 is_inside_itself group = ap (λ (b : Bool). b || false) (within_reflexive group)
 
 module _ {V E : Type 0} (groups : ReadGroups) (site : Site) where
-  -- a request suits the seat that suits the read groups
+  -- a request that suits the read groups suits the seat
   pub suits : (seat : SeatOf V E) (r : RequestFields) → IsAt groups site seat → all_below groups.q r.reads ≡ true → all_below groups.q r.writes ≡ true → is_admitted groups.groups r ≡ true → SuitsSeat seat r
   suits seat r at reads writes admitted b opens =
       let is : b.groups ≡ groups = at.over b opens in

@@ -1,4 +1,4 @@
--- The room that the claims of a seat need: no more than what its request is about.
+-- The room that the claims of a seat need: at most what its request is about.
 use Rattle.std.proofs.Common.{◌≡◌, ℕ, zero, suc, ◌+◌, ◌≤◌, ◌==◌, Bool, true, false, cond, ◌&&◌, ◌||◌, List, [], ◌∷◌, ◌++◌, map, length, refl, sym, ap, subst, ◌∙◌, arith}
 use Rattle.std.proofs.lemmas.Bool.{true≢false, eq-eqb, eqb-true, and_parts, and_from}
 use Rattle.std.proofs.lemmas.List.Folds.{list_any-append}
@@ -28,7 +28,7 @@ use Rattle.rguard.specs.LentSections.{claim_reads, claim_writes, writes_at_most,
 use Rattle.rguard.proofs.Lending.{within_reads, within_writes}
 use Rattle.rguard.proofs.seats.Claims.{claim_settled, of_seat_and}
 
--- ---- a set with more members has no fewer
+-- ---- a set that includes another has at least as many members
 
 fewer_from : (n low : ℕ) (s t : Set) → ((l : ℕ) → contains s l ≡ true → contains t l ≡ true) → length (members_from low n s) ≤ length (members_from low n t)
 unfolding members_from
@@ -49,7 +49,7 @@ rising_fewer s t more = fewer_from _ 0 s t more
 left_fewer : (s g t : Set) → ((l : ℕ) → contains s l ≡ true → contains t l ≡ true) → length (rising (difference s g)) ≤ length (rising t)
 left_fewer s g t more = rising_fewer (difference s g) t (λ l there. more l (and_parts (contains s l) _ (sym (contains_difference s g l) ∙ there)).0)
 
--- ---- what a seat holds, its claims read and write
+-- ---- what a seat holds is what its claims read and write
 
 module _ (xs : List Claimed) (n : ℕ) (alone : EachPair Alone xs) (l : ℕ) where
   pub held_reads : contains (holds_of xs n).reads l ≡ true → list_any (λ x. claim_reads n l x.claim) xs ≡ true

@@ -1,4 +1,4 @@
--- What a scribe knows behind a turn, which leaves the state as it found it.
+-- What a scribe knows after a turn, which leaves the state as it found it.
 use Rattle.std.proofs.Common.{◌≡◌, [], refl, sym, ap, subst, ◌∙◌, append-nil}
 use mathlib.Core.List.{IsPrefix}
 use Rattle.rlock.specs.Known.{entered, left}

@@ -20,14 +20,14 @@ module _ {V E : Type 0} where
       let now : HasAcquired site seat asked (guards.Write guard) = subst (λ (x : Guard V M E). HasAcquired site seat asked x) is has in
       subst (λ (x : RequestFields). HasEntered x seat guard) made (record { issued = now.goes; fresh = now.no_acts })
 
-  -- and so has one whose guard was acquired to read
+  -- and so has a seat whose guard was acquired to read
   pub entered_to_read : {M : Type 0} (site : Site) (seat : SeatOf V E) (asked r : RequestFields) (guard : GuardFields V E) (acquired : Guard V M E) → asked ≡ r → acquired ≡ guards.Read guard
       → HasAcquired site seat asked acquired → HasEntered r seat guard
   entered_to_read {M} site seat asked r guard acquired made is has =
       let now : HasAcquired site seat asked (guards.Read guard) = subst (λ (x : Guard V M E). HasAcquired site seat asked x) is has in
       subst (λ (x : RequestFields). HasEntered x seat guard) made (record { issued = now.goes; fresh = now.no_acts })
 
-  -- who entered a section and finished it has made it: its seat stayed where it was between
+  -- a seat that entered a section and finished it has made it: between the two it stayed where it was
   pub made : (r : RequestFields) (seat : SeatOf V E) (first last : GuardFields V E) (acts : List (Act E)) (later : SeatOf V E) → HasEntered r seat first → last.seat ≡ first.seat → HasFinished acts last later
       → MadeSection r acts seat later
   made r seat first last acts later entered stays finished =

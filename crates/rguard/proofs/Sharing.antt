@@ -22,7 +22,7 @@ module _ {X : Type 0} where
       at false is rest = rest (ap (λ (c : Bool). c || has l (places loans)) (sym is) ∙ there)
 
 module _ {V : Type 0} (n : ℕ) (P : ℕ → ShareFields V → Type 0) where
-  -- what is lent may be replaced where each copy is of a resource that is lent
+  -- what is lent may be replaced if each copy is of a resource that is lent
   pub can_replace : (writes : List (ℕ × ShareFields V)) (own : List (ℕ × V)) → 0 < n → ((m : ℕ) → has m (places own) ≡ true → has m (places writes) ≡ true) → CanReplace writes (shares_of n own)
   can_replace writes [] some there = tt
   can_replace writes (copy ∷ own) some there = (
@@ -35,7 +35,7 @@ module _ {V : Type 0} (n : ℕ) (P : ℕ → ShareFields V → Type 0) where
   places_shared writes [] = refl
   places_shared writes (copy ∷ own) = places_shared (replaced writes copy.0 (whole n copy.1)) own ∙ places_replaced writes copy.0 (whole n copy.1)
 
-  -- and then all is as it is to be
+  -- and then all is as it should be
   pub all_shared : (writes : List (ℕ × ShareFields V)) (own : List (ℕ × V)) → Once (places writes) → AllByRecursion (λ copy. P copy.0 (whole n copy.1)) own
       → AllByRecursion (λ loan. has loan.0 (places own) ≡ false → P loan.0 loan.1) writes → AllByRecursion (λ loan. P loan.0 loan.1) (with_shares writes (shares_of n own))
   all_shared writes [] once copies others = all_from (λ loan. P loan.0 loan.1) writes (λ loan there. all_at (λ loan. has loan.0 [] ≡ false → P loan.0 loan.1) writes loan others there refl)

@@ -14,6 +14,6 @@ module _ {T : Type 0} where
   awaited_kind (Rise room) = kinds.Rise
   awaited_kind Nest = kinds.Nest
 
--- what contracts see of the wait of a section
+-- what contracts see of a section's wait
 abbrev pub waiting : {V E : Type 0} → SectionFields V E → GuardKind → WaitFields V E
 waiting s kind = record { site = s.site; seat = s.seat; acts = s.acts; kind = kind }

@@ -1,4 +1,4 @@
--- What contracts see of guards and waits: the words of the crate below for guards, and those for waits.
+-- What contracts see of guards and waits.
 use Rattle.std.specs.Prelude.{◌≡◌, ℕ, Bool, List, [], ◌∷◌}
 use Rattle.rset.specs.Sets.{Set}
 use Rattle.rclaim.specs.Events.{seat_of}
@@ -29,7 +29,7 @@ module _ {V E : Type 0} where
   abbrev pub HasSeenOwn : SeatOf V E → Type 0
   HasSeenOwn seat = entries_by (λ (entry : EntryFields E). seat_of entry.event) seat.number seat.seen ≡ seat.mine
 
-  -- the wait is that for the request which the seat has issued in one turn
+  -- the wait is that for the request which the seat has issued, in one turn
   pub record HasBegun (site : Site) (seat : SeatOf V E) (request : RequestFields) (wait : WaitFields V E) : Type 0 where
     pub site_is : wait.site ≡ site
     pub kind_is : wait.kind ≡ kind_for request.kind
@@ -37,7 +37,7 @@ module _ {V E : Type 0} where
     pub goes : Goes seat (bare (Issue seat.number request) ∷ []) wait.seat
     pub turn : IsOneTurn seat (bare (Issue seat.number request) ∷ []) wait.seat
 
-  -- the wait is that for a further part, which the seat of the guard has asked for in one turn, with the acts of the guard
+  -- the wait is that for a further part, which the guard's seat has asked for in one turn, with the guard's acts
   pub record HasAsked (guard : GuardFields V E) (part : Set) (wait : WaitFields V E) : Type 0 where
     pub site_is : wait.site ≡ guard.site
     pub kind_is : wait.kind ≡ Nest

@@ -16,7 +16,7 @@ use Rattle.rguard.specs.declared.kind.GuardKind.{GuardKind}
 use Rattle.rguard.specs.declared.kind.GuardKind.TheVariants.{Read, Write, Rise, Nest}
 use Rattle.rguard.specs.LentSeats.{SeatOf}
 
--- a guard: the lock, the seat, and what its section did so far
+-- a guard: the lock, the seat, and what its section has done so far
 pub record GuardFields (V E : Type 0) : Type 0 where
   pub site : Site
   pub seat : SeatOf V E
@@ -52,15 +52,15 @@ module _ {V E : Type 0} where
   HasValue after guard l value =
       AsSeen guard.seat (λ b. (opening : V) × (slice_get b.values l ≡ Some opening) × (value ≡ value_within after (value_of after opening guard.seat.seen l) guard.acts l))
 
-  -- a set is a part, not empty, of what the request of the seat is about
+  -- a set is a non-empty part of what the request of the seat is about
   abbrev pub IsPartOf : SeatOf V E → Set → Type 0
   IsPartOf seat part = AsSeen seat (λ b. is_part_of (lock_after b seat.seen).claims seat.number part ≡ true)
 
-  -- what a guard holds has the value later that it had before
+  -- what a guard holds still has the value that it had
   abbrev pub KeepsValues : (V → E → V) → GuardFields V E → GuardFields V E → Type 0
   KeepsValues after before later = (l : ℕ) (value : V) → Holding before.seat l → HasValue after before l value → HasValue after later l value
 
-  -- what the seat holds it holds later, in the way in which it held it, and each part that it might ask for it may ask for still
+  -- what the seat holds it still holds, in the same way, and each part that it might ask for it may still ask for
   pub record KeepsHolding (seat later : SeatOf V E) : Type 0 where
     pub holds : (l : ℕ) → Holding seat l → Holding later l
     pub writes : (l : ℕ) → HoldingToWrite seat l → HoldingToWrite later l

@@ -6,12 +6,12 @@ use Rattle.rvalue.specs.Entries.{EntryFields}
 use Rattle.rstate.specs.Histories.{Beginning, IsLawfulFrom}
 use Rattle.rguard.specs.LentSeats.{SeatOf}
 
--- the events of the entries from a place on
+-- the events of the entries from a position on
 abbrev pub events_from : {E : Type 0} → ℕ → List (EntryFields E) → List Event
 events_from from entries = map (λ entry. entry.event) (drop from entries)
 
 module _ {V E : Type 0} where
-  -- Its pass is the one behind those of the seats, and the only one that is no seat. `began` is how the lock began
+  -- Its pass has the number after those of the seats, and is the only pass that is no seat. `began` is how the lock began
   pub record IsScribeOf (site : Site) (scribe : SeatOf V E) : Type 0 where
     pub gate : scribe.gate ≡ site.gate
     pub began : Beginning V

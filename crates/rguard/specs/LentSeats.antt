@@ -30,7 +30,7 @@ busy_after busy (Ask seat part) = busy
 abbrev pub is_busy : {E : Type 0} → List (EntryFields E) → Bool
 is_busy {E} mine = fold (λ busy (entry : EntryFields E). busy_after busy entry.event) false mine
 
--- the request is of resources that there are, and is admitted
+-- the request is of resources that exist, and is admitted
 pub record Suits {V : Type 0} (b : Beginning V) (request : RequestFields) : Type 0 where
   pub reads : IsTrue (all_below b.groups.q request.reads)
   pub writes : IsTrue (all_below b.groups.q request.writes)
@@ -61,7 +61,7 @@ module _ {V E : Type 0} where
     pub seen : IsPrefix seat.seen later.seen
     pub mine : later.mine ≡ seat.mine ++ more
 
-  -- it does so in one turn, which found a list that begins with what was seen, and these entries stand last
+  -- it does so in one turn, which found a list that begins with what was seen, and these entries come last
   pub record IsOneTurn (seat : SeatOf V E) (more : List (EntryFields E)) (later : SeatOf V E) : Type 0 where
     pub found : List (EntryFields E)
     pub begins : IsPrefix seat.seen found

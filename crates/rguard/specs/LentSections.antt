@@ -1,4 +1,4 @@
--- What sections keep that guards and waits have. All but what a seat has taken speaks of the history as the seat has seen it.
+-- What the sections of guards and waits keep. All but what a seat has taken is about the history as the seat has seen it.
 use Rattle.std.specs.Prelude.{◌≡◌, ℕ, ◌+◌, ◌<◌, ◌≤◌, ◌==◌, ◌&&◌, ◌⊎◌, Bool, true, false, IsTrue, Some, List, [], ◌∷◌, length, slice_get, if◌then◌else◌}
 use Rattle.std.specs.FinSet.{contains}
 use Rattle.std.specs.List.{list_any, AllByRecursion}
@@ -64,7 +64,7 @@ claim_reads n l c = (c.seat == n) && contains c.reads l
 abbrev pub claim_writes : ℕ → ℕ → Claim → Bool
 claim_writes n l c = (c.seat == n) && contains c.writes l
 
--- there is room for all that the claims of the seat read and write, which is no more than this
+-- there is room for all that the claims of the seat read and write, which is at most this
 pub record HasRoomWithin {V : Type 0} (claims : List Claimed) (n : ℕ) (lent : LentFields V) : Type 0 where
   pub most : Granted
   pub reads_in : (l : ℕ) → list_any (λ x. claim_reads n l x.claim) claims ≡ true → contains most.reads l ≡ true
@@ -84,15 +84,15 @@ module _ {V E : Type 0} where
   abbrev pub lock_seen : Beginning V → SeatOf V E → LockState
   lock_seen b seat = lock_after b seat.seen
 
-  -- what the seat holds there
+  -- what the seat holds after what it has seen
   abbrev pub held_at : Beginning V → SeatOf V E → Granted
   held_at b seat = holds_of (lock_seen b seat).claims seat.number
 
-  -- as the seat left the state, it had taken this
+  -- when the seat left the state, it had taken this
   abbrev pub HasTaken : SeatOf V E → Granted → Type 0
   HasTaken seat g = (last : Contents V E) → seat.last ≡ Some last → slice_get last.taken seat.number ≡ Some g
 
-  -- what a guard of this kind has beside what every guard has: one that only reads has no edits, an upgrade may rise, a nested request may ask
+  -- what a guard of this kind has besides what every guard has: one that only reads has no edits, an upgrade may rise, a nested request may ask
   abbrev pub IsAs : GuardKind → Beginning V → SectionFields V E → Type 0
   IsAs Read b s = AreShows s.acts
   IsAs Write b s = Unit {0}
@@ -115,14 +115,14 @@ module _ {V E : Type 0} (after : V → E → V) where
     pub are : AllByRecursion (λ copy. (opening : V) → slice_get b.values copy.0 ≡ Some opening → copy.1 ≡ value_edited s copy.0 opening) s.own
     pub unedited : (l : ℕ) → has l (places s.own) ≡ false → edits_in s.acts l ≡ []
 
-  -- just what the seat has taken is lent to the section, as the history that it has seen made it
+  -- just what the seat has taken is lent to the section, as the history that the seat has seen made it
   pub record HasLent (b : Beginning V) (g : Granted) (s : SectionFields V E) : Type 0 where
     pub taken : HasTaken s.seat g
     pub lent : IsLent b.seats g b.values (value_seen s.seat) (value_seen s.seat) s.lent
     pub copies : AreCopies b g s
 
 module _ {V E : Type 0} (after : V → E → V) (taken : V → E → Bool) (number : V → ℕ) where
-  -- The seat is one of the lock, which began so; what it has seen is lawful, and its own entries are those that it has made
+  -- The seat is one of the lock, which began like this; what it has seen is lawful, and its own entries are those that it has made
   pub record Knows (b : Beginning V) (site : Site) (seat : SeatOf V E) : Type 0 where
     pub gate : seat.gate ≡ site.gate
     pub opening : seat.opening ≡ Some b
@@ -138,7 +138,7 @@ module _ {V E : Type 0} (after : V → E → V) (taken : V → E → Bool) (numb
     pub held : AllByRecursion (λ act. IsTrue (is_held (reads_of (lock_after b seen) n) (writes_of (lock_after b seen) n) act)) acts
     pub answers : (openings : ℕ → V) → AreOpenings (IsListed b.values) openings → AnswersAreRight after taken number (λ l. value_of after (openings l) seen l) acts
 
-  -- what a guard keeps, of a lock that began so
+  -- what a guard keeps, of a lock that began like this
   pub record HoldsFrom (kind : GuardKind) (b : Beginning V) (s : SectionFields V E) : Type 0 where
     pub knows : Knows b s.site s.seat
     pub holding : is_not_holding (lock_seen b s.seat).claims s.seat.number ≡ false
@@ -151,7 +151,7 @@ module _ {V E : Type 0} (after : V → E → V) (taken : V → E → Bool) (numb
     pub began : Beginning V
     pub from : HoldsFrom kind began s
 
-  -- what a wait keeps, of a lock that began so. What the seat has taken is nothing at first, and in a wait for more what its guard had
+  -- what a wait keeps, of a lock that began like this. The seat has taken nothing at first; in a wait for more it has what its guard had
   pub record WaitsFrom (kind : GuardKind) (b : Beginning V) (s : SectionFields V E) : Type 0 where
     pub knows : Knows b s.site s.seat
     pub issued : has_request (lock_seen b s.seat).claims s.seat.number ≡ true
@@ -167,7 +167,7 @@ module _ {V E : Type 0} (after : V → E → V) (taken : V → E → Bool) (numb
     pub began : Beginning V
     pub from : WaitsFrom kind began s
 
-  -- The section may end: with its acts, just what the seat has taken comes home, what it has edited as edited
+  -- The section may end: with its acts, just what the seat has taken comes home, with the edits
   pub record EndsFrom (b : Beginning V) (s : SectionFields V E) : Type 0 where
     pub knows : Knows b s.site s.seat
     pub holding : is_not_holding (lock_seen b s.seat).claims s.seat.number ≡ false
@@ -179,7 +179,7 @@ module _ {V E : Type 0} (after : V → E → V) (taken : V → E → Bool) (numb
     pub began : Beginning V
     pub from : EndsFrom began s
 
--- the section was looked at in one turn: lock and acts are as they were, and this is whether nothing of its seat was pending
+-- the section was looked at in one turn: lock and acts are as they were, and the answer says whether nothing of its seat was pending
 pub record HasLooked {V E : Type 0} (before : SectionFields V E) (answer : Bool) (later : SectionFields V E) : Type 0 where
   pub site : later.site ≡ before.site
   pub acts : later.acts ≡ before.acts
@@ -187,7 +187,7 @@ pub record HasLooked {V E : Type 0} (before : SectionFields V E) (answer : Bool)
   pub turn : IsOneTurn before.seat [] later.seat
   pub ready : IsReady later.seat answer
 
--- the section is that of a request which the seat has issued in one turn, and this is whether nothing of it was pending then
+-- the section is that of a request which the seat has issued in one turn, and the answer says whether nothing of it was pending then
 pub record HasIssued {V E : Type 0} (site : Site) (seat : SeatOf V E) (request : RequestFields) (answer : Bool) (later : SectionFields V E) : Type 0 where
   pub site_is : later.site ≡ site
   pub no_acts : later.acts ≡ []

@@ -13,7 +13,7 @@ use Rattle.rguard.specs.declared.pending.Looked.{Looked}
 use Rattle.rguard.specs.declared.pending.Looked.TheVariants.{Ready, NotYet}
 
 module _ {T M E : Type 0} where
-  -- what a guard has
+  -- what contracts see of a guard, whichever it is
   abbrev pub fields_of : Guard T M E → GuardFields T E
   fields_of (Read guard) = guard
   fields_of (Write guard) = guard
@@ -33,14 +33,14 @@ module _ {T M E : Type 0} where
     pub acts : (fields_of guard).acts ≡ wait.acts
     pub kind : kind_of guard ≡ wait.kind
 
-  -- A look takes one turn. It is ready exactly where nothing of the seat is pending after what the seat has then seen
+  -- A look takes one turn. It is ready exactly if nothing of the seat is pending after what the seat has then seen
   abbrev pub LooksAt : WaitFields T E → Looked T M E → Type 0
   LooksAt wait (Ready guard) =
       IsAwaited wait guard × Goes wait.seat [] (fields_of guard).seat × IsOneTurn wait.seat [] (fields_of guard).seat × IsReady (fields_of guard).seat true
   LooksAt wait (NotYet next) =
       (next ≡ record wait { seat = next.seat }) × Goes wait.seat [] next.seat × IsOneTurn wait.seat [] next.seat × IsReady next.seat false
 
-  -- the guard is the one that was waited for, and its seat went on from that of the wait with no entry until nothing of it was pending
+  -- the guard is the one that was waited for, and its seat went on from that of the wait, with no entry, until nothing of it was pending
   pub record HasAwaited (wait : WaitFields T E) (guard : Guard T M E) : Type 0 where
     pub awaited : IsAwaited wait guard
     pub goes : Goes wait.seat [] (fields_of guard).seat
@@ -54,7 +54,7 @@ module _ {T M E : Type 0} where
     pub goes : Goes seat (bare (Issue seat.number request) ∷ []) (fields_of guard).seat
     pub ready : IsReady (fields_of guard).seat true
 
--- The request was issued and looked at in one turn: its guard is there exactly where nothing of the seat was pending then
+-- The request was issued and looked at in one turn: its guard is there exactly if nothing of the seat was pending then
 abbrev pub BeginsWithLook : {T M E : Type 0} → Site → SeatOf T E → RequestFields → Looked T M E → Type 0
 BeginsWithLook site seat request (Ready guard) =
     HasAcquired site seat request guard × IsOneTurn seat (bare (Issue seat.number request) ∷ []) (fields_of guard).seat

@@ -9,7 +9,7 @@ use Rattle.rstate.specs.Histories.{Beginning}
 use Rattle.rguard.specs.Seats.{SeatOf, IsOf, IsIdle}
 use Rattle.rguard.specs.Guards.{Holding, HoldingToWrite}
 
--- all resources that there may be, of which those of one set are declared together
+-- all resources that there may be, where those of one set are declared to be read together
 abbrev pub all_with : Set → ReadGroups
 all_with group = record { q = RESOURCES; groups = group ∷ [] }
 

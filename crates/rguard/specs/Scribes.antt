@@ -1,2 +1,2 @@
--- The scribe of a lock: the words of the crate below.
+-- The scribe of a lock, for callers.
 pub use Rattle.rguard.specs.LentScribes.{IsScribeOf, HasReadLawful, events_from}

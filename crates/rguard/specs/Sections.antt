@@ -14,12 +14,12 @@ use Rattle.rguard.specs.Guards.{GuardFields}
 abbrev pub write_of : Set → RequestFields
 write_of set = record { kind = Write; reads = empty; writes = set; first = empty; len = 1; later = 0 }
 
--- the request to read these
+-- the request to read these, in a section of length 1
 abbrev pub read_of : Set → RequestFields
 read_of set = record { kind = Read; reads = set; writes = empty; first = empty; len = 1; later = 0 }
 
 module _ {V E : Type 0} where
-  -- the seat entered a section: it issued this one request, and the guard of that has done nothing yet
+  -- the seat entered a section: it issued this one request, and the guard has done nothing yet
   pub record HasEntered (request : RequestFields) (seat : SeatOf V E) (guard : GuardFields V E) : Type 0 where
     pub issued : Goes seat (bare (Issue seat.number request) ∷ []) guard.seat
     pub fresh : guard.acts ≡ []
@@ -36,7 +36,7 @@ module _ {V E : Type 0} where
   abbrev pub MadeNothing : RequestFields → SeatOf V E → SeatOf V E → Type 0
   MadeNothing request seat later = Goes seat [] later ⊎ MadeSection request [] seat later
 
--- the entries of so many whole sections of one seat, each of which issues this request and finishes with these acts
+-- the entries of so many whole sections of a seat, each of which issues this request and finishes with these acts
 abbrev pub sections_of : {E : Type 0} → ℕ → RequestFields → List (Act E) → ℕ → List (EntryFields E)
 sections_of seat request acts zero = []
 sections_of seat request acts (suc count) = sections_of seat request acts count ++ (bare (Issue seat request) ∷ record { event = Finish seat; acts = acts } ∷ [])

@@ -15,11 +15,11 @@ use std::alloc::{AllocError, Global};
 use std::sync::Wait;
 
 impl<T: Editable, M: Machine> Lock<State<T, M>> {
-    /// A seat issues a request, and waits until nothing of it is pending: looks and rests in turn.
+    /// A seat issues a request and waits until nothing of it is pending, looking and resting in turn.
     ///
     /// # Errors
     ///
-    /// Want of memory. Nothing was issued then, and the seat comes back.
+    /// Out of memory. Nothing was issued, and the seat comes back.
     pub fn acquire<'a, R: Wait>(
         &'a self,
         rt: &R,

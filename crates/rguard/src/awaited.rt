@@ -10,7 +10,7 @@ use rset::RESOURCES;
 use rstate::Lent;
 use std::alloc::{AllocError, Global};
 
-/// What a wait is for: the kind of the guard, and what that needs beside its section.
+/// What a wait is for: the kind of guard, and what that needs besides its section.
 #[derive(Drop)]
 pub(crate) enum Awaited<T> {
     Read,
@@ -24,7 +24,7 @@ impl<T: Drop> Awaited<T> {
     ///
     /// # Errors
     ///
-    /// Want of memory.
+    /// Out of memory.
     pub(crate) fn by(alloc: Global, kind: Kind) -> Result<Awaited<T>, AllocError>
         ensures { IfOk result (λ awaited. awaited_kind awaited ≡ kind_for kind) }
     {
@@ -44,7 +44,7 @@ impl<T: Drop> Awaited<T> {
 ///
 /// # Errors
 ///
-/// Want of memory.
+/// Out of memory.
 pub(crate) fn room_for_all<T: Drop>(alloc: Global) -> Result<Lent<T>, AllocError>
     ensures { IfOk result (λ lent. lent ≡ no_loans) }
 {

@@ -1,4 +1,4 @@
-//! What is left of a gate that is closed.
+//! What is left of a closed gate.
 ghost use Rattle.std.specs.Prelude.{◌≡◌, ℕ, ◌<◌, All, Any, map};
 ghost use Rattle.std.specs.Arc.{arc_value};
 ghost use Rattle.rguard.specs.LentScribes.{IsScribeOf};
@@ -16,7 +16,8 @@ use std::marker::Model;
 use std::snapshot::Snapshot;
 use std::sync::Arc;
 
-/// That a gate over the locked state was closed which kept these entries. Only this closing makes one, and it cannot be copied.
+/// Proof that a gate over the locked state was closed and had kept these entries. Only this closing makes a receipt, and it
+/// cannot be copied.
 ///
 /// Contracts see it as the list of the entries.
 #[derive(Drop)]
@@ -36,17 +37,17 @@ impl<E> Model for Receipt<E> {
     ghost view = { λ a. a.list.value.entries };
 }
 
-/// What a gate that is closed leaves: its history, a share of the value of each resource, and the receipt.
+/// What a closed gate leaves: its history, a share of the value of each resource, and the receipt.
 pub type Closed<T> = (
     History<<T as Editable>::Edit>,
     Vec<Arc<T, Global>>,
     Receipt<<T as Editable>::Edit>,
 );
 
-/// Closes the gate with all of its seats, each of which is idle, and gives its machine too. No memory is taken.
+/// Closes the gate with all of its seats, all of them idle, and gives its machine too. Takes no memory.
 ///
-/// The history is lawful from the beginning, begins with what each seat has seen, and has just what each seat has made as its entries. The values
-/// are those that the history makes. Those who watch the machine have been told just the steps of the history.
+/// The history is lawful from the beginning, begins with what each seat has seen, and has for each seat just the entries that it
+/// has made. The values are those that the history makes. Watchers of the machine have been given just the steps of the history.
 pub fn close_whole<T: Editable, M: Machine>(
     gate: CountedGate<State<T, M>>,
     seats: Vec<Seat<T, M>>,
@@ -66,10 +67,10 @@ pub fn close_whole<T: Editable, M: Machine>(
     ((history, values, Receipt { list }), machine)
 }
 
-/// Closes the gate with all of its seats, each of which is idle. No memory is taken.
+/// Closes the gate with all of its seats, all of them idle. Takes no memory.
 ///
-/// The history is lawful from the beginning, begins with what each seat has seen, and has just what each seat has made as its entries. The values
-/// are those that the history makes.
+/// The history is lawful from the beginning, begins with what each seat has seen, and has for each seat just the entries that it
+/// has made. The values are those that the history makes.
 pub fn close<T: Editable, M: Machine>(
     gate: CountedGate<State<T, M>>,
     seats: Vec<Seat<T, M>>,
@@ -84,9 +85,9 @@ pub fn close<T: Editable, M: Machine>(
     closed
 }
 
-/// Closes the gate with all of its seats, each of which is idle, and its scribe. No memory is taken.
+/// Closes the gate with all of its seats, all of them idle, and its scribe. Takes no memory.
 ///
-/// The same holds, and the history begins with what the scribe has seen.
+/// The same holds as after `close`, and the history begins with what the scribe has seen.
 pub fn close_fed<T: Editable, M: Machine>(
     gate: CountedGate<State<T, M>>,
     seats: Vec<Seat<T, M>>,

@@ -26,7 +26,7 @@ impl<T> Model for Own<T> {
     ghost view = { λ a. (a.place, a.value) };
 }
 
-/// Shares of such a copy, for the home of its resource. Contracts see the resource and the shares.
+/// Shares of such a copy, for its resource's home. Contracts see the resource and the shares.
 #[derive(Drop)]
 pub struct Made<T> {
     place: u8,
@@ -57,7 +57,8 @@ fn own_at<T>(own: &[Own<T>], place: u8) -> Option<&T>
     None
 }
 
-/// Lends the value of the resource in a section with these copies, to which this is lent: its own copy where there is one. No memory is taken.
+/// Lends the value of a resource in a section that has these copies and to which this is lent: its own copy if there is one.
+/// Takes no memory.
 pub fn value_of<'a, T>(own: &'a [Own<T>], lent: &'a Lent<T>, place: u8) -> &'a T
     requires { IsSome (value_among own.now lent.now place) }
     ensures { value_among own.now lent.now place ≡ Some result.now }
@@ -72,7 +73,7 @@ pub fn value_of<'a, T>(own: &'a [Own<T>], lent: &'a Lent<T>, place: u8) -> &'a T
 ///
 /// # Errors
 ///
-/// Want of memory.
+/// Out of memory.
 pub fn shares_of<T: Editable>(
     alloc: Global,
     own: &[Own<T>],
@@ -90,7 +91,7 @@ pub fn shares_of<T: Editable>(
     Ok(made)
 }
 
-/// Puts these shares in the place of those that were lent, one after another. No memory is taken.
+/// Replaces the lent shares by these, one resource after another. Takes no memory.
 pub fn replace_all<T: Drop>(lent: &mut Lent<T>, made: Vec<Made<T>>)
     requires { CanReplace lent.old.writes made.items }
     ensures { lent.new ≡ record lent.old { writes = with_shares lent.old.writes made.items } }
@@ -109,11 +110,11 @@ fn replace_one<T: Drop>(lent: &mut Lent<T>, made: Made<T>)
     lent.replace(place, shares);
 }
 
-/// Copies the value of the resource that is lent, if there is no copy of it yet; where there is one, nothing changes.
+/// Copies the value of a resource that is lent, if there is no copy of it yet; if there is, nothing changes.
 ///
 /// # Errors
 ///
-/// Want of memory. The copies are then as they were.
+/// Out of memory. The copies are then as they were.
 pub fn with_copy<T: Editable>(
     alloc: Global,
     own: &mut Vec<Own<T>>,
@@ -133,7 +134,7 @@ pub fn with_copy<T: Editable>(
     Ok(())
 }
 
-/// Edits the copy of the resource's value, and answers whether the edit was taken. No memory is taken.
+/// Edits the copy of the resource's value, and answers whether the edit was taken. Takes no memory.
 pub fn edit_own<T: Editable>(own: &mut Vec<Own<T>>, place: u8, edit: &T::Edit) -> bool
     requires { IsSome (at_place own.old.items place) }
     ensures own { (value : T) → at_place own.old.items place ≡ Some value → own.new.items ≡ replaced own.old.items place (T.after value edit.now) }
@@ -144,7 +145,7 @@ pub fn edit_own<T: Editable>(own: &mut Vec<Own<T>>, place: u8, edit: &T::Edit) -
     copy.value.apply(edit)
 }
 
-// Where the copy stands.
+// Where the copy is.
 fn find_own<T>(own: &[Own<T>], place: u8) -> usize
     requires { IsSome (at_place own.now place) }
     ensures index { result ≡ index_of own.now place }

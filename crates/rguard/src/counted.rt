@@ -8,7 +8,7 @@ use rset::ResourceSet;
 use std::marker::Model;
 use std::sync::Wait;
 
-/// A gate, how many of its passes are seats, and a post for each seat. Contracts see which gate it is, and the two numbers.
+/// A gate, how many of its passes are seats, and a post for each seat. Contracts see which gate it is and the two numbers.
 #[derive(Drop)]
 pub struct CountedGate<S: Kept> {
     pub(crate) gate: Gate<S>,
@@ -28,7 +28,7 @@ impl<S: Kept> Model for CountedGate<S> {
 }
 
 impl<S: Kept> CountedGate<S> {
-    /// This gate, of whose passes so many are seats, and the posts of these.
+    /// Makes it from a gate, the number of its passes that are seats, and their posts.
     pub fn new(gate: Gate<S>, seats: u8, posts: Posts) -> CountedGate<S>
         requires count { seats ≤ gate.passes }
         requires some { 0 < seats }
@@ -51,7 +51,8 @@ impl<S: Kept> CountedGate<S> {
         gate
     }
 
-    /// Gives the state back, and ends the turn, as [`Gate::leave`] does. Then a token is left for each of these seats but that of the turn.
+    /// Gives the state back and ends the turn, as [`Gate::leave`] does. Then leaves a token for each of these seats but that of
+    /// the turn.
     pub(crate) fn leave<R: Wait>(&self, rt: &R, turn: Turn<S>, told: ResourceSet) -> Pass<S>
         requires gate { turn.pass.gate ≡ self.now.gate }
         requires opening { turn.pass.opening ≡ Some (S.opening turn.state) }
@@ -64,7 +65,7 @@ impl<S: Kept> CountedGate<S> {
         pass
     }
 
-    /// Takes a token of the seat with this number, and waits for one where there is none.
+    /// Takes a token of the seat with this number; waits if there is none.
     pub(crate) fn rest<R: Wait>(&self, rt: &R, number: u8)
         requires { number < self.now.seats }
     {

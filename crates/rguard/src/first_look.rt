@@ -1,4 +1,4 @@
-//! A section that begins with a look, in the turn of its issue.
+//! A section that begins with a look in the turn of its issue.
 ghost use Rattle.std.specs.Prelude.{◌≡◌, true, false, [], IfOk, IfErr};
 ghost use Rattle.rguard.specs.LentSeats.{IsOf, IsIdle, SuitsSeat, Goes, IsOneTurn};
 ghost use Rattle.rguard.specs.LentGuards.{kind_for};
@@ -15,12 +15,12 @@ use std::alloc::{AllocError, Global};
 use std::sync::Wait;
 
 impl<'a, T: Editable, M: Machine> Section<'a, T, M> {
-    /// A seat issues a request and looks, in one turn. The section is that of a guard, to which all is lent that its seat holds (`Ok`), or
-    /// waits (`Err`).
+    /// A seat issues a request and looks, in one turn. `Ok` has the section of a guard, to which all is lent that its seat holds;
+    /// `Err` has a section that waits.
     ///
     /// # Errors
     ///
-    /// Want of memory. Nothing was issued then, and the seat comes back.
+    /// Out of memory. Nothing was issued, and the seat comes back.
     pub fn issue_and_look<R: Wait>(
         lock: &'a CountedGate<State<T, M>>,
         rt: &R,

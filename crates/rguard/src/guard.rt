@@ -15,7 +15,7 @@ use crate::write::WriteGuard;
 use rmodel::Machine;
 use rvalue::Editable;
 
-/// A guard: a section that its seat is in. Which one a request gets is told by its kind.
+/// A guard: a section that its seat is in. The kind of the request decides which it is.
 pub enum Guard<'a, T: Editable, M: Machine> {
     /// The guard of a read.
     Read(ReadGuard<'a, T, M>),
@@ -27,7 +27,7 @@ pub enum Guard<'a, T: Editable, M: Machine> {
     Nest(NestGuard<'a, T, M>),
 }
 
-/// The guard that was waited for, of this section.
+/// The guard that was waited for, over this section.
 pub(crate) fn guard_of<'a, T: Editable, M: Machine>(
     awaited: Awaited<T>,
     section: Section<'a, T, M>,

@@ -7,7 +7,7 @@ ghost use Rattle.rguard.specs.declared.kind.GuardKind.TheVariants.{Read, Write, 
 use rstate::Lent;
 use std::alloc::Global;
 
-/// A kind of guards, as a type: what a guard of the kind has beside its section.
+/// A kind of guards, as a type: what a guard of the kind has besides its section.
 pub trait Guarding: Drop {
     /// The kind.
     ghost kind: { GuardKind };
@@ -15,19 +15,19 @@ pub trait Guarding: Drop {
 
 /// A kind whose guards may edit.
 pub trait Editing: Guarding {
-    /// They may.
+    /// Its guards may edit.
     ghost may: { may_edit Self.kind ≡ true };
 }
 
-/// A guard that reads has its section alone.
+/// A guard that reads has only its section.
 #[derive(Drop)]
 pub struct Reading;
 
-/// So has one that writes.
+/// A guard that writes has only its section.
 #[derive(Drop)]
 pub struct Writing;
 
-/// When an upgrade rises it gives back what it was lent, and is lent other values then: the room for these.
+/// An upgrade that rises gives back what it was lent and is lent other values: the room for these.
 #[derive(Drop)]
 pub struct Rising<T> {
     pub(crate) next: Lent<T>,
@@ -35,7 +35,7 @@ pub struct Rising<T> {
     ghost room: { next ≡ no_loans },
 }
 
-/// A guard of a nested request has its section alone.
+/// A guard of a nested request has only its section.
 #[derive(Drop)]
 pub struct Nesting;
 

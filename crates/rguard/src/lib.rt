@@ -1,10 +1,8 @@
 //! Waits and guards over the locked state.
 //!
-//! The copies that a section edits, of what is lent to it, and the shares of them that go home.
-//!
-//! What is lent to a seat: its section, from the issue of a request to the finish.
-//!
-//! How a gate over the locked state begins, and what is left of one that is closed.
+//! [`Rnlp`] is a runtime, and a [`Seat`] issues its requests. [`Pending`] is a wait, and a [`Guard`] what comes of it: it lends
+//! the values that its seat holds, records the acts of the section, and gives the seat back. Each is a thin type round a
+//! section, which edits copies of what it is lent. Closing a runtime gives the history, the values and a [`Receipt`].
 #![tactic(auto)]
 
 mod acquiring;

@@ -23,7 +23,7 @@ use std::alloc::{AllocError, Global};
 use std::marker::Model;
 use std::sync::Wait;
 
-/// A state behind a gate, which threads may share. Contracts see which gate it is, and the numbers of its seats and of its passes.
+/// A state behind a gate, which threads may share. Contracts see which gate it is, and its numbers of seats and passes.
 #[derive(Drop)]
 pub struct Lock<S: Kept> {
     pub(crate) gate: CountedGate<S>,
@@ -40,7 +40,7 @@ impl<S: Kept> Model for Lock<S> {
 /// A runtime of reader and writer locks over many resources: the locked state behind a gate.
 pub type Rnlp<T, M> = Lock<State<T, M>>;
 
-/// The same over a machine that is watched, and a seat of it.
+/// The same over a machine that is watched.
 pub type WatchedRnlp<T, M, A> = Rnlp<T, Watching<M, A>>;
 
 /// A seat of a runtime whose machine is watched.
@@ -50,12 +50,12 @@ pub type WatchedSeat<T, M, A> = Seat<T, Watching<M, A>>;
 pub type FedRnlp<T, M> = (Rnlp<T, M>, Vec<Seat<T, M>>, Scribe<T, M>);
 
 impl<T: Editable, M: Machine> Lock<State<T, M>> {
-    /// A runtime over a machine at which nothing was done, with a value for each resource, and its seats, numbered from 0 in order.
-    /// No seat has seen or made anything.
+    /// A runtime over a machine at which nothing was done, with a value for each resource, and its seats, numbered from 0 in
+    /// order. No seat has seen or made anything.
     ///
     /// # Errors
     ///
-    /// Want of memory. Machine and values are dropped then.
+    /// Out of memory. Machine and values are dropped.
     pub fn new(
         alloc: Global,
         machine: M,
@@ -78,10 +78,10 @@ impl<T: Editable, M: Machine> Lock<State<T, M>> {
         }
     }
 
-    /// Closes the runtime with all of its seats, each of which is idle. No memory is taken.
+    /// Closes the runtime with all of its seats, all of them idle. Takes no memory.
     ///
-    /// The history is lawful from the beginning, begins with what each seat has seen, and has just what each seat has made as its entries. The values
-    /// are those that the history makes.
+    /// The history is lawful from the beginning, begins with what each seat has seen, and has for each seat just the entries that
+    /// it has made. The values are those that the history makes.
     pub fn close(self, seats: Vec<Seat<T, M>>) -> Closed<T>
         requires of { All (λ seat. IsOf self seat) seats.items }
         requires idle { All (λ seat. IsIdle seat) seats.items }
@@ -93,11 +93,12 @@ impl<T: Editable, M: Machine> Lock<State<T, M>> {
         crate::closing::close(gate, seats)
     }
 
-    /// The same as `new`, with a scribe, which has seen nothing and knows how the runtime began. Such a runtime is closed by `close_fed`.
+    /// The same as `new`, with a scribe, which has seen nothing and knows how the runtime began. Close such a runtime by
+    /// `close_fed`.
     ///
     /// # Errors
     ///
-    /// Want of memory. Machine and values are dropped then.
+    /// Out of memory. Machine and values are dropped.
     pub fn new_fed(
         alloc: Global,
         machine: M,
@@ -123,11 +124,12 @@ impl<T: Editable, M: Machine> Lock<State<T, M>> {
         }
     }
 
-    /// Reads, in one turn, the events of the history from a place on that the scribe has seen. The scribe has then seen the history, which is lawful.
+    /// Reads, in one turn, the events of the history from a position on that the scribe has seen. The scribe has then seen the
+    /// history, which is lawful.
     ///
     /// # Errors
     ///
-    /// Want of memory. Nothing was read then, and the scribe comes back.
+    /// Out of memory. Nothing was read, and the scribe comes back.
     pub fn read_on<R: Wait>(
         &self,
         rt: &R,
@@ -150,9 +152,9 @@ impl<T: Editable, M: Machine> Lock<State<T, M>> {
         crate::scribe::read_on(&self.gate, rt, scribe, from, into)
     }
 
-    /// Closes the runtime with all of its seats, each of which is idle, and its scribe. No memory is taken.
+    /// Closes the runtime with all of its seats, all of them idle, and its scribe. Takes no memory.
     ///
-    /// The same holds as behind `close`, and the history begins with what the scribe has seen.
+    /// The same holds as after `close`, and the history begins with what the scribe has seen.
     pub fn close_fed(self, seats: Vec<Seat<T, M>>, scribe: Scribe<T, M>) -> Closed<T>
         requires of { All (λ seat. IsOf self seat) seats.items }
         requires idle { All (λ seat. IsIdle seat) seats.items }
@@ -168,11 +170,12 @@ impl<T: Editable, M: Machine> Lock<State<T, M>> {
 }
 
 impl<T: Editable, M: Machine, A: Audience> Lock<State<T, Watching<M, A>>> {
-    /// The same as [`Lock::new`]; and those who watch are put under the lock with the machine, and are told each event in the turn that adds it.
+    /// The same as [`Lock::new`], with watchers: they are under the lock with the machine, and are given each event in the turn
+    /// that adds it.
     ///
     /// # Errors
     ///
-    /// Want of memory. Machine, values and those who watch are dropped then.
+    /// Out of memory. Machine, values and watchers are dropped.
     pub fn new_watched(
         alloc: Global,
         machine: M,
@@ -201,8 +204,8 @@ impl<T: Editable, M: Machine, A: Audience> Lock<State<T, Watching<M, A>>> {
         }
     }
 
-    /// The same as [`Lock::close`], and hands back those who watched; None where nobody did. They have been told just the steps of the history,
-    /// in order. No memory is taken.
+    /// The same as [`Lock::close`], and hands back the watchers, or None if there were none. They have been given just the steps
+    /// of the history, in order. Takes no memory.
     pub fn close_watched(self, seats: Vec<WatchedSeat<T, M, A>>) -> (Closed<T>, Option<A>)
         requires of { All (λ seat. IsOf self seat) seats.items }
         requires idle { All (λ seat. IsIdle seat) seats.items }

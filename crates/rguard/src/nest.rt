@@ -18,12 +18,13 @@ use std::sync::Wait;
 pub type NestGuard<'a, T, M> = SectionGuard<'a, T, M, Nesting>;
 
 impl<'a, T: Editable, M: Machine> SectionGuard<'a, T, M, Nesting> {
-    /// Asks for a further part of what its request is about, in one turn, and waits for it. Its values and acts stay with the wait.
+    /// Asks for a further part of what its request is about, in one turn, and waits for it. Its values and acts stay with the
+    /// wait.
     ///
     /// # Errors
     ///
-    /// Want of memory. Nothing was asked for then, and the guard comes back with its acts and values: it holds what it held, and may ask
-    /// again.
+    /// Out of memory. Nothing was asked for, and the guard comes back with its acts and values: it holds what it held, and may
+    /// ask again.
     pub fn begin_ask<R: Wait>(
         self,
         rt: &R,
@@ -54,12 +55,13 @@ impl<'a, T: Editable, M: Machine> SectionGuard<'a, T, M, Nesting> {
         }
     }
 
-    /// Asks for a further part, and waits until nothing of the seat is pending: looks and rests in turn. Its values and acts stay with it.
+    /// Asks for a further part, and waits until nothing of the seat is pending, looking and resting in turn. Its values and acts
+    /// stay with it.
     ///
     /// # Errors
     ///
-    /// Want of memory. Nothing was asked for then, and the guard comes back with its acts and values: it holds what it held, and may ask
-    /// again.
+    /// Out of memory. Nothing was asked for, and the guard comes back with its acts and values: it holds what it held, and may
+    /// ask again.
     pub fn ask<R: Wait>(
         self,
         rt: &R,

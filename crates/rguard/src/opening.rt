@@ -21,7 +21,7 @@ use std::alloc::{AllocError, Global};
 ///
 /// # Errors
 ///
-/// Want of memory. Machine and values are dropped then.
+/// Out of memory. Machine and values are dropped.
 pub fn open<T: Editable, M: Machine>(
     alloc: Global,
     machine: M,
@@ -53,11 +53,11 @@ pub fn open<T: Editable, M: Machine>(
 /// A new gate, its seats, and its scribe.
 pub type FedOpening<T, M> = (CountedGate<State<T, M>>, Vec<Seat<T, M>>, Scribe<T, M>);
 
-/// The same with a scribe, which has seen nothing: its pass is the one behind those of the seats.
+/// The same with a scribe, which has seen nothing: its pass has the number after those of the seats.
 ///
 /// # Errors
 ///
-/// Want of memory. Machine and values are dropped then.
+/// Out of memory. Machine and values are dropped.
 pub fn open_fed<T: Editable, M: Machine>(
     alloc: Global,
     machine: M,

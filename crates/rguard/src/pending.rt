@@ -19,7 +19,7 @@ use std::alloc::{AllocError, Global};
 use std::marker::Model;
 use std::sync::Wait;
 
-/// A request that was issued, has risen, or asks for more, and for which its seat waits. It must be spent.
+/// A request that was issued, has risen, or asks for more, and that its seat waits for. It must be spent.
 pub struct Pending<'a, T: Editable, M: Machine> {
     pub(crate) section: Section<'a, T, M>,
     pub(crate) awaited: Awaited<T>,
@@ -45,16 +45,16 @@ impl<'a, T: Editable, M: Machine> Model for Pending<'a, T, M> {
 pub enum Looked<'a, T: Editable, M: Machine> {
     /// Nothing of the seat is pending.
     Ready(Guard<'a, T, M>),
-    /// Something is, and the seat waits still.
+    /// Something is, and the seat still waits.
     NotYet(Pending<'a, T, M>),
 }
 
 impl<T: Editable, M: Machine> Lock<State<T, M>> {
-    /// A seat issues a request, in one turn, and waits for it. All room is made before: a look takes no memory.
+    /// A seat issues a request, in one turn, and waits for it. All room is made first, so a look takes no memory.
     ///
     /// # Errors
     ///
-    /// Want of memory. Nothing was issued then, and the seat comes back.
+    /// Out of memory. Nothing was issued, and the seat comes back.
     pub fn begin<'a, R: Wait>(
         &'a self,
         rt: &R,
@@ -83,11 +83,11 @@ impl<T: Editable, M: Machine> Lock<State<T, M>> {
 }
 
 impl<T: Editable, M: Machine> Lock<State<T, M>> {
-    /// A seat issues a request and looks, in one turn. All room is made before: a look takes no memory.
+    /// A seat issues a request and looks, in one turn. All room is made first, so a look takes no memory.
     ///
     /// # Errors
     ///
-    /// Want of memory. Nothing was issued then, and the seat comes back.
+    /// Out of memory. Nothing was issued, and the seat comes back.
     pub fn begin_and_look<'a, R: Wait>(
         &'a self,
         rt: &R,
@@ -117,8 +117,8 @@ impl<T: Editable, M: Machine> Lock<State<T, M>> {
 }
 
 impl<'a, T: Editable, M: Machine> Pending<'a, T, M> {
-    /// Lends the seat that waits. It has no turn. What it has seen is lawful from how the lock began, and its own
-    /// entries there are those that it made. No memory is taken.
+    /// Lends the seat that waits, which has no turn. What it has seen is lawful from how the lock began, and its own entries
+    /// there are those that it made. Takes no memory.
     pub fn seat(&self) -> &Seat<T, M>
         ensures seat { result.now ≡ self.now.seat }
         ensures lawful { HasSeenLawful T.after T.taken T.number self.now.seat }
@@ -127,7 +127,7 @@ impl<'a, T: Editable, M: Machine> Pending<'a, T, M> {
         &self.section.seat
     }
 
-    /// Looks, in one turn, whether nothing of the seat is pending. No memory is taken.
+    /// Looks, in one turn, whether nothing of the seat is pending. Takes no memory.
     pub fn look<R: Wait>(self, rt: &R) -> Looked<'a, T, M>
         ensures { LooksAt self.entry result }
     {
@@ -138,7 +138,7 @@ impl<'a, T: Editable, M: Machine> Pending<'a, T, M> {
         }
     }
 
-    /// Rests between two looks, until the seat is told of an event that gave it something, as far as it was not told already.
+    /// Rests between two looks, until the seat is notified of an event that gave it something; a notice from before counts.
     pub fn rest<R: Wait>(self, rt: &R) -> Pending<'a, T, M>
         ensures { result ≡ self.entry }
     {

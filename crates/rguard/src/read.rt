@@ -14,7 +14,7 @@ use std::sync::Wait;
 pub type ReadGuard<'a, T, M> = SectionGuard<'a, T, M, Reading>;
 
 impl<'a, T: Editable, M: Machine> SectionGuard<'a, T, M, Reading> {
-    /// Ends the section: its acts are told, and what was lent to it goes home. No memory is taken.
+    /// Ends the section: its acts are recorded, and what was lent to it goes home. Takes no memory.
     pub fn finish<R: Wait>(self, rt: &R) -> Seat<T, M>
         ensures goes { Goes self.entry.seat (record { event = Finish self.entry.seat.number; acts = self.entry.acts } ∷ []) result }
         ensures turn { IsOneTurn self.entry.seat (record { event = Finish self.entry.seat.number; acts = self.entry.acts } ∷ []) result }

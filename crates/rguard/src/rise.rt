@@ -19,7 +19,7 @@ use std::sync::Wait;
 pub type RiseGuard<'a, T, M> = SectionGuard<'a, T, M, Rising<T>>;
 
 impl<'a, T: Editable, M: Machine> SectionGuard<'a, T, M, Rising<T>> {
-    /// Ends the section: its acts are told, and what was lent to it goes home. No memory is taken.
+    /// Ends the section: its acts are recorded, and what was lent to it goes home. Takes no memory.
     pub fn finish<R: Wait>(self, rt: &R) -> Seat<T, M>
         ensures goes { Goes self.entry.seat (record { event = Finish self.entry.seat.number; acts = self.entry.acts } ∷ []) result }
         ensures turn { IsOneTurn self.entry.seat (record { event = Finish self.entry.seat.number; acts = self.entry.acts } ∷ []) result }
@@ -29,7 +29,8 @@ impl<'a, T: Editable, M: Machine> SectionGuard<'a, T, M, Rising<T>> {
         section.end(rt)
     }
 
-    /// Rises, in one turn: the shows so far are told, what was lent goes home, and the seat waits to write what it read. No memory is taken.
+    /// Rises, in one turn: the shows so far are recorded, what was lent goes home, and the seat waits to write what it read.
+    /// Takes no memory.
     pub fn begin_rise<R: Wait>(self, rt: &R) -> Pending<'a, T, M>
         ensures site { result.site ≡ self.entry.site }
         ensures kind { result.kind ≡ GuardKind.Write }
@@ -46,7 +47,7 @@ impl<'a, T: Editable, M: Machine> SectionGuard<'a, T, M, Rising<T>> {
         }
     }
 
-    /// Rises, and waits until nothing of the seat is pending: looks and rests in turn. No memory is taken.
+    /// Rises, and waits until nothing of the seat is pending, looking and resting in turn. Takes no memory.
     pub fn rise<R: Wait>(self, rt: &R) -> WriteGuard<'a, T, M>
         ensures site { result.site ≡ self.entry.site }
         ensures acts { result.acts ≡ [] }

@@ -15,11 +15,11 @@ use std::sync::Wait;
 /// A pass at the gate of a runtime that is no seat: a right to read the history.
 pub type Scribe<T, M> = Pass<State<T, M>>;
 
-/// Reads, in one turn, the events of the history from a place on that the scribe has seen.
+/// Reads, in one turn, the events of the history from a position on that the scribe has seen.
 ///
 /// # Errors
 ///
-/// Want of memory. Nothing was read then, and the scribe comes back, which has seen the history as it was at the turn.
+/// Out of memory. Nothing was read, and the scribe comes back, having seen the history as it was at the turn.
 pub fn read_on<R: Wait, T: Editable, M: Machine>(
     lock: &CountedGate<State<T, M>>,
     rt: &R,
@@ -49,7 +49,7 @@ pub fn read_on<R: Wait, T: Editable, M: Machine>(
     }
 }
 
-// Adds the events of the entries from a place on.
+// Adds the events of the entries from a position on.
 fn add_events<E>(entries: &[Entry<E>], from: usize, into: &mut Vec<Event>) -> Result<(), AllocError>
     requires { from ≤ length entries.now }
     ensures ok { OnOk result (into.new.items ≡ into.old.items ++ events_from from entries.now) }

@@ -18,20 +18,21 @@ use std::alloc::{AllocError, Global};
 use std::marker::Model;
 use std::sync::Wait;
 
-/// A seat at a runtime: a right to issue requests there, one after another. It is a pass at the gate, so whoever has it in hand has no
+/// A seat at a runtime: a right to issue requests there, one after another. It is a pass at the gate, so whoever has it has no
 /// turn.
 pub type Seat<T, M> = Pass<State<T, M>>;
 
 /// The seat of a guard or a wait, with what is lent to it, its copies of what it has edited, and its acts. It must be spent.
 ///
-/// A section promises nothing by itself: each call asks for what has to hold of it (`Waits`, `Holds`, `Ends`), and says what holds then.
+/// A section promises nothing by itself: each call asks for what has to hold of it (`Waits`, `Holds`, `Ends`), and says what
+/// holds afterwards.
 pub struct Section<'a, T: Editable, M: Machine> {
     pub(crate) lock: &'a CountedGate<State<T, M>>,
     /// The seat, which has no turn.
     pub seat: Seat<T, M>,
     pub(crate) lent: Lent<T>,
     pub(crate) own: Vec<Own<T>>,
-    /// What the section did so far, in order.
+    /// What the section has done so far, in order.
     pub acts: Vec<Act<T::Edit>>,
 }
 
@@ -48,7 +49,7 @@ impl<'a, T: Editable, M: Machine> Model for Section<'a, T, M> {
 }
 
 impl<'a, T: Editable, M: Machine> Section<'a, T, M> {
-    /// Lends the value of a resource that the section holds. No memory is taken.
+    /// Lends the value of a resource that the section holds. Takes no memory.
     pub fn get(&self, place: u8) -> &T
         requires holds { (kind : GuardKind) × Holds T.after T.taken T.number kind self.now }
         requires held { Holding self.now.seat place }
@@ -57,11 +58,11 @@ impl<'a, T: Editable, M: Machine> Section<'a, T, M> {
         value_of(&self.own, &self.lent, place)
     }
 
-    /// Shows the value of a resource that the section holds, which is an act of it.
+    /// Shows the value of a resource that the section holds, and records that as an act.
     ///
     /// # Errors
     ///
-    /// Want of memory. Nothing changes then.
+    /// Out of memory. Nothing changes.
     pub fn show(&mut self, place: u8) -> Result<u64, AllocError>
         requires holds { (kind : GuardKind) × Holds T.after T.taken T.number kind self.old }
         requires held { Holding self.old.seat place }
@@ -76,11 +77,12 @@ impl<'a, T: Editable, M: Machine> Section<'a, T, M> {
         Ok(number)
     }
 
-    /// Edits the value of a resource that the section holds for writing, which is an act of it, and answers whether the edit was taken.
+    /// Edits the value of a resource that the section holds for writing, records that as an act, and answers whether the edit was
+    /// taken.
     ///
     /// # Errors
     ///
-    /// Want of memory. Nothing changes then.
+    /// Out of memory. Nothing changes.
     pub fn edit(&mut self, alloc: Global, place: u8, edit: T::Edit) -> Result<bool, AllocError>
         requires holds { (kind : GuardKind) × Holds T.after T.taken T.number kind self.old }
         requires held { HoldingToWrite self.old.seat place }
@@ -100,7 +102,7 @@ impl<'a, T: Editable, M: Machine> Section<'a, T, M> {
     ///
     /// # Errors
     ///
-    /// Want of memory. Nothing changes then.
+    /// Out of memory. Nothing changes.
     pub fn make_shares(&mut self, alloc: Global) -> Result<(), AllocError>
         requires { (kind : GuardKind) × Holds T.after T.taken T.number kind self.old }
         ensures ends { OnOk result (Ends T.after T.taken T.number self.new) }
@@ -113,7 +115,7 @@ impl<'a, T: Editable, M: Machine> Section<'a, T, M> {
         Ok(())
     }
 
-    /// Ends the section without its acts. No memory is taken.
+    /// Ends the section without its acts. Takes no memory.
     pub fn discard<R: Wait>(self, rt: &R) -> Seat<T, M>
         requires { (kind : GuardKind) × Holds T.after T.taken T.number kind self }
         ensures goes { Goes self.entry.seat (bare (Finish self.entry.seat.number) ∷ []) result }
@@ -125,7 +127,7 @@ impl<'a, T: Editable, M: Machine> Section<'a, T, M> {
         section.end(rt)
     }
 
-    /// Ends the section: its acts are told, and what is lent to it comes home. No memory is taken.
+    /// Ends the section: its acts are recorded, and what is lent to it goes home. Takes no memory.
     pub fn end<R: Wait>(self, rt: &R) -> Seat<T, M>
         requires { Ends T.after T.taken T.number self }
         ensures goes { Goes self.entry.seat (record { event = Finish self.entry.seat.number; acts = self.entry.acts } ∷ []) result }
@@ -149,7 +151,7 @@ impl<'a, T: Editable, M: Machine> Section<'a, T, M> {
     }
 }
 
-// Makes room for one act more: for this many where there is none yet.
+// Makes room for one more act, or for `first` acts if there is no room yet.
 fn reserve<E>(acts: &mut Vec<Act<E>>, first: usize) -> Result<(), AllocError>
     ensures items { acts.new.items ≡ acts.old.items }
     ensures ok { OnOk result (length acts.new.items < vec_capacity acts.new) }

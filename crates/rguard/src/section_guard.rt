@@ -35,8 +35,8 @@ impl<'a, T: Editable, M: Machine, K: Guarding> Model for SectionGuard<'a, T, M, 
 }
 
 impl<'a, T: Editable, M: Machine, K: Guarding> SectionGuard<'a, T, M, K> {
-    /// Lends the seat of the guard. It has no turn. What it has seen is lawful from how the lock began, and its own
-    /// entries there are those that it made. No memory is taken.
+    /// Lends the seat of the guard, which has no turn. What it has seen is lawful from how the lock began, and its own entries
+    /// there are those that it made. Takes no memory.
     pub fn seat(&self) -> &Seat<T, M>
         ensures seat { result.now ≡ self.now.seat }
         ensures lawful { HasSeenLawful T.after T.taken T.number self.now.seat }
@@ -45,8 +45,8 @@ impl<'a, T: Editable, M: Machine, K: Guarding> SectionGuard<'a, T, M, K> {
         &self.section.seat
     }
 
-    /// Lends the value of a resource that is held: what the history that the seat has seen makes of it, with the section's own edits.
-    /// No memory is taken.
+    /// Lends the value of a resource that is held: what the history that the seat has seen makes of it, with the section's own
+    /// edits. Takes no memory.
     pub fn get(&self, place: u8) -> &T
         requires { Holding self.now.seat place }
         ensures { HasValue T.after self.now place result.now }
@@ -54,11 +54,11 @@ impl<'a, T: Editable, M: Machine, K: Guarding> SectionGuard<'a, T, M, K> {
         self.section.get(place)
     }
 
-    /// Shows the value of a resource that is held, which is an act of the section.
+    /// Shows the value of a resource that is held, and records that as an act.
     ///
     /// # Errors
     ///
-    /// Want of memory. The guard is then as it was.
+    /// Out of memory. The guard is then as it was.
     pub fn show(&mut self, alloc: Global, place: u8) -> Result<u64, AllocError>
         requires { Holding self.old.seat place }
         ensures act { IfOk result (λ number. self.new ≡ record self.old { acts = self.old.acts ++ Shown place number ∷ [] }) }
@@ -69,7 +69,7 @@ impl<'a, T: Editable, M: Machine, K: Guarding> SectionGuard<'a, T, M, K> {
         self.section.show(place)
     }
 
-    /// Ends the section without its acts: what was lent to it goes home as it was lent. No memory is taken.
+    /// Ends the section without its acts: what was lent to it goes home as it was lent. Takes no memory.
     pub fn discard<R: Wait>(self, rt: &R) -> Seat<T, M>
         ensures goes { Goes self.entry.seat (bare (Finish self.entry.seat.number) ∷ []) result }
         ensures turn { IsOneTurn self.entry.seat (bare (Finish self.entry.seat.number) ∷ []) result }
@@ -81,12 +81,12 @@ impl<'a, T: Editable, M: Machine, K: Guarding> SectionGuard<'a, T, M, K> {
 }
 
 impl<'a, T: Editable, M: Machine, K: Editing> SectionGuard<'a, T, M, K> {
-    /// Edits the value of a resource that is held for writing, which is an act of the section, and answers whether the edit was taken. The first
-    /// edit of a resource copies its value.
+    /// Edits the value of a resource that is held for writing, records that as an act, and answers whether the edit was taken.
+    /// The first edit of a resource copies its value.
     ///
     /// # Errors
     ///
-    /// Want of memory. The guard is then as it was.
+    /// Out of memory. The guard is then as it was.
     pub fn edit(&mut self, alloc: Global, place: u8, edit: T::Edit) -> Result<bool, AllocError>
         requires { HoldingToWrite self.old.seat place }
         ensures act { IfOk result (λ done. self.new ≡ record self.old { acts = self.old.acts ++ Edited place edit done ∷ [] }) }
@@ -96,12 +96,12 @@ impl<'a, T: Editable, M: Machine, K: Editing> SectionGuard<'a, T, M, K> {
         self.section.edit(alloc, place, edit)
     }
 
-    /// Ends the section: its acts are told, and what was lent to it goes home, what it has edited with the edits. The shares of what it has
+    /// Ends the section: its acts are recorded, and what was lent to it goes home, with the edits. The shares of what it has
     /// edited are made first.
     ///
     /// # Errors
     ///
-    /// Want of memory. The guard comes back as it was.
+    /// Out of memory. The guard comes back as it was.
     pub fn finish<R: Wait>(
         self,
         rt: &R,

@@ -19,11 +19,11 @@ use std::alloc::{AllocError, Global};
 use std::sync::Wait;
 
 impl<'a, T: Editable, M: Machine> Section<'a, T, M> {
-    /// A seat issues a request, in one turn, and waits for it, with this room for what it is going to be lent.
+    /// A seat issues a request, in one turn, and waits for it, with this room for what it will be lent.
     ///
     /// # Errors
     ///
-    /// Want of memory. Nothing was issued then, and the seat comes back.
+    /// Out of memory. Nothing was issued, and the seat comes back.
     pub fn issue<R: Wait>(
         lock: &'a CountedGate<State<T, M>>,
         rt: &R,
@@ -65,8 +65,8 @@ impl<'a, T: Editable, M: Machine> Section<'a, T, M> {
         }
     }
 
-    /// Looks, in one turn, whether nothing of the seat is pending. The section is then that of a guard, to which all is lent that its seat
-    /// holds (`Ok`), or waits still (`Err`). No memory is taken.
+    /// Looks, in one turn, whether nothing of the seat is pending. `Ok` has the section of a guard, to which all is lent that its
+    /// seat holds; `Err` has a section that still waits. Takes no memory.
     pub fn look<R: Wait>(self, rt: &R) -> Result<Section<'a, T, M>, Section<'a, T, M>>
         requires { (kind : GuardKind) × Waits T.after T.taken T.number kind self }
         ensures holds { IfOk result (λ s. (kind : GuardKind) → Waits T.after T.taken T.number kind self.entry → Holds T.after T.taken T.number kind s) }
@@ -105,8 +105,8 @@ impl<'a, T: Editable, M: Machine> Section<'a, T, M> {
         }
     }
 
-    /// Looks and rests, in turn, until nothing of the seat is pending. The section is that of a guard
-    /// then, to which all is lent that its seat holds. No memory is taken.
+    /// Looks and rests in turn until nothing of the seat is pending. The section is then that of a guard, to which all is lent
+    /// that its seat holds. Takes no memory.
     pub fn wait<R: Wait>(self, rt: &R) -> Section<'a, T, M>
         requires { (kind : GuardKind) × Waits T.after T.taken T.number kind self }
         ensures holds { (kind : GuardKind) → Waits T.after T.taken T.number kind self.entry → Holds T.after T.taken T.number kind result }
@@ -124,7 +124,7 @@ impl<'a, T: Editable, M: Machine> Section<'a, T, M> {
         unreachable!()
     }
 
-    /// Rests until the seat is told of an event that gave it something, as far as it was not told already. It changes nothing that a
+    /// Rests until the seat is notified of an event that gave it something; a notice from before counts. Changes nothing that a
     /// contract sees.
     pub fn rest<R: Wait>(self, rt: &R) -> Section<'a, T, M>
         requires { (kind : GuardKind) × Waits T.after T.taken T.number kind self }
@@ -135,8 +135,8 @@ impl<'a, T: Editable, M: Machine> Section<'a, T, M> {
         self
     }
 
-    /// Rises: the acts, which are shows, are told, and what is lent to the section comes home. It waits to write then, with this room for
-    /// what it is going to be lent. No memory is taken.
+    /// Rises: the acts, which are shows, are recorded, and what is lent to the section goes home. It then waits to write, with
+    /// this room for what it will be lent. Takes no memory.
     pub fn rise<R: Wait>(self, rt: &R, next: Lent<T>, alloc: Global) -> Section<'a, T, M>
         requires holds { Holds T.after T.taken T.number GuardKind.Rise self }
         requires next { next ≡ no_loans }
@@ -169,7 +169,8 @@ impl<'a, T: Editable, M: Machine> Section<'a, T, M> {
         }
     }
 
-    // Makes room for all that the section may be lent beside what it has. At want of memory nothing changes that a guard shows.
+    // Makes room for all that the section may be lent besides what it has. If memory runs out, nothing changes that a guard
+    // shows.
     fn reserve(&mut self) -> Result<(), AllocError>
         requires { Holds T.after T.taken T.number GuardKind.Nest self.old }
         ensures holds { Holds T.after T.taken T.number GuardKind.Nest self.new }
@@ -179,12 +180,12 @@ impl<'a, T: Editable, M: Machine> Section<'a, T, M> {
         self.lent.reserve(usize::from(RESOURCES))
     }
 
-    /// Asks for a further part, in one turn, and waits for it. Room for what it may be lent is made before, room for what the history
-    /// gets in that turn.
+    /// Asks for a further part, in one turn, and waits for it. Room for what it may be lent is made before the turn, room for the
+    /// history in it.
     ///
     /// # Errors
     ///
-    /// Want of memory. Nothing was asked for then, and the section comes back.
+    /// Out of memory. Nothing was asked for, and the section comes back.
     pub fn ask<R: Wait>(
         self,
         rt: &R,
@@ -209,7 +210,7 @@ impl<'a, T: Editable, M: Machine> Section<'a, T, M> {
         }
     }
 
-    // The same, where there is room.
+    // The same, when there is room.
     fn ask_with_room<R: Wait>(
         self,
         rt: &R,
@@ -253,7 +254,7 @@ impl<'a, T: Editable, M: Machine> Section<'a, T, M> {
                 })
             }
             Err(e) => {
-                // The guard is to be lent what its seat holds now.
+                // The guard is lent what its seat holds now.
                 state.take(number, &mut lent);
                 let seat = lock.gate.leave(turn);
                 let section = Section {

@@ -1,4 +1,4 @@
--- Sums over a list of which one element changes, and how many tickets can be out.
+-- Sums over a list in which one element changes, and how many tickets can be out.
 use Rattle.std.proofs.Common.{◌≡◌, ◌≢◌, ℕ, zero, suc, ◌+◌, ◌<◌, ◌≤◌, cond, eqb, List, [], ◌∷◌, ◌++◌, length, set, refl, sym, ap, ◌∙◌, arith, eq-eqb, ne_eqb}
 use mathlib.Core.Logic.{dite}
 use mathlib.Core.Option.{some, some-injective, some-ne-none}
@@ -46,7 +46,7 @@ times_here n xs = times-cons n n xs ∙ ap (λ b. cond b 1 0 + times n xs) (eq-e
 pub times_else : (n x : ℕ) (xs : List ℕ) → x ≢ n → times n (x ∷ xs) ≡ times n xs
 times_else n x xs other = times-cons n x xs ∙ (ap (λ b. cond b 1 0 + times n xs) (ne_eqb x n other) ∙ omega arith)
 
--- f base + f (base + 1) + .., of which there are `count`
+-- f base + f (base + 1) + .., a sum of `count` terms
 abbrev total : ℕ → ℕ → (ℕ → ℕ) → ℕ
 total base zero f = 0
 total base (suc count) f = total base count f + f (base + count)
@@ -63,7 +63,7 @@ total_ones : (base count : ℕ) (f : ℕ → ℕ) → ((t : ℕ) → base ≤ t 
 total_ones base zero f ones = refl
 total_ones base (suc count) f ones = omega (arith, total_ones base count f (λ t low high. ones t low (omega arith)), ones (base + count) (omega arith) (omega arith))
 
--- one number is counted once where it lies among them, and else not at all
+-- a number is counted once if it lies among them, and else not at all
 total_past : (base count x : ℕ) → base + count ≤ x → total base count (λ t. times t (x ∷ [])) ≡ 0
 total_past base zero x far = refl
 total_past base (suc count) x far = omega (arith, total_past base count x (omega arith), times_else (base + count) x [] (λ e. omega arith))
@@ -80,7 +80,7 @@ total_inside (suc count) x h = dite (ℕ_discrete x (0 + count))
     (λ e. omega (arith, ap (λ (y : ℕ). times (0 + count) (y ∷ [])) e, times_here (0 + count) []))
     (λ other. omega (arith, total_inside count x (omega arith)))
 
--- a list counts at most as often as it is long, and as often as that where all of it is counted
+-- a list counts at most as often as it is long, and exactly that often if all of it is counted
 total_most : (base count : ℕ) (xs : List ℕ) → total base count (λ t. times t xs) ≤ length xs
 total_most base count [] = omega (arith, total_none base count)
   where
@@ -124,7 +124,7 @@ module _ {A : Type 0} (tickets numbers : A → List ℕ) where
     crowd base count passes vs (λ i w at. each (suc i) w at) (λ n far. omega (arith, below n far, sum_by-cons (λ v. times n (numbers v)) v vs)),
   )
 
-  -- where each ticket and each number stands in one place, there are no more tickets than numbers
+  -- if each ticket and each number is in one place, there are at most as many tickets as numbers
   pub no_more_tickets : (base count passes : ℕ) (vs : List A) → ((i : ℕ) (v : A) → get_elem? vs i ≡ some v → length (tickets v) ≤ length (numbers v))
       → ((t : ℕ) → base ≤ t → t < base + count → sum_by (λ v. times t (tickets v)) vs ≡ 1) → ((n : ℕ) → n < passes → sum_by (λ v. times n (numbers v)) vs ≡ 1) → ((n : ℕ) → passes ≤ n → sum_by (λ v. times n (numbers v)) vs ≡ 0)
       → count ≤ passes

@@ -43,7 +43,7 @@ module _ {E : Type 0} (number : E → ℕ) where
   entries_by_other n k (x ∷ xs) other all = ap (λ (b : Bool). cond b (x ∷ entries_by number k xs) (entries_by number k xs)) (ne_eqb (number x) k (λ e. other (sym e ∙ All-head (λ e. number e ≡ n) x xs all)))
       ∙ entries_by_other n k xs other (All-tail (λ e. number e ≡ n) x xs all)
 
-  -- the new entries are all of the pass n, so no other pass has more
+  -- the new entries are all of the pass n, so no other pass gets any
   pub others_keep : (n k : ℕ) (seen list : List E) → Appends number n seen list → k ≢ n → entries_by number k list ≡ entries_by number k seen
   others_keep n k seen list more other = ap (entries_by number k) more.1
       ∙ (entries_by-append k seen more.0 ∙ (ap (λ (l : List E). entries_by number k seen ++ l) (entries_by_other n k more.0 other more.2) ∙ append-nil (entries_by number k seen)))
@@ -59,7 +59,7 @@ module _ {E : Type 0} (number : E → ℕ) where
   pub Appends-prefix : (n : ℕ) (seen list : List E) → Appends number n seen list → IsPrefix seen list
   Appends-prefix n seen list more = (more.0, sym more.1)
 
--- a list in which a number does not stand
+-- a list that does not have a number
 pub apart_from : {A : Type 0} (f : A → ℕ) (n : ℕ) (xs : List A) → times n (map f xs) ≡ 0 → All (λ x. f x ≢ n) xs
 apart_from {A} f n [] none = All-nil (λ x. f x ≢ n)
 apart_from {A} f n (x ∷ xs) none = let P : A → Type 0 = λ x. f x ≢ n in

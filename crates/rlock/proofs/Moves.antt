@@ -1,4 +1,4 @@
--- Each step of a turn keeps the rule, and tells what its play says.
+-- Each step of a turn keeps the rule, and what its play says holds after it.
 use Rattle.std.proofs.Common.{◌≡◌, ℕ, ◌+◌, ◌-◌, ◌%◌, ◌^◌, ◌<◌, ◌≤◌, Bool, true, false, cond, List, [], ◌∷◌, ◌++◌, length, get_or, set, refl, sym, ap, ◌∙◌, subst, inr, ⊎_elim, arith, Option, Some}
 use Rattle.std.proofs.Math.Nat.{mod-add-mod}
 use mathlib.Core.Logic.{dite}
@@ -77,7 +77,7 @@ module _ {S O E : Type 0} (opening : S → O) (entries : S → List E) (number :
     (r.drawn, sym (ap (λ (ws : List ℕ). get_or ws 0 0) counted), refl),
   )
 
-  -- no more tickets are out than there are passes, so the word tells which is served
+  -- no more tickets are out than there are passes, so the word determines which is served
   is_served : (s : St) (r : Rule s) (id t : ℕ) (v : V) → get_elem? s.views id ≡ maybe.some v → ticket_of v.mode ≡ t ∷ [] → r.served % 2 ^ 64 ≡ t % 2 ^ 64 → r.served ≡ t
   is_served s r id t v at ticket word = one_turn r.served t (2 ^ 64) low (omega (arith, r.numbers.few, r.tickets.ordered, crowd, high)) word
     where

@@ -1,4 +1,4 @@
--- Each part of the rule, where one view changes, and where one is new.
+-- Each part of the rule, when one view changes and when a new one comes.
 use Rattle.std.proofs.Common.{◌≡◌, ◌≢◌, ℕ, suc, ◌+◌, ◌%◌, ◌^◌, ◌<◌, ◌≤◌, ◌⊎◌, Bool, true, false, cond, eqb, List, [], ◌∷◌, ◌++◌, length, set, refl, sym, ap, ◌∙◌, subst, inl, inr, ⊎_elim, arith, Option, Some}
 use mathlib.Core.Logic.{dite}
 use mathlib.Core.List.{IsPrefix, append-nil}
@@ -20,7 +20,7 @@ use Rattle.rlock.proofs.Counting.{sum_set, at_most_sum, two_at_most_sum, times_h
 use Rattle.rlock.proofs.Entries.{IsPrefix-trans, apart_from, others_keep}
 
 module _ {A : Type 0} where
-  -- what an element that is there shows
+  -- what an element of a list shows
   pub is_there : (vs : List A) (i : ℕ) (v : A) → get_elem? vs i ≡ some v → i < length vs
   is_there [] i v e = absurd (maybe.some-ne-none v (sym e))
   is_there (x ∷ xs) Rattle.std.proofs.Common.zero v e = omega arith
@@ -168,7 +168,7 @@ module _ {S O E : Type 0} where
     olds = each_set (λ u. All (λ old. IsPrefix old list) u.olds) vs id w (subst (All (λ old. IsPrefix old list)) (sym same) (grow v (r.olds id v at))) (λ j u _ there. grow u (r.olds j u there));
   }
 
-  -- prefixes: a view is spent, whose list another has seen
+  -- prefixes: a view is spent, and another has seen its list
   pub prefixes_spent : (log : List E) (vs : List (View S O E)) (id other : ℕ) (v w none : View S O E) → get_elem? vs id ≡ some v → get_elem? vs other ≡ some w → id ≢ other → (w.seen ≡ log → v.seen ≡ log) → none.seen ≡ [] → none.olds ≡ []
       → Prefixes log vs → Prefixes log (set vs other none)
   prefixes_spent log vs id other v w none at there apart as_long empty no_olds r = record {
@@ -202,7 +202,7 @@ module _ {S O E : Type 0} where
     known = r.known;
   }
 
-  -- own entries: the pass of the view, which has joined none and has nothing to give out, adds entries
+  -- own entries: the pass of the view, which has joined no other and has nothing to give out, adds entries
   pub own_grown : (number : E → ℕ) (passes : ℕ) (log list : List E) (vs : List (View S O E)) (id n : ℕ) (v w : View S O E) → Numbers passes vs → get_elem? vs id ≡ some v → 0 < times_in n v → Appends number n log list
       → All (λ (m : Member S O E). entries_by number m.number list ≡ m.mine) w.members → OwnEntries number passes log vs → OwnEntries number passes list (set vs id w)
   own_grown number passes log list vs id n v w once at has more made r = record {
@@ -226,7 +226,7 @@ module _ {S O E : Type 0} where
     pub lasts_new : (state : S) (vs : List (View S O E)) (new : View S O E) → LastStays state new → Lasts stays state vs → Lasts stays state (vs ++ new ∷ [])
     lasts_new state vs new stay r = each_push (LastStays state) vs new r stay
 
-    -- lasts: the pass of the view, which has joined none and has nothing to give out, leaves another state
+    -- lasts: the pass of the view, which has joined no other and has nothing to give out, leaves another state
     pub lasts_changed : (stays_trans : (k : ℕ) (a b c : S) → stays k a b → stays k b c → stays k a c) (passes : ℕ) (state now : S) (vs : List (View S O E)) (id n : ℕ) (v w : View S O E) → Numbers passes vs → get_elem? vs id ≡ some v → 0 < times_in n v
         → KeepsOthers stays n state now → LastStays now w → Lasts stays state vs → Lasts stays now (set vs id w)
     lasts_changed stays_trans passes state now vs id n v w once at has keeps stay r = each_set (LastStays now) vs id w stay
@@ -279,7 +279,7 @@ module _ {S O E : Type 0} where
     pub is_away : (log : List E) (state : S) (homes : List (maybe.Option (Option S))) (vs : List (View S O E)) (id : ℕ) (v : View S O E) → get_elem? vs id ≡ some v → has_turn v.mode ≡ true → Place log state homes vs → IsAway log state homes vs
     is_away log state homes vs id v at turn r = ⊎_elim (λ (h : IsHome opening entries o log state homes vs). absurd (omega (arith, at_most_sum turns_in vs id v at, ap {B = ℕ} (λ (t : Bool). cond t 1 0) turn, h.nobody))) (λ (a : IsAway log state homes vs). a) r.place
 
-    -- home: the view that has the turn tells another state, with its list
+    -- home: the view that has the turn announces another state, with its list
     pub home_told : (log list : List E) (state now : S) (homes : List (maybe.Option (Option S))) (vs : List (View S O E)) (id : ℕ) (v w : View S O E) → get_elem? vs id ≡ some v → has_turn v.mode ≡ true → has_turn w.mode ≡ true
         → w.seen ≡ list → state_out w.mode ≡ Some now → Opened w → Place log state homes vs → Place list now homes (set vs id w)
     home_told log list state now homes vs id v w at had has seen out opened r = let a = is_away log state homes vs id v at had r in record {

@@ -1,4 +1,4 @@
--- What the plays tell of the seat of a pass.
+-- What the plays say of the seat of a pass.
 use Rattle.std.proofs.Common.{◌≡◌, ℕ, ◌+◌, ◌%◌, ◌^◌, arith, List, [], ◌∷◌, ◌++◌, refl, sym, ap, ◌∙◌, subst, Option, Some}
 use mathlib.Core.Option as maybe
 use Rattle.std.specs.Prelude.{All, map}
@@ -38,7 +38,7 @@ module _ {S O E : Type 0} where
   pub rested : (k : Known S O E) (t : ℕ) (state : S) (v w : View S O E) → IsViewOf (Putting t state) k v → w ≡ resting v → IsViewOf Idle k w
   rested k t state v w (o, last, has, has_last, is) now = (o, last, has, has_last, now ∙ ap resting is)
 
-  -- the pass is known again from its view
+  -- the pass is recovered from its view
   pub known_is : (gate : GateId) (n : ℕ) (v : View S O E) (mode : Mode S) (k : Known S O E) → IsViewOf mode k v → gate ≡ k.gate → n ≡ k.number → known_from gate n v ≡ k
   known_is gate n v mode k (o, last, has, has_last, is) same_gate same_number = λ i. record {
     gate = same_gate i;
@@ -61,7 +61,7 @@ module _ {S O E : Type 0} where
   member_is mode k v (o, last, has, has_last, is) = ap (λ (z : View S O E). z.members) is
 
 module _ {S O E : Type 0} where
-  -- where its ticket was found, the pass has the state
+  -- if its ticket was found, the pass has the state
   pub found : (opening : S → O) (entries : S → List E) (number : E → ℕ) (stays : ℕ → S → S → Type 0) (k : Known S O E) (t slots r : ℕ) (me me' : Me (Option S) (View S O E)) → IsViewOf (Waiting t) k me.0 → me.1 ≡ []
       → looked opening entries number stays (step slots 1 0 0 maybe.none) me r me' → r ≡ t % 2 ^ 64
       → (state : S) × IsViewOf (Served t state) (record k { seen = entries state }) me'.0 × (me'.1 ≡ (0, Some state) ∷ []) × IsTrueOf number stays k (opening state) (entries state) state
@@ -73,7 +73,7 @@ module _ {S O E : Type 0} where
   )
 
 module _ {S : Type 0} where
-  -- the slot taken last, as an exchange asks for it
+  -- the slot that was taken last, as an exchange asks for it
   pub last_slot : (cs : List (ℕ × Option S)) (x : Option S) → cs ≡ (0, x) ∷ [] → cs ≡ (0, x) ∷ rest cs
   last_slot cs x is = is ∙ ap (λ (l : List (ℕ × Option S)). (0, x) ∷ rest l) (sym is)
 

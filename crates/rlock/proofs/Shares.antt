@@ -1,4 +1,4 @@
--- Giving out a number and taking in a pass keep the rule; so does the first state. What the rule tells once one pass has taken in all others.
+-- Giving out a number and taking in a pass keep the rule; so does the first state. What the rule says once one pass has taken in all others.
 use Rattle.std.proofs.Common.{◌≡◌, ℕ, zero, suc, ◌+◌, ◌-◌, ◌<◌, ◌≤◌, Bool, true, false, cond, List, [], ◌∷◌, length, set, refl, sym, ap, ◌∙◌, subst, inl, inr, ⊎_elim, arith, Option, Some, ltb, length-append}
 use mathlib.Core.Logic.{dite}
 use mathlib.Core.List.{IsPrefix, map-append}
@@ -23,7 +23,7 @@ use Rattle.rlock.proofs.Entries.{IsPrefix-length, IsPrefix-whole}
 use Rattle.rlock.proofs.Parts.{each_set, each_push, is_there, numbers_split, numbers_joined, no_shared_number, tickets_kept, tickets_new, prefixes_kept, prefixes_spent, prefixes_new, own_kept, own_new, lasts_kept, lasts_new, home_kept, home_new}
 
 module _ {S O E : Type 0} (o : O) (state : S) where
-  -- what is so of a pass that has had no turn, whatever its number, is so of such passes
+  -- what holds of a pass that has had no turn, whatever its number, holds of such passes
   all_fresh : (P : Member S O E → Type 0) → ((n : ℕ) → P (fresh o state n)) → (ns : List ℕ) → All P (map (fresh o state) ns)
   all_fresh P each [] = All-nil P
   all_fresh P each (n ∷ ns) = All-cons P (fresh o state n) (map (fresh o state) ns) (each n) (all_fresh P each ns)
@@ -39,7 +39,7 @@ module _ {S O E : Type 0} (opening : S → O) (entries : S → List E) (number :
   abbrev Rule : State (Option S) V → Type 0
   Rule = GateHolds opening entries number stays passes o
 
-  -- an idle pass gives out its least number beside its own
+  -- an idle pass gives out its least number besides its own
   pub gives_out : (id : ℕ) (v : V) (m n : Member S O E) (ms : List (Member S O E)) → v.mode ≡ Idle → v.members ≡ m ∷ n ∷ ms → Splits Rule id v (giving v) (given v)
   gives_out id v m n ms idle has s r at = let w : V = giving v in let new : V = given v in let vs : List V = set s.views id w in
       let Made : Member S O E → Type 0 = λ k. entries_by number k.number r.log ≡ k.mine in let Opened : Member S O E → Type 0 = λ k. k.opening ≡ o in let Stayed : Member S O E → Type 0 = λ k. stays k.number k.last r.state in record {
@@ -79,7 +79,7 @@ module _ {S O E : Type 0} (opening : S → O) (entries : S → List E) (number :
       second : (P : Member S O E → Type 0) → All P v.members → All P (given v).members
       second P all = subst (All P) (sym taken) (All-cons P n [] (All-head P n ms (All-tail P m (n ∷ ms) (subst (All P) has all))) (All-nil P))
 
-  -- the longer of two beginnings of one list is a beginning, and the whole list where one of them is
+  -- the longer of two beginnings of a list is a beginning, and the whole list if one of them is
   longer_begins : (log xs ys : List E) → IsPrefix xs log → IsPrefix ys log → IsPrefix (cond (ltb (length xs) (length ys)) ys xs) log
   longer_begins log xs ys p q = cond_both (ltb (length xs) (length ys)) ys xs (λ (l : List E). IsPrefix l log) (λ _. q) (λ _. p)
 
@@ -169,7 +169,7 @@ module _ {S O E : Type 0} (opening : S → O) (entries : S → List E) (number :
           (λ e. omega (arith, ap (λ (k : ℕ). times n (k ∷ numbers_from (first + 1) count)) (sym e), times_here n (numbers_from (first + 1) count), numbers_before (first + 1) count n (omega arith)))
           (λ other. omega (arith, times_else n first (numbers_from (first + 1) count) (λ e. other (sym e)), numbers_within (first + 1) count n (omega arith) (omega arith)))
 
-  -- a view that has all numbers is alone, so the state is at home where its pass rests
+  -- a view that has all numbers is alone, so the state is at home when its pass rests
   pub ends : (id : ℕ) (v : V) (ws : List ℕ) (xs : List (Option S)) → v.mode ≡ Idle → ((n : ℕ) → n < passes → 0 < times n (numbers_of v)) → Final (Seen Rule id v) ws xs → (found : Option S) → get_elem? xs 0 ≡ maybe.some found
       → IsSome found × ((state : S) → found ≡ Some state → Holds number stays v (opening state) (entries state) state × All (λ e. number e < passes) (entries state))
   ends id v ws xs idle all (s, (r, at), words, long, values) found is = (

@@ -59,7 +59,7 @@ pub take_many : (before now : Shelf) (spot n : ℕ) (result : Option ℕ)
 take_many before now spot n None taken none = ap (λ (spots : List Spot). length spots) (none refl)
 take_many before now spot n (Some value) taken none = one_set before now spot (Out n) taken.1
 
--- what is out with another pass stays, and no more comes to be, in as many spots
+-- what is out with another pass stays, nothing more comes to be out with it, and there are as many spots
 pub take_others : (before now : Shelf) (spot n : ℕ) (result : Option ℕ)
     → IfSome result (λ value. (slice_get before.spots.items spot ≡ Some (Home value)) × (now.spots.items ≡ slice_set before.spots.items spot (Out n)))
     → (result ≡ None → now.spots.items ≡ before.spots.items)
@@ -94,7 +94,7 @@ not_home after before now spot result left_is home none is = λ last value last_
     (ap (λ (spots : List Spot). slice_get spots spot) (sym (none is))
     ∙ (ap (λ (s : Shelf). slice_get s.spots.items spot) (same_Some now last (sym left_is ∙ last_is)) ∙ there)))
 
--- ---- a value is put home, which was out with the pass n
+-- ---- a value that was out with the pass n is brought home
 
 pub put_beside : (before now : Shelf) (spot value : ℕ) → now.spots.items ≡ slice_set before.spots.items spot (Home value)
     → (other : ℕ) → other ≢ spot → slice_get now.spots.items other ≡ slice_get before.spots.items other
@@ -106,7 +106,7 @@ pub put_here : (before now : Shelf) (spot n value : ℕ) → slice_get before.sp
 put_here before now spot n value was is =
     ap (λ (spots : List Spot). slice_get spots spot) is ∙ get_here before.spots.items spot (Out n) (Home value) was
 
--- what is out with another pass stays, and no more comes to be, in as many spots
+-- what is out with another pass stays, nothing more comes to be out with it, and there are as many spots
 pub put_others : (before now : Shelf) (spot n value : ℕ) → slice_get before.spots.items spot ≡ Some (Out n) → now.spots.items ≡ slice_set before.spots.items spot (Home value)
     → (k : ℕ) → k ≢ n → Allowed k before now
 put_others before now spot n value was is k differ = (
@@ -123,7 +123,7 @@ put_others before now spot n value was is k differ = (
 
 -- ---- what a pass knows of the shelf that it finds
 
--- what was out with it as it left the shelf last is out with it, and nothing else is; no spot came or went
+-- what was out with it when it last left the shelf is still out with it, and nothing else is; no spot appeared or disappeared
 pub record Knows {O E : Type 0} (pass : Known Shelf O E) (found : Shelf) : Type 0 where
   pub last : Shelf
   pub is_last : pass.last ≡ Some last
@@ -139,20 +139,20 @@ knows pass found state its is = subst (λ (s : Shelf). Knows pass s) (sym is) (r
 pub is_out : {O E : Type 0} (pass : Known Shelf O E) (found : Shelf) → Knows pass found → (spot : ℕ) → HasOut pass spot → slice_get found.spots.items spot ≡ Some (Out pass.number)
 is_out pass found w spot out = w.stays spot (out w.last w.is_last)
 
--- after a turn the shelf has as many spots as the pass left last
+-- after a turn the shelf has as many spots as when the pass last left it
 pub as_many : {O E : Type 0} (pass after : Known Shelf O E) (found now : Shelf) → Knows pass found → after.last ≡ Some now → HasAsManySpots found now → spots_of after ≡ spots_of pass
 as_many pass after found now w left_is many =
     let spots : Option Shelf → Option ℕ = λ last. option_map (λ (shelf : Shelf). length shelf.spots.items) last in
     ap spots left_is ∙ (ap (λ (count : ℕ). Some count) (many ∙ w.many) ∙ sym (ap spots w.is_last))
 
--- where a turn leaves a spot as it found it, what is out there with the pass was out with it before
+-- if a turn leaves a spot as it found it, what is out there with the pass was out with it before
 pub was_out : {O E : Type 0} (pass after : Known Shelf O E) (found now : Shelf) → Knows pass found → after.last ≡ Some now → after.number ≡ pass.number
     → (other : ℕ) → slice_get now.spots.items other ≡ slice_get found.spots.items other → HasOut after other → HasOut pass other
 was_out pass after found now w left_is same_number other same out = λ last is.
     ap (λ (s : Shelf). slice_get s.spots.items other) (same_Some last w.last (sym is ∙ w.is_last))
     ∙ w.back other (sym same ∙ (out now left_is ∙ ap (λ (n : ℕ). Some (Out n)) same_number))
 
--- and where it gives a value home, that is out no more
+-- and if it brings a value home, that is no longer out
 pub given_home : {O E : Type 0} (pass after : Known Shelf O E) (found now : Shelf) → Knows pass found → after.last ≡ Some now → after.number ≡ pass.number
     → (spot value : ℕ) → HasOut pass spot → now.spots.items ≡ slice_set found.spots.items spot (Home value)
     → (other : ℕ) → HasOut after other → (other ≢ spot) × HasOut pass other

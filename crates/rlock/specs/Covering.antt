@@ -8,7 +8,7 @@ use Rattle.rlock.specs.Views.{times, numbers_of}
 use Rattle.rlock.specs.Steps.{Holds}
 
 module _ {S O E : Type 0} (number : E → ℕ) (stays : ℕ → S → S → Type 0) where
-  -- the view has the pass's number, and where what the view knows is true, so is what the pass knows
+  -- the view has the pass's number, and if what the view knows is true, so is what the pass knows
   pub record Covers (v : View S O E) (pass : Known S O E) : Type 0 where
     pub has : 0 < times pass.number (numbers_of v)
     pub knows : (o : O) (list : List E) (state : S) → Holds number stays v o list state → IsTrueOf number stays pass o list state

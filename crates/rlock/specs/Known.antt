@@ -13,14 +13,15 @@ pub record GateSite : Type 0 where
   pub gate : GateId
   pub passes : ℕ
 
--- the same of a gate with seats: those of its passes that may make entries
+-- the same for a gate with seats: those of its passes that may make entries
 pub record Site : Type 0 where
   pub gate : GateId
   pub seats : ℕ
   pub passes : ℕ
 
--- A pass: its gate, its number, the opening of the state behind the gate, the history as it was seen last, the entries of it that the pass made, the state as the pass left it last, and how many turns it has had.
--- Each pass that a gate hands out has an opening and a last state: before its first turn that is the state as it was put behind the gate
+-- A pass: its gate, its number, the opening of the state behind the gate, the history as last seen, the pass's own entries in it, the state as the
+-- pass left it last, and how many turns it has had. Each pass that a gate hands out has an opening and a last state: before its first turn that is
+-- the state as it was put behind the gate
 pub record Known (S O E : Type 0) : Type 0 where
   pub gate : GateId
   pub number : ℕ
@@ -45,11 +46,11 @@ module _ {E : Type 0} (number : E → ℕ) where
   abbrev pub entries_by : ℕ → List E → List E
   entries_by n entries = filter (λ e. number e == n) entries
 
-  -- the list has new entries behind those that were seen, all of them of the pass n
+  -- the list is the one that was seen with new entries added at the end, all of them by the pass n
   abbrev pub Appends : ℕ → List E → List E → Type 0
   Appends n seen entries = (more : List E) × (entries ≡ seen ++ more) × All (λ e. number e ≡ n) more
 
--- what stands behind the entries that were seen
+-- what comes after the entries that were seen
 abbrev pub new_entries : {E : Type 0} → List E → List E → List E
 new_entries seen entries = drop (length seen) entries
 
@@ -69,7 +70,7 @@ abbrev pub with_state : {S O E : Type 0} → Taken S O E → S → Taken S O E
 with_state turn state = record turn { state = state }
 
 module _ {S O E : Type 0} where
-  -- a pass after it has entered: it has seen the list that it found, and has had one turn more
+  -- a pass after it has entered: it has seen the list that it found, and has had one more turn
   abbrev pub entered : Known S O E → List E → Known S O E
   entered pass found = record pass { seen = found; turns = pass.turns + 1 }
 
@@ -77,12 +78,12 @@ module _ {S O E : Type 0} where
   abbrev pub left : Known S O E → List E → S → Known S O E
   left pass list state = record pass { seen = list; mine = pass.mine ++ new_entries pass.seen list; last = Some state }
 
--- the numbers from `first` on, of which there are `count`
+-- the `count` numbers from `first` on
 abbrev pub numbers_from : ℕ → ℕ → List ℕ
 numbers_from first zero = []
 numbers_from first (suc count) = first ∷ numbers_from (first + 1) count
 
--- the first passes of a gate, of which there are `count`: they are numbered from `first` on
+-- the first `count` passes of a gate, numbered from `first` on
 abbrev pub newcomers : {S O E : Type 0} → GateId → O → S → ℕ → ℕ → List (Known S O E)
 newcomers gate o state first count = map (λ n. newcomer gate n o state) (numbers_from first count)
 

@@ -10,11 +10,12 @@ use Rattle.rlock.specs.Known.{entries_by}
 use Rattle.rlock.specs.Views.{ticket_of, has_turn, state_out, holders, drawers, turns_taken}
 
 module _ {S O E : Type 0} where
-  -- it is so of each view
+  -- it holds of each view
   abbrev pub Each : (View S O E → Type 0) → List (View S O E) → Type 0
   Each P views = (id : ℕ) (v : View S O E) → get_elem? views id ≡ maybe.some v → P v
 
-  -- Each number below the number of passes stands in just one view, once: as that of its pass, of a pass that was joined, or of one that is still to be given out. No other number stands in any
+  -- Each number below the number of passes is in just one view, once: as that of its pass, of a pass that was joined, or of one that is still to be
+  -- given out. No other number is in any view
   pub record Numbers (passes : ℕ) (views : List (View S O E)) : Type 0 where
     pub few : passes < 256
     pub once : (n : ℕ) → n < passes → holders n views ≡ 1
@@ -33,7 +34,7 @@ module _ {S O E : Type 0} where
   abbrev pub HasServedTicket : ℕ → View S O E → Type 0
   HasServedTicket served v = IsTrue (has_turn v.mode) → ticket_of v.mode ≡ served ∷ []
 
-  -- what was seen is a beginning of the kept list, and the longest that was seen is all of it
+  -- what was seen is a beginning of the kept list, and the longest of these is all of it
   pub record Prefixes (log : List E) (views : List (View S O E)) : Type 0 where
     pub seen : Each (λ v. IsPrefix v.seen log) views
     pub longest : (id : ℕ) × (v : View S O E) × (get_elem? views id ≡ maybe.some v) × (v.seen ≡ log)
@@ -44,7 +45,8 @@ module _ {S O E : Type 0} where
     pub made : Each (λ v. All (λ (m : Member S O E). entries_by number m.number log ≡ m.mine) v.members) views
     pub known : All (λ e. number e < passes) log
 
-  -- since a member left the state, others have done to it only what turns of others may. While the state is out it is as it was found, and then as it was told
+  -- since a member left the state, others have done to it only what turns of others may. While the state is out, it is as it was found until the pass
+  -- announces the state that it leaves
   abbrev pub Lasts : (ℕ → S → S → Type 0) → S → List (View S O E) → Type 0
   Lasts stays state views = Each (λ v. All (λ (m : Member S O E). stays m.number m.last state) v.members) views
 
@@ -52,21 +54,21 @@ module _ {S O E : Type 0} where
   abbrev pub HasSeen : List E → S → View S O E → Type 0
   HasSeen log state v = IsTrue (has_turn v.mode) → (v.seen ≡ log) × (state_out v.mode ≡ Some state)
 
-  -- away the state is out with the one view that has the turn
+  -- away: the state is out with the one view that has the turn
   pub record IsAway (log : List E) (state : S) (homes : List (maybe.Option (Option S))) (views : List (View S O E)) : Type 0 where
     pub gone : homes ≡ maybe.none ∷ []
     pub one : turns_taken views ≡ 1
     pub its_seen : Each (HasSeen log state) views
 
   module _ (opening : S → O) (entries : S → List E) where
-    -- at home the slot has the state, whose list is the kept one, and no view has the turn
+    -- at home: the slot has the state, whose list is the kept one, and no view has the turn
     pub record IsHome (o : O) (log : List E) (state : S) (homes : List (maybe.Option (Option S))) (views : List (View S O E)) : Type 0 where
       pub there : homes ≡ maybe.some (Some state) ∷ []
       pub its_opening : opening state ≡ o
       pub its_entries : entries state ≡ log
       pub nobody : turns_taken views ≡ 0
 
-    -- all members of all views have one opening, and at home it is the state's
+    -- all members of all views have the same opening, which at home is the state's
     pub record Home (o : O) (log : List E) (state : S) (homes : List (maybe.Option (Option S))) (views : List (View S O E)) : Type 0 where
       pub openings : Each (λ v. All (λ (m : Member S O E). m.opening ≡ o) v.members) views
       pub place : IsHome o log state homes views ⊎ IsAway log state homes views

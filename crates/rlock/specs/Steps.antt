@@ -1,4 +1,4 @@
--- The kinds of atomic step: what each does to the view of the pass that takes it, and what it tells.
+-- The kinds of atomic step: what each does to the view of the pass that takes it, and what is known after it.
 use Rattle.std.specs.Prelude.{◌≡◌, ◌≢◌, ℕ, ◌+◌, ◌%◌, ◌^◌, Option, Some, None, List, [], ◌∷◌, ◌++◌, length, nat_lt, if◌then◌else◌, All}
 use mathlib.Core.List.{IsPrefix}
 use Rattle.atomic_table.specs.Table.{Me, Step, rest}
@@ -44,14 +44,14 @@ module _ {S O E : Type 0} where
   second_of (m ∷ n ∷ ms) = n ∷ []
   second_of _ = []
 
-  -- the view that has given out its least number beside its own, and the view that has it
+  -- the view that has given out its least number besides its own, and the view that has it
   abbrev pub giving : View S O E → View S O E
   giving v = record v { members = without_second v.members }
 
   abbrev pub given : View S O E → View S O E
   given v = record { mode = Idle; turns = 0; seen = v.seen; members = second_of v.members; olds = [] }
 
-  -- the view v with what w knows, and what w is then
+  -- the view v with what w knows, and what is left of w
   abbrev pub joined : View S O E → View S O E → View S O E
   joined v w = record v { seen = (if nat_lt (length v.seen) (length w.seen) then w.seen else v.seen); members = v.members ++ w.members; olds = v.olds ++ (v.seen ∷ w.seen ∷ w.olds) }
 
@@ -70,17 +70,17 @@ module _ {S O E : Type 0} where
   abbrev pub drew : Step (Option S) → Me (Option S) (View S O E) → ℕ → Me (Option S) (View S O E) → Type 0
   drew st me found me' = (t : ℕ) × (t % 2 ^ 64 ≡ found) × (me' ≡ (drawing t me.0, me.1))
 
-  -- the ticket is served where the word is that ticket: then the slot is taken, and what the view knows is true of the state in it. Else nothing changes
+  -- if the word is the pass's ticket, that is served: the slot is taken, and what the view knows is true of the state in it. If not, nothing changes
   abbrev pub looked : (S → O) → (S → List E) → (E → ℕ) → (ℕ → S → S → Type 0) → Step (Option S) → Me (Option S) (View S O E) → ℕ → Me (Option S) (View S O E) → Type 0
   looked opening entries number stays st me found me' = (t : ℕ) → me.0.mode ≡ Waiting t
       → (found ≡ t % 2 ^ 64 → (state : S) × (me' ≡ (serving t state (entries state) me.0, (0, Some state) ∷ me.1)) × Holds number stays me.0 (opening state) (entries state) state)
       × (found ≢ t % 2 ^ 64 → me' ≡ me)
 
-  -- the state that is told is the one that others will find, and its list is the kept one
+  -- the announced state is the one that others will find, and its list is the kept one
   abbrev pub noted : (S → List E) → Option S → Step (Option S) → Me (Option S) (View S O E) → ℕ → Me (Option S) (View S O E) → Type 0
   noted entries told st me found me' = (t : ℕ) (before state : S) → me.0.mode ≡ Served t before → told ≡ Some state → me' ≡ (putting t state (entries state) me.0, me.1)
 
-  -- the state is in its place, and the next ticket is served
+  -- the state is in its slot, and the next ticket is served
   abbrev pub returned : Step (Option S) → Me (Option S) (View S O E) → ℕ → Me (Option S) (View S O E) → Type 0
   returned st me found me' = me' ≡ (resting me.0, rest me.1)
 
@@ -96,7 +96,7 @@ module _ {S O E : Type 0} where
   abbrev pub Waits : Seat (Option S) (View S O E) → Known S O E → ℕ → Type 0
   Waits seat k t = IsViewOf (Waiting t) k seat.me.0 × (seat.me.1 ≡ [])
 
-  -- its ticket is served, and the state, which it found so, is out of the slot
+  -- its ticket is served, and the state, as it found it, is out of the slot
   abbrev pub Serves : Seat (Option S) (View S O E) → Known S O E → ℕ → S → Type 0
   Serves seat k t found = IsViewOf (Served t found) k seat.me.0 × (seat.me.1 ≡ (0, None) ∷ [])
 

@@ -6,7 +6,7 @@ use Rattle.rlock.specs.declared.view.Mode.{Mode}
 use Rattle.rlock.specs.declared.view.Mode.TheVariants.{Idle, Waiting, Served, Putting}
 use Rattle.rlock.specs.Known.{GateId, Known, numbers_from}
 
--- how often a number stands in a list
+-- how often a number occurs in a list
 abbrev pub times : ℕ → List ℕ → ℕ
 times n xs = count_by (λ k. k == n) xs
 
@@ -25,7 +25,7 @@ module _ {S : Type 0} where
   has_turn (Served t found) = true
   has_turn (Putting t state) = true
 
-  -- the state as it is known while it is out: as it was found, and then as it was told
+  -- the state as it is known while it is out: as it was found, and later as announced
   abbrev pub state_out : Mode S → Option S
   state_out Idle = None
   state_out (Waiting t) = None
@@ -37,11 +37,11 @@ module _ {S O E : Type 0} where
   abbrev pub numbers_of : View S O E → List ℕ
   numbers_of v = map (λ (m : Member S O E). m.number) v.members
 
-  -- how often a number stands in the views
+  -- how often a number occurs in the views
   abbrev pub holders : ℕ → List (View S O E) → ℕ
   holders n views = sum_by (λ (v : View S O E). times n (numbers_of v)) views
 
-  -- in how many views a ticket stands
+  -- how many views have a ticket
   abbrev pub drawers : ℕ → List (View S O E) → ℕ
   drawers t views = sum_by (λ (v : View S O E). times t (ticket_of v.mode)) views
 
@@ -67,7 +67,7 @@ module _ {S O E : Type 0} where
   abbrev pub fresh : O → S → ℕ → Member S O E
   fresh o state n = record { number = n; opening = o; mine = []; last = state }
 
-  -- the seat's view while the numbers from `next` on are still to be given out, of which there are `left`
+  -- the seat's view while the `left` numbers from `next` on are still to be given out
   abbrev pub opening_view : ℕ → ℕ → O → S → View S O E
   opening_view next left o state = record {
     mode = Idle;

@@ -14,7 +14,7 @@ use crate::plays::TakeIn;
 impl<S: Kept> Gate<S> {
     /// Takes all passes of the gate, and gives back the state. The number of each pass has to be among theirs.
     ///
-    /// What each of them knows is true of the state, and each entry was made by one of them.
+    /// What each pass knows is true of the state, and each entry was made by one of them.
     pub fn close(self, mut passes: Vec<Pass<S>>) -> S
         requires gate { All (λ p. p.gate ≡ self.gate) passes.items }
         requires all { (n : ℕ) → n < self.passes → Any (λ p. p.number ≡ n) passes.items }

@@ -1,4 +1,4 @@
-//! A gate, and the turns that are taken at it.
+//! A gate, and turns at it.
 ghost use Rattle.std.specs.Prelude.{◌≡◌, ◌≢◌, ℕ, ◌+◌, ◌%◌, ◌^◌, [], ◌∷◌, Some, None};
 ghost use Rattle.rlock.specs.declared.view.Mode.TheVariants.{Waiting, Served, Putting};
 ghost use Rattle.rlock.specs.Known.{Known, Appends, KeepsOthers, IsTrueOf, entered, left};
@@ -13,19 +13,19 @@ use std::marker::{Brand, Model};
 use std::sync::Wait;
 use std::{hint, thread};
 
-// How often a pass looks for its ticket before it lets another thread have its processor.
+// How often a pass looks for its ticket before it lets another thread run.
 const LOOKS: u32 = 100;
 
-// How often it looks for room before it draws one.
+// How often it looks whether few tickets are out before it lets another thread run.
 const GLANCES: u32 = 10;
 
-// How many tickets may be ahead of a pass that looks on.
+// How many tickets may be ahead of a pass that keeps looking.
 const NEAR: u64 = 3;
 
 // How many tickets may be out when another one is drawn.
 const OUT: u64 = 1;
 
-/// One state, at which its passes take turns.
+/// One state, at which passes take turns.
 ///
 /// Contracts see which `gate` it is, and the number of its `passes`.
 #[derive(Drop)]
@@ -49,7 +49,7 @@ impl<S: Kept> Gate<S> {
     /// Waits for the turn of a pass of this gate, and takes the state.
     ///
     /// What the pass knows is true of the state: since the pass left it, others have done to it only what turns of others may.
-    /// The pass has then seen the state's list, and has had one turn more.
+    /// The pass has then seen the state's list, and has had one more turn.
     pub fn enter<R: Wait>(&self, rt: &R, pass: Pass<S>) -> Turn<S>
         requires { pass.gate ≡ self.now.gate }
         ensures pass { result.pass ≡ entered pass (S.entries result.state) }
@@ -64,7 +64,8 @@ impl<S: Kept> Gate<S> {
         Turn { holder, state }
     }
 
-    // Waits until few tickets are out, so that whoever draws one is not far from being served. What it sees may be past when it returns.
+    // Waits until few tickets are out, so that a pass that draws one will soon be served. What it saw may be out of date when it
+    // returns.
     fn await_room<R: Wait>(&self, rt: &R) {
         let mut glances = 0;
         for _ in rt.forever() {
@@ -83,7 +84,7 @@ impl<S: Kept> Gate<S> {
         unreachable!()
     }
 
-    // Looks which ticket is served until it is this one, and takes the state.
+    // Looks at which ticket is served until it is this one, and takes the state.
     fn await_ticket<R: Wait>(&self, rt: &R, place: &mut Place<S>, ticket: u64) -> S
         requires gate { place.old.table_id ≡ self.now.gate }
         requires ready { (k : Known S S.Opening S.Entry) × (t : ℕ) × Waits place.old k t × (t % 2 ^ 64 ≡ ticket) }
@@ -108,8 +109,9 @@ impl<S: Kept> Gate<S> {
         unreachable!()
     }
 
-    /// Gives the state back, and ends the turn. Its opening has to be as it was at the entry, its list the one at the entry with entries of this pass behind it,
-    /// and what the turn did to it something that every other pass lets the turns of others do.
+    /// Gives the state back, and ends the turn. Its opening must be as it was at the entry, its list the one at the entry with
+    /// entries of this pass added at the end. What the turn did to the state must be something that every other pass lets the
+    /// turns of others do.
     ///
     /// The pass has then seen the list that it left, made its new entries, and left this state last.
     pub fn leave(&self, turn: Turn<S>) -> Pass<S>
@@ -126,7 +128,7 @@ impl<S: Kept> Gate<S> {
         Pass { place, number }
     }
 
-    // The state, which is out with the pass, is from now on what others will find, and its list the kept one.
+    // The state, which is out with the pass, is from now on what others will find, and its list is the kept list.
     fn note<L: Telling<S>>(&self, place: &mut Place<S>, state: &S)
         requires gate { place.old.table_id ≡ self.now.gate }
         requires telling { L.told ≡ Some state.now }
@@ -137,7 +139,7 @@ impl<S: Kept> Gate<S> {
         self.board.shared.fetch_add::<Note<L>>(place, 1, 0);
     }
 
-    // Puts the state in its place, and lets the next pass go on.
+    // Puts the state back in its slot, and lets the next pass go on.
     fn put_back(&self, place: &mut Place<S>, state: S)
         requires gate { place.old.table_id ≡ self.now.gate }
         requires ready { (k : Known S S.Opening S.Entry) × (t : ℕ) × Puts place.old k t state × (k.opening ≡ Some (S.opening state)) × (S.entries state ≡ k.seen) }

@@ -3,7 +3,7 @@ ghost use Rattle.std.specs.Prelude.{ℕ, List};
 
 /// A state with an opening, which no turn changes, and a list of entries, each made by a pass.
 ///
-/// Beside these it says what the turns of other passes leave as a pass left it: that is what the pass finds at its next turn.
+/// It also says what the turns of other passes leave as a pass left it: that is what the pass finds at its next turn.
 pub trait Kept {
     /// What the state was when the gate was made.
     type Opening;
@@ -26,6 +26,6 @@ pub trait Kept {
     /// They may do nothing.
     ghost stays_refl: { (n : ℕ) (state : Self) → stays n state state };
 
-    /// What two turns may do one after the other is something that turns may do.
+    /// Two turns in a row do nothing that turns may not do.
     ghost stays_trans: { (n : ℕ) (before between after : Self) → stays n before between → stays n between after → stays n before after };
 }

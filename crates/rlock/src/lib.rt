@@ -1,11 +1,9 @@
 //! A ticket lock whose kept history every pass can prove from.
 //!
-//! A gate keeps one state, which has an opening that no turn changes and a list of entries. A pass takes turns at it:
-//! `enter` waits for the pass's turn, and `leave` ends it. What a pass has seen and made stands in the contracts as lists,
-//! and `close` says that all of it stands in the one list that the state has in the end. What a turn does to the rest of the
-//! state every other pass has to allow, so that at its next turn a pass finds its own part as it left it.
-//!
-//! Two sample states for a gate, which show what its callers need.
+//! A [`Gate`] keeps one state, which has an opening that no turn changes and a list of entries. A [`Pass`] takes turns at it:
+//! `enter` waits for the pass's turn, and `leave` ends it. Contracts see what a pass has seen and made as lists, and `close` says
+//! that all of it is in the one list that the state has in the end. Whatever else a turn does to the state, every other pass has
+//! to allow: at its next turn a pass finds its own part as it left it. [`Roll`] and [`Shelf`] are two sample states.
 #![tactic(auto)]
 
 mod board;

@@ -13,9 +13,10 @@ use std::alloc::{AllocError, Global};
 use std::snapshot::Snapshot;
 
 impl<S: Kept + Drop> Gate<S> {
-    /// A gate before this state, and its passes, numbered from 0 in order. None of them has seen or made anything, and each knows the state as it is now.
+    /// A gate over this state, and its passes, numbered from 0 in order. No pass has seen or made anything, and each knows the
+    /// state as it is now.
     ///
-    /// At `Err` there was no memory, and the state is dropped.
+    /// `Err` means out of memory, and the state is dropped.
     pub fn new(alloc: Global, state: S, passes: u8) -> Result<(Gate<S>, Vec<Pass<S>>), AllocError>
         requires count { (1 ≤ passes) × (passes ≤ SEATS + 1) }
         requires no_entries { S.entries state ≡ [] }

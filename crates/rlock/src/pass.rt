@@ -1,4 +1,4 @@
-//! A pass, with which turns at a gate are taken.
+//! A pass, with which turns are taken at a gate.
 ghost use Rattle.std.specs.Prelude.{◌≡◌};
 ghost use Rattle.rlock.specs.Known.{Known};
 ghost use Rattle.rlock.specs.Steps.{RestsAs};
@@ -9,9 +9,9 @@ use std::marker::Model;
 
 /// A right to take turns at one gate. It cannot be copied.
 ///
-/// Contracts see which gate it is of, its `number`, the `opening` of the state behind that gate, the list of entries as
-/// the pass has `seen` it last, those of them that are `mine`, the state as the pass left it `last`, and the number of
-/// `turns` that the pass has had.
+/// Contracts see which gate it belongs to, its `number`, the `opening` of the state behind that gate, the list of entries as the
+/// pass has last `seen` it, those of them that are `mine`, the state as the pass left it `last`, and the number of `turns` that
+/// the pass has had.
 #[derive(Drop)]
 pub struct Pass<S: Kept> {
     pub(crate) place: Place<S>,

@@ -1,4 +1,4 @@
-//! What each step on the table tells, and how passes are split and joined.
+//! What each step on the table changes in the views, and how passes are split and joined.
 ghost use Rattle.std.specs.Prelude.{Option, None};
 ghost use Rattle.rlock.specs.Steps.{drew, looked, noted, returned, giving, given, joined, spent};
 
@@ -14,7 +14,7 @@ impl<S: Kept> Play<Option<S>, View<S, S::Opening, S::Entry>> for Draw {
     ghost then = { drew };
 }
 
-/// A pass looks which ticket is served.
+/// A pass looks at which ticket is served.
 pub(crate) struct Look;
 
 impl<S: Kept> Play<Option<S>, View<S, S::Opening, S::Entry>> for Look {
@@ -30,7 +30,7 @@ impl<S> Telling<S> for Brand {
     ghost told = { None };
 }
 
-/// A pass tells the state that it leaves, while that is out of its place.
+/// A pass announces the state that it leaves, while that is out of its slot.
 pub(crate) struct Note<L> {
     telling: PhantomData<L>,
 }
@@ -39,14 +39,14 @@ impl<S: Kept, L: Telling<S>> Play<Option<S>, View<S, S::Opening, S::Entry>> for 
     ghost then = { noted S.entries L.told };
 }
 
-/// The state is back in its place, and the next ticket is served.
+/// The state is back in its slot, and the next ticket is served.
 pub(crate) struct Return;
 
 impl<S: Kept> Play<Option<S>, View<S, S::Opening, S::Entry>> for Return {
     ghost then = { returned };
 }
 
-/// A pass gives out the least number that it has beside its own.
+/// A pass gives out the least number that it has besides its own.
 pub(crate) struct GiveOut;
 
 impl<S, O, E> Split<View<S, O, E>> for GiveOut {

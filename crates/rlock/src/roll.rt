@@ -15,16 +15,16 @@ use std::sync::Wait;
 pub struct Signature {
     /// The number of the pass.
     pub pass: u8,
-    /// How often it says that it had signed before.
+    /// How often it had signed before, by its own count.
     pub time: u32,
 }
 
 /// A roll of one day, with its signatures.
 #[derive(Drop)]
 pub struct Roll {
-    /// Which day: it tells one roll from another, and no turn changes it.
+    /// Which day: it distinguishes rolls, and no turn changes it.
     pub day: u64,
-    /// The signatures, the first that was made first.
+    /// The signatures, the earliest first.
     pub signed: Vec<Signature>,
 }
 
@@ -39,7 +39,7 @@ impl Kept for Roll {
 
     ghost number = { λ s. s.pass };
 
-    // What a pass needs to know of a roll stands in the list.
+    // What a pass needs to know of a roll is in the list.
     ghost stays = { λ n before after. Unit {0} };
 
     ghost stays_refl = { λ n state. tt };
@@ -69,7 +69,8 @@ impl Roll {
     }
 }
 
-/// Signs the roll behind the gate in one turn of the pass, which comes back. At `Err` there was no memory, and the roll is as it was.
+/// Signs the roll behind the gate in one turn of the pass, which comes back. `Err` means out of memory, and the roll is as it
+/// was.
 pub fn sign_in<R: Wait>(
     rt: &R,
     gate: &Gate<Roll>,

@@ -1,4 +1,4 @@
-//! A sample state whose parts go out with a pass: what a pass took in one turn is out with it still at its next.
+//! A sample state whose parts go out with a pass: what a pass took in one turn is still out with it at its next.
 ghost use Rattle.std.specs.Prelude.{◌≡◌, ◌≢◌, ℕ, ◌+◌, true, false, Some, None, IfSome, if◌then◌else◌, slice_get, slice_set};
 ghost use Rattle.rlock.specs.declared.shelf.Spot.TheVariants.{Home, Out};
 ghost use Rattle.rlock.specs.Known.{IsSamePass};
@@ -18,7 +18,7 @@ pub enum Spot {
     Out(u8),
 }
 
-/// Spots for values, which passes take out and give home. It keeps no entries.
+/// Spots for values, which passes take out and bring home. It keeps no entries.
 #[derive(Drop)]
 pub struct Shelf {
     /// Where the value of each spot is.
@@ -38,7 +38,7 @@ impl Kept for Shelf {
 
     ghost number = { λ entry. 0 };
 
-    // What is out with a pass stays out with it, and nothing else comes to be. No spot comes or goes.
+    // What is out with a pass stays out with it, and nothing else comes to be out with it. No spot appears or disappears.
     ghost stays = { λ n before after. StaysOut n before after × StaysOut n after before × HasAsManySpots before after };
 
     ghost stays_refl = { λ n shelf. ((λ spot out. out), (λ spot out. out), refl) };
@@ -47,7 +47,7 @@ impl Kept for Shelf {
 }
 
 impl Shelf {
-    /// Takes out the value of a spot for the pass, where it is at home. Else nothing changes.
+    /// Takes out the value of a spot for the pass, if it is at home. If not, nothing changes.
     pub fn take(&mut self, spot: usize, pass: u8) -> Option<u64>
         ensures taken { IfSome result (λ value. (slice_get self.old.spots.items spot ≡ Some (Home value)) × (self.new.spots.items ≡ slice_set self.old.spots.items spot (Out pass))) }
         ensures home { (value : ℕ) → slice_get self.old.spots.items spot ≡ Some (Home value) → result ≡ Some value }
@@ -61,7 +61,7 @@ impl Shelf {
         Some(value)
     }
 
-    /// Puts the value of a spot home, which is out with the pass.
+    /// Puts home the value of a spot that is out with the pass.
     pub fn put(&mut self, spot: usize, pass: u8, value: u64)
         requires { slice_get self.old.spots.items spot ≡ Some (Out pass) }
         ensures { self.new.spots.items ≡ slice_set self.old.spots.items spot (Home value) }
@@ -70,10 +70,10 @@ impl Shelf {
     }
 }
 
-/// Takes out the value of a spot in one turn of the pass, where it is at home: at `None` it is not, and nothing is taken out.
-/// What was out with the pass is out with it still, and is not taken out again; nothing else is out with it but what it takes
-/// out here, and no spot comes or goes. What is found at home others may have put there since, of which a pass knows nothing:
-/// so no clause says which value comes.
+/// Takes out the value of a spot in one turn of the pass, if it is at home: at `None` it is not, and nothing is taken out. What
+/// was out with the pass is still out with it, and is not taken out again. Nothing else comes to be out with it but what it takes
+/// here, and no spot appears or disappears. Others may have put the value there since the pass last looked, so no clause says
+/// which value it is.
 pub fn take_out<R: Wait>(
     rt: &R,
     gate: &Gate<Shelf>,
@@ -97,8 +97,8 @@ pub fn take_out<R: Wait>(
     (gate.leave(turn), value)
 }
 
-/// Gives home the value of a spot that is out with the pass, in one turn of it.
-/// What else was out with the pass is out with it still, and nothing more. No spot comes or goes.
+/// Brings home the value of a spot that is out with the pass, in one turn of it. What else was out with the pass is still out
+/// with it, and nothing more. No spot appears or disappears.
 pub fn give_home<R: Wait>(
     rt: &R,
     gate: &Gate<Shelf>,
@@ -121,9 +121,9 @@ pub fn give_home<R: Wait>(
     gate.leave(turn)
 }
 
-/// Adds to the value of a spot, where it is at home: takes it out, and gives it home in a later turn. Answers whether it did:
-/// it did not where the value is not at home. A sum that is too great ends at the greatest value. What was out with the pass
-/// is out with it still, and nothing more, and no spot comes or goes.
+/// Adds to the value of a spot, if it is at home: takes it out, and brings it home in a later turn. Answers whether the value was
+/// at home. A sum that is too great becomes the greatest value. What was out with the pass is still out with it, and nothing
+/// more, and no spot appears or disappears.
 pub fn add<R: Wait>(
     rt: &R,
     gate: &Gate<Shelf>,

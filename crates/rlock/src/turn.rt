@@ -28,8 +28,7 @@ impl<S: Kept> Model for Holder<S> {
 
 /// The state, in the hands of one pass. It must be given back by `leave`.
 ///
-/// Contracts see the `pass`, which has seen the list as it was at the entry, the state as it was `found` at the entry, and
-/// the `state`.
+/// Contracts see the `pass`, which has seen the list as it was at the entry, the state as `found` at the entry, and the `state`.
 pub struct Turn<S: Kept> {
     pub(crate) holder: Holder<S>,
     pub(crate) state: S,

@@ -1,4 +1,4 @@
--- What a scribe has read on comes behind what the feed was fed.
+-- What a scribe has read on comes after what the feed was fed.
 use Rattle.std.proofs.Common.{◌≡◌, ℕ, Bool, List, [], ◌++◌, map, drop, length, Some, refl, sym, ap, subst, ◌∙◌, append_assoc}
 use Rattle.std.proofs.Math.Seq.{drop-append_seam}
 use Rattle.std.proofs.lemmas.List.{map-append, drop-map}
@@ -23,12 +23,12 @@ use Rattle.rlooks.specs.Workers.{events_in, opening_for, Feeds}
 pub events_begin : {E : Type 0} (seen later : List (EntryFields E)) → IsPrefix seen later → IsPrefix (events_in seen) (events_in later)
 events_begin seen later p = (events_in p.0, sym (map-append (λ entry. entry.event) seen p.0) ∙ ap events_in p.1)
 
--- what was fed, and the events from there on, are all events
+-- what was fed, and the events after it, are all events
 pub fed_and_more : {E : Type 0} (later : List (EntryFields E)) (fed : List Event) → IsPrefix fed (events_in later) → fed ++ events_from (length fed) later ≡ events_in later
 fed_and_more later fed p =
     ap (λ es. fed ++ es) (sym (drop-map (λ entry. entry.event) (length fed) later) ∙ ap (drop (length fed)) (sym p.1) ∙ drop-append_seam fed p.0) ∙ p.1
 
--- A round: the scribe of the lock has read on, and what is behind what was fed is in `events`
+-- A round: the scribe of the lock has read on, and the events after what was fed are in `events`
 module _ {V E : Type 0} (after_edit : V → E → V) (taken : V → E → Bool) (number : V → ℕ) (site : Site) (b : Beginning V) (scribe later : SeatOf V E) (feed : Feeding) (monitor : Watching)
     (h : Feeds after_edit taken number site b scribe feed monitor) (of : IsScribeOf site later) (goes : Goes scribe [] later) (lawful : HasReadLawful after_edit taken number later) where
   pub begun_still : IsPrefix feed.fed (events_in later.seen)

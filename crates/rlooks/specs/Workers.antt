@@ -16,12 +16,13 @@ use Rattle.rmon.specs.Looks.{look_of}
 abbrev pub events_in : {E : Type 0} → List (EntryFields E) → List Event
 events_in entries = map (λ entry. entry.event) entries
 
--- how a feed of a lock begins that began so
+-- how the feed of a lock that began like this begins
 abbrev pub opening_for : {V : Type 0} → Beginning V → Opening
 opening_for b = record { groups = b.groups; seats = b.seats; cap = b.cap }
 
 module _ {V E : Type 0} (after_edit : V → E → V) (taken : V → E → Bool) (number : V → ℕ) where
-  -- The scribe is that of the lock, which began so, and what it has seen is lawful. The feed began as the lock did, and was fed a beginning of what the scribe has seen; the monitor is one of that feed
+  -- The scribe is that of the lock, which began like this, and what it has seen is lawful. The feed began as the lock did, and was fed a beginning of
+  -- what the scribe has seen; the monitor belongs to that feed
   pub record Feeds (site : Site) (b : Beginning V) (scribe : SeatOf V E) (feed : Feeding) (monitor : Watching) : Type 0 where
     pub of : IsScribeOf site scribe
     pub began : scribe.opening ≡ Some b

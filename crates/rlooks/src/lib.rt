@@ -1,4 +1,4 @@
-//! What watches a runtime while its tasks run: a worker that feeds a monitor, and one that only looks.
+//! Workers that watch a runtime while its tasks run: one feeds a monitor, another only looks.
 #![tactic(auto)]
 
 #[cfg(test)]

@@ -11,11 +11,11 @@ use rvalue::Editable;
 use std::alloc::{AllocError, Global};
 use std::sync::Wait;
 
-/// Reads on in the history, publishes what is new, and looks: the look has all that was published.
+/// Reads on in the history, publishes what is new, and looks: the look shows all that was published.
 ///
 /// # Errors
 ///
-/// Want of memory. The scribe comes back.
+/// Out of memory. The scribe comes back.
 pub fn feed_once<R: Wait, T: Editable, M: Machine>(
     rt: &R,
     alloc: Global,

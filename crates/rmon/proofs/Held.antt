@@ -1,4 +1,4 @@
--- What the first seats hold, with one more.
+-- What the first seats hold, with one more seat.
 use Rattle.std.proofs.Common.{◌≡◌, ℕ, ◌+◌, List, ap, add-one, if◌then◌else◌}
 use Rattle.rmodel.specs.declared.claimed.Claimed.{Claimed}
 use Rattle.rmodel.specs.declared.granted.Granted.{Granted}

@@ -1,4 +1,4 @@
--- Each step keeps the rule of the published image, and tells what its outcome says.
+-- Each step keeps the rule of the published image, and what its outcome says is known after it.
 use Rattle.std.proofs.Common.{◌≡◌, ◌≢◌, ℕ, List, [], ◌∷◌, ◌++◌, set, Option, Some, None, refl, sym, ap, ◌∙◌, subst, ⊎_elim}
 use mathlib.Core.Option.{some, some-ne-none}
 use lib.ListN.{get_elem?}
@@ -20,7 +20,7 @@ AllAgree o x views = (seat : ℕ) (v : Option Told) → get_elem? views seat ≡
 nothing_told : (o : Opening) (x : Image) → Agrees o x None
 nothing_told o x t is = absurd (cc is)
 
--- one view is another one, and the image one of the same feed
+-- one view is replaced by another, and the image by one of the same feed
 turned : (o : Opening) (x y : Image) (views : Views) (seat : ℕ) (w : Option Told) → AllAgree o x views → x.front.feed ≡ y.front.feed → Agrees o y w → AllAgree o y (set views seat w)
 turned o x y views seat w all same right j v at =
     ⊎_elim (λ (t : (j ≡ seat) × (w ≡ v)). subst (λ (u : Option Told). Agrees o y u) t.1 right)

@@ -41,7 +41,7 @@ all_taken x (e ∷ es) front all =
     let rest = all_taken y es front (subst (λ s. AreAccepted s es) (sym there) all.1) in
     (rest.0 ∙ ap (λ s. after s es) there, rest.1)
 
--- accepted events, and then others that are accepted behind them
+-- accepted events, and then others that are accepted after them
 pub accepted_append : (s : LockState) (es ds : List Event) → AreAccepted s es → AreAccepted (after s es) ds → AreAccepted s (es ++ ds)
 accepted_append s [] ds all more = more
 accepted_append s (e ∷ es) ds all more = (all.0, accepted_append (next s e) es ds all.1 more)
@@ -56,12 +56,12 @@ comes_at s (d ∷ es) (suc i) e accepted h there = comes_at (next s d) es i e ac
 pub has_taken : (f : Feeding) (es : List Event) (i : ℕ) → HasTaken f es (record f { fed = f.fed ++ take i es })
 has_taken f es i = (take i es, (drop i es, take-append-drop i es), refl)
 
--- what holds is so at an error
+-- what holds anyway holds at an error
 pub on_err : {T E : Type 0} (r : Result T E) {P : Type 0} → P → OnErr r P
 on_err (Ok x) p = tt
 on_err (Err e) p = p
 
--- what follows from what holds at an error is so too
+-- what follows from what holds at an error holds there too
 pub err_then : {T E : Type 0} (r : Result T E) {P Q : Type 0} → OnErr r P → (P → Q) → OnErr r Q
 err_then (Ok x) p f = tt
 err_then (Err e) p f = f p

@@ -1,4 +1,4 @@
--- How a feed keeps what it is known by.
+-- How the fields of a feed give what contracts see of it.
 use Rattle.std.specs.Prelude.{◌≡◌, List, ◌++◌, map, drop, Option, Some}
 use Rattle.left_right.specs.Sides.{view}
 use Rattle.rclaim.specs.declared.event.Event.{Event}
@@ -26,7 +26,7 @@ pub record IsFeeding (a : Inside) : Type 0 where
   pub its_feed : told.front.feed ≡ a.front.feed
   -- its word counts the events of this feed
   pub counts : a.head ≡ head_of a.front.feed
-  -- what is published is what the published events lead to, and what is pending are the other ones
+  -- what is published is what the published events lead to, and what is pending are the others
   pub same_feed : (shown_by a).front.feed ≡ a.front.feed
   pub image : IsAfter told.opening (shown_by a)
   pub more : List Event

@@ -9,7 +9,7 @@ use Rattle.rmodel.specs.Claims.{is_admitted}
 use Rattle.rmodel.specs.State.{LockState}
 use Rattle.rmodel.specs.Steps.{refusal}
 
--- what is asked for beside the seat
+-- what is asked for besides the seat
 abbrev pub fits_part : LockState → Event → Bool
 fits_part s (Issue seat r) = all_below s.groups.q r.reads && (all_below s.groups.q r.writes && (is_admitted s.groups.groups r && nat_lt s.issued (2 ^ 63)))
 fits_part s (Finish seat) = true

@@ -9,7 +9,7 @@ use Rattle.rmon.specs.declared.image.Image.{Image}
 use Rattle.rmon.specs.declared.image.Change.{Change}
 use Rattle.rmon.specs.declared.image.Change.TheVariants.{Take, Reach}
 
--- a machine takes an event where it may come
+-- a machine takes an event if it may come
 abbrev pub stepped : Standing → Event → Standing
 stepped m e = if fits m.state e && is_accepted m.state e then record { state = next m.state e; last = changes_between m.state (next m.state e) } else m
 

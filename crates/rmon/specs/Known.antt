@@ -30,7 +30,7 @@ feeding_code =
     code_by (Book × (Option Opening × (List Event × List Event))) (coded× book_coded (coded× (coded_option opening_code) (coded× (coded_list event_code) (coded_list event_code))))
     (λ f. (f.feed, (f.opening, (f.published, f.fed)))) (λ p. record { feed = p.0; opening = p.1.0; published = p.1.1.0; fed = p.1.1.1 }) (λ _. refl)
 
--- of which feed it is, how that began, and the events of it that were seen. Each monitor that a feed gives out knows the opening
+-- which feed it belongs to, how that began, and the events of it that were seen. Each monitor that a feed gives out knows the opening
 pub record Watching : Type 0 where
   pub feed : Book
   pub opening : Option Opening
@@ -48,11 +48,12 @@ begun feed o = record { feed = feed; opening = Some o; published = []; fed = [] 
 abbrev pub newcomer : Book → Opening → Watching
 newcomer feed o = record { feed = feed; opening = Some o; seen = [] }
 
--- a feed has taken the first of these events, and published nothing
+-- a feed has taken the first of these events, and has published nothing more
 abbrev pub HasTaken : Feeding → List Event → Feeding → Type 0
 HasTaken f events g = (taken : List Event) × IsPrefix taken events × (g ≡ record f { fed = f.fed ++ taken })
 
--- A monitor has looked: it has seen what it had, and maybe more behind it. What it has seen are accepted events, and the look is that of the state after them
+-- A monitor has looked: it has seen what it had, and maybe more after that. What it has seen are accepted events, and the look is that of the state
+-- after them
 pub record HasLooked (m n : Watching) (look : Look) : Type 0 where
   pub feed : n.feed ≡ m.feed
   pub opening : n.opening ≡ m.opening

@@ -1,4 +1,4 @@
--- What a look shows of a lock state.
+-- What a look shows of the state of a lock.
 use Rattle.std.specs.Prelude.{ℕ, zero, suc, ◌+◌, List, if◌then◌else◌}
 use Rattle.rmodel.specs.declared.claimed.Claimed.{Claimed}
 use Rattle.rmodel.specs.declared.granted.Granted.{Granted}
@@ -7,7 +7,7 @@ use Rattle.rmodel.specs.State.{LockState}
 use Rattle.rmodel.specs.Steps.{incomplete_of}
 use Rattle.rmon.specs.declared.look.Look.{Look}
 
--- with one seat more
+-- with one more seat
 abbrev pub with_held : ℕ × Granted → Granted → ℕ × Granted
 with_held sum held = (if is_nothing held then sum.0 else sum.0 + 1, both sum.1 held)
 

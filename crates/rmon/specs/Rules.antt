@@ -1,4 +1,4 @@
--- The rule of the published image, and what its steps tell.
+-- The rule of the published image, and what is known after its steps.
 use Rattle.std.specs.Prelude.{◌≡◌, ℕ, List, [], fold, Option, Some, None}
 use mathlib.Core.Option.{some}
 use lib.ListN.{get_elem?}
@@ -33,11 +33,11 @@ pub record IsRuled (x : Image) (views : List (Option Told)) : Type 0 where
 abbrev pub Begins : Option Told → Image → Image → Option Told → Type 0
 Begins v x y w = y.front.events ≡ [] → w ≡ Some (record { opening = opening_in y.machine.state; front = y.front })
 
--- where the image is known, it is what its events lead to
+-- if the image is known, it is what its events lead to
 abbrev pub Looks : Option Told → Image → Image → Option Told → Type 0
 Looks v x y w = (w ≡ v) × ((t : Told) → v ≡ Some t → IsAfter t.opening x × (t.front.feed ≡ x.front.feed))
 
--- how the feed of a seat began, where that is known
+-- how the feed of a seat began, if that is known
 abbrev pub opening_told : Option Told → Option Opening
 opening_told None = None
 opening_told (Some t) = Some t.opening

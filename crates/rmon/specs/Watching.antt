@@ -1,4 +1,4 @@
--- How a monitor keeps what it is known by.
+-- How the fields of a monitor give what contracts see of it.
 use Rattle.std.specs.Prelude.{◌≡◌, Some}
 use Rattle.left_right.specs.Sides.{view}
 use Rattle.rmon.specs.declared.monitor.Monitor.TheInside.{Inside}

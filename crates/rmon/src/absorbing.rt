@@ -1,4 +1,4 @@
-//! How an image takes a change, which never fails.
+//! How an image takes a change. It never fails.
 use crate::fitting::fits;
 use crate::image::{Change, Image};
 use left_right::Absorb;
@@ -19,7 +19,7 @@ impl Absorb<Change> for Image {
     fn absorb_first(&mut self, change: &Change, _other: &Image) -> Result<(), AllocError> {
         match change {
             Change::Take(event) => {
-                // An event that may not come would change nothing. None is fed.
+                // An event that may not come would change nothing. No such event is fed.
                 if fits(&self.machine, event) {
                     let _ = self.machine.step(*event);
                 }

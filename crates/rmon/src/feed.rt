@@ -1,4 +1,4 @@
-//! The one that feeds.
+//! The feed.
 ghost use Rattle.std.specs.Prelude.{◌≡◌, ◌≤◌, ◌<◌, ◌^◌, ◌∷◌, ◌++◌, [], Some, None, drop, fold, length, All, IfOk, IfErr, OnOk, OnErr, List};
 ghost use Rattle.rset.specs.declared.TheConstants.{SEATS};
 ghost use Rattle.left_right.specs.Sides.{view};
@@ -28,7 +28,7 @@ use std::thread;
 
 /// Publishes the events of a lock. It is not `Drop`: end it by `close`.
 ///
-/// Contracts see which `feed` it is, its `opening`, the events that were `published`, and all that were `fed`.
+/// Contracts see which `feed` it is, its `opening`, the events `published`, and all events `fed`.
 pub struct Feed {
     writer: ImageWriter,
     head: Head,
@@ -55,7 +55,7 @@ impl Feed {
     ///
     /// # Errors
     ///
-    /// Want of memory.
+    /// Out of memory.
     pub fn new<R: Wait>(
         rt: &R,
         alloc: Global,
@@ -82,7 +82,7 @@ impl Feed {
         Ok((feed, all))
     }
 
-    // A feed over two machines that are alike.
+    // A feed over two equal machines.
     fn over<R: Wait>(
         rt: &R,
         alloc: Global,
@@ -136,7 +136,7 @@ impl Feed {
     ///
     /// # Errors
     ///
-    /// Want of memory. The first of them were taken, and none of those is published yet.
+    /// Out of memory. The first of the events may have been taken; none of them is published yet.
     pub fn pump<R: Wait>(&mut self, rt: &R, events: &[Event]) -> Result<Note, AllocError>
         requires { (o : Opening) → self.old.opening ≡ Some o → AreAccepted (after (opening_of o) self.old.fed) events.now }
         ensures taken { OnOk result (self.new ≡ record self.old { published = self.old.fed ++ events.now; fed = self.old.fed ++ events.now }) }
@@ -212,7 +212,7 @@ impl Feed {
         }
     }
 
-    /// Ends it, and waits for those that look. A monitor of it must not look from then on: it would wait for ever.
+    /// Ends the feed, and waits for looks in progress. No monitor of it may look from then on: it would wait for ever.
     pub fn close<R: Wait>(self, rt: &R) {
         let Feed {
             writer,
@@ -223,7 +223,7 @@ impl Feed {
     }
 }
 
-// Counts an event that was taken. Nobody else counts there.
+// Counts an event that was taken. Nothing else counts there.
 fn count<R: Wait>(rt: &R, head: &Head, front: &mut Front, event: &Event)
     requires head { head.now ≡ head_of front.old.feed }
     requires room { length front.old.events < u64.MAX }
@@ -239,7 +239,7 @@ fn count<R: Wait>(rt: &R, head: &Head, front: &mut Front, event: &Event)
     unreachable!()
 }
 
-// The writer of two images that are alike and have no events. It knows how they began.
+// The writer of two equal images that have no events. It knows how they began.
 fn writer_over<R: Wait>(
     rt: &R,
     alloc: Global,
@@ -271,7 +271,7 @@ fn show<R: Wait>(rt: &R, writer: ImageWriter) -> ImageWriter
     writer
 }
 
-// A reader, which knows nothing. It waits for a place.
+// A reader, which knows nothing. It waits for a free place.
 fn reader_of<R: Wait>(rt: &R, writer: &ImageWriter) -> ImageReader
     ensures nothing { view result.place ≡ None }
     ensures table { result.place.table_id ≡ writer.now.desk.place.table_id }

@@ -1,4 +1,4 @@
-//! A list of events that only grows, and beginnings of it. It is kept in proofs alone: what there is of it is its length.
+//! A list of events that only grows, and beginnings of it. It exists only in proofs: at run time there is its length alone.
 ghost use Rattle.std.specs.Prelude.{◌≡◌, ◌≤◌, ◌<◌, ◌∷◌, ◌++◌, [], length, IsTrue, MatchBool};
 ghost use mathlib.Core.List.{IsPrefix};
 ghost use Rattle.rmon.specs.Fronts.{head_of, Reached};
@@ -28,7 +28,7 @@ impl Rule<Event, u64> for Law {
     ghost moves = { λ ask before after answer. Unit {0} };
 }
 
-/// Nobody keeps anything beside it.
+/// Nobody keeps anything besides it.
 pub struct Nothing;
 
 impl Gain<Event, u64> for Nothing {
@@ -104,7 +104,7 @@ impl Front {
         }
     }
 
-    /// The longer of two fronts, which the other begins; the other one where they are equal.
+    /// The longer of two fronts, which begins with the other; `other` where they are equal.
     pub fn longer(&self, other: &Front) -> Front
         requires feed { other.now.feed ≡ self.now.feed }
         ensures feed { result.feed ≡ self.now.feed }
@@ -121,7 +121,7 @@ impl Front {
         }
     }
 
-    /// Adds an event to all that was seen, and says whether it did. It did not where the list is longer.
+    /// Adds an event, if this front is the whole list, and says whether it did. It did not if the list is longer.
     pub fn push(&mut self, head: &Head, event: &Event) -> bool
         requires head { head.now ≡ head_of self.old.feed }
         requires room { length self.old.events < u64.MAX }

@@ -1,4 +1,4 @@
-//! What both copies are, and what is done to each.
+//! What each of the two copies is, and what is done to each.
 use crate::front::Front;
 use rclaim::Event;
 use rplain::Plain;
@@ -10,11 +10,11 @@ pub struct Image {
     pub front: Front,
 }
 
-/// What is done to an image.
+/// A change of an image.
 #[derive(Drop)]
 pub enum Change {
     /// The machine takes an event.
     Take(Event),
-    /// With the changes so far it has come to this front.
+    /// With the changes so far, the image has reached this front.
     Reach(Front),
 }

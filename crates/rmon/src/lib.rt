@@ -1,8 +1,8 @@
-//! What a lock has come to, for those that watch it: looks take no lock, and keep nobody waiting at the lock.
+//! The present state of a lock, for those that watch it. A look takes no lock, and keeps nobody waiting at the lock.
 //!
-//! A [`Feed`] is told the events of a lock, and publishes them. It keeps two copies of a machine: a [`Monitor`] looks at the
-//! one that was published last, while the other one takes in the next events. A [`Note`] says that something was published,
-//! and what a monitor has learnt of, its next look shows.
+//! A [`Feed`] is given the events of a lock and publishes them. It keeps two copies of a machine: a [`Monitor`] looks at the one
+//! that was published last, while the other takes in the next events. A [`Note`] says that events were published; a monitor that
+//! has learnt a note shows them at its next look.
 #![tactic(auto)]
 
 mod absorbing;

@@ -7,7 +7,7 @@ use rmodel::{Granted, Machine};
 use rplain::Plain;
 use rset::ResourceSet;
 
-/// What a lock has come to after some events.
+/// The state of a lock after some events, in brief.
 #[derive(Clone, Copy, Debug)]
 pub struct Look {
     /// How many events.

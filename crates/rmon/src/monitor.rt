@@ -1,4 +1,4 @@
-//! Those that look.
+//! Monitors, which look.
 ghost use Rattle.std.specs.Prelude.{◌≡◌, Some, length, MatchResult};
 ghost use mathlib.Core.List.{IsPrefix};
 ghost use Rattle.rmodel.specs.Steps.{after, AreAccepted};
@@ -34,7 +34,7 @@ impl Model for Note {
 
 /// Looks at what a feed has published.
 ///
-/// Contracts see of which `feed` it is, how that began, and the events of it that the monitor has `seen`.
+/// Contracts see which `feed` it belongs to, how that began, and the events of it that the monitor has `seen`.
 #[derive(Drop)]
 pub struct Monitor {
     pub(crate) reader: ImageReader,
@@ -66,8 +66,8 @@ impl Monitor {
         self.front = self.front.longer(&note.front);
     }
 
-    /// Shows what the lock has come to. It takes no memory and no lock.
-    /// It has then seen a list of accepted events, which begins with all that it had seen, and the look is that of the state after them.
+    /// Shows the state of the lock. It takes no memory and no lock. The monitor has then seen a list of accepted events that
+    /// begins with all that it had seen, and the look is that of the state after them.
     pub fn look<R: Wait>(&mut self, rt: &R) -> Look
         ensures same { (self.new.feed ≡ self.old.feed) × (self.new.opening ≡ self.old.opening) }
         ensures before { IsPrefix self.old.seen self.new.seen }

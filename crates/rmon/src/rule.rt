@@ -1,4 +1,4 @@
-//! The rule of the published image, and what its steps tell.
+//! The rule of the published image, and what is known after its steps.
 use crate::front::Front;
 use crate::image::{Change, Image};
 use atomic_table::{Join, Split};
@@ -7,14 +7,14 @@ use left_right::reader::Reader;
 use left_right::writer::Writer;
 use rexpand::Groups;
 
-/// What a machine was made with. No value of it is made.
+/// What a machine was made with. No value of it is ever made.
 pub struct Opening {
     pub groups: Groups,
     pub seats: u64,
     pub cap: u64,
 }
 
-/// What a seat at the image knows: how the image began, and of which feed it is. No value of it is made.
+/// What a seat at the image knows: how the image began, and which feed it belongs to. No value of it is ever made.
 pub struct Told {
     pub opening: Opening,
     pub front: Front,
@@ -41,7 +41,7 @@ impl Outcome<Image, Option<Told>> for Begins {
     ghost then = { Begins };
 }
 
-/// A step that tells no more than is known.
+/// A step that publishes no more than is known.
 pub struct Publishes;
 
 impl Outcome<Image, Option<Told>> for Publishes {
@@ -59,7 +59,7 @@ impl Outcome<Image, Option<Told>> for Looks {
     ghost then = { Looks };
 }
 
-/// What is known is told on.
+/// What is known is passed on.
 pub struct Copies;
 
 impl Split<Option<Told>> for Copies {
@@ -68,7 +68,7 @@ impl Split<Option<Told>> for Copies {
     ghost right = { λ v. v };
 }
 
-/// What was told is known.
+/// What was passed on is known.
 pub struct Learns;
 
 impl Join<Option<Told>> for Learns {
@@ -79,7 +79,7 @@ impl Join<Option<Told>> for Learns {
     ghost spent = { None };
 }
 
-/// Reads what was published last.
+/// Reads what was last published.
 pub type ImageReader = Reader<Image, Option<Told>, Ruled>;
 
 /// Has both copies.

@@ -1,4 +1,4 @@
-//! Who is to be told.
+//! Whom to notify.
 ghost use Rattle.std.specs.Prelude.{◌≡◌, ◌<◌, ◌==◌, ◌||◌, ℕ};
 ghost use Rattle.std.specs.FinSet.{contains};
 ghost use Rattle.rset.specs.declared.TheConstants.{SEATS};
@@ -7,7 +7,7 @@ ghost use Rattle.rpost.specs.Granted.{has_grant};
 use rclaim::GrantChange;
 use rset::{ResourceSet, SEATS};
 
-/// The seats that stand in the grants, as a set of numbers.
+/// The seats in the grants, as a set of numbers.
 pub fn seats_granted(grants: &[GrantChange]) -> ResourceSet
     ensures { (seat : ℕ) → seat < SEATS → contains result seat ≡ has_grant grants.now seat }
 {
@@ -18,7 +18,7 @@ pub fn seats_granted(grants: &[GrantChange]) -> ResourceSet
     seats
 }
 
-// The same seats with this one.
+// The same seats and this one.
 fn with_seat(seats: ResourceSet, seat: u8) -> ResourceSet
     ensures { (other : ℕ) → other < SEATS → contains result other ≡ ((other == seat) || contains seats other) }
 {

@@ -1,7 +1,7 @@
-//! Where seats wait until others tell them that they hold more.
+//! Where seats wait until others notify them that they hold more.
 //!
-//! Each seat has a post. Who has changed the locked state leaves a token at the post of each other seat that its event gave something; who
-//! waits rests at the post of its seat until a token is there.
+//! [`Posts`] has a post for each seat. Whoever has changed the locked state leaves a token at the post of each other seat that
+//! its event gave something; a seat that waits rests at its post until a token is there.
 #![tactic(auto)]
 
 mod granted;

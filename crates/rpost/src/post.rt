@@ -15,12 +15,12 @@ const NONE: u64 = 0;
 // A token is there.
 const TOKEN: u64 = 1;
 
-// None is there, and the waiter parks.
+// No token is there, and the waiter parks.
 const PARKED: u64 = 2;
 
 /// Where tokens for a seat are left, and where it waits for one. Two tokens that nobody has taken are one.
 ///
-/// A token is left in the flag alone, unless the waiter parks: then it has to be woken.
+/// Leaving a token only sets the flag, unless the waiter parks: then it has to be woken.
 #[derive(Drop)]
 pub(crate) struct Post {
     flag: CachePadded<AtomicU64>,
@@ -33,7 +33,7 @@ impl Post {
     ///
     /// # Errors
     ///
-    /// Want of memory.
+    /// Out of memory.
     pub(crate) fn new(alloc: Global) -> Result<Post, AllocError> {
         let parker = Parker::new(alloc)?;
         let unparker = parker.unparker().clone()?;
@@ -44,14 +44,14 @@ impl Post {
         })
     }
 
-    /// Leaves a token, and wakes the waiter that parks.
+    /// Leaves a token, and wakes the waiter if it parks.
     pub(crate) fn put<R: Wait>(&self, rt: &R) {
         if self.flag.swap(TOKEN, Ordering::SeqCst) == PARKED {
             self.unparker.lock(rt).unpark();
         }
     }
 
-    /// Takes a token, and waits for one where there is none: looks for a while, and then parks. Where another waits here already, it
+    /// Takes a token, or waits if there is none: looks for a while, and then parks. If another thread already waits here, it
     /// returns at once.
     pub(crate) fn rest<R: Wait>(&self, rt: &R) {
         if !self.comes_soon() {
@@ -62,11 +62,11 @@ impl Post {
                 self.park(rt);
             }
         }
-        // Whatever was told before this stands in the locked state, which the waiter looks at next.
+        // Whatever was reported before this is in the locked state, which the waiter looks at next.
         self.flag.store(NONE, Ordering::SeqCst);
     }
 
-    // Whether a token is there, now or soon.
+    // Whether a token is there, or comes soon.
     fn comes_soon(&self) -> bool {
         for _ in 0..LOOKS {
             if self.flag.load(Ordering::SeqCst) == TOKEN {

@@ -26,7 +26,7 @@ impl Posts {
     ///
     /// # Errors
     ///
-    /// Want of memory.
+    /// Out of memory.
     pub fn new(alloc: Global, seats: u8) -> Result<Posts, AllocError>
         ensures { IfOk result (λ posts. posts ≡ seats) }
     {
@@ -37,7 +37,7 @@ impl Posts {
         Ok(Posts { posts })
     }
 
-    /// Leaves a token for each of these seats but the one that tells.
+    /// Leaves a token for each of these seats but `own`.
     pub fn put<R: Wait>(&self, rt: &R, seats: ResourceSet, own: u8) {
         for seat in seats.iter() {
             if seat != own {
@@ -48,7 +48,7 @@ impl Posts {
         }
     }
 
-    /// Takes a token of the seat, and waits for one where there is none.
+    /// Takes a token of the seat, or waits if there is none.
     pub fn rest<R: Wait>(&self, rt: &R, seat: u8)
         requires { seat < self.now }
     {

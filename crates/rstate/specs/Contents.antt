@@ -39,7 +39,7 @@ contents_code {V} {E} code edit_code =
     (λ p. record { beginning = p.0; entries = p.1.0; taken = p.1.1 })
     (λ _. refl)
 
--- the state of the lock, which the entries tell
+-- the state of the lock, which the entries lead to
 abbrev pub lock_of : {V E : Type 0} → Contents V E → LockState
 lock_of c = lock_after c.beginning c.entries
 
@@ -47,7 +47,7 @@ lock_of c = lock_after c.beginning c.entries
 abbrev pub value_now : {V E : Type 0} → (V → E → V) → Contents V E → ℕ → V → V
 value_now after c l opening = value_of after opening c.entries l
 
--- the contents with one entry more
+-- the contents with one more entry
 abbrev pub with_entry : {V E : Type 0} → Contents V E → EntryFields E → Contents V E
 with_entry c entry = record c { entries = c.entries ++ entry ∷ [] }
 
@@ -56,11 +56,12 @@ pub record AreTaken (claims : List Claimed) (seats : ℕ) (taken : List Granted)
   pub each_seat : length taken ≡ seats
   pub within : (n : ℕ) (g : Granted) → slice_get taken n ≡ Some g → is_within g (holds_of claims n) ≡ true
 
--- nothing of the seat is pending: it has no request, or that holds something and no ask of it is pending
+-- nothing of the seat is pending: it has no request, or the request holds something and has no pending ask
 abbrev pub is_ready : LockState → ℕ → Bool
 is_ready s seat = not (has_request s.claims seat && is_not_holding s.claims seat)
 
--- a seat may issue the request: it is idle, the sets are of resources that there are, it is admitted, and fewer requests are incomplete than may be
+-- a seat may issue the request: it is idle, the sets are of resources that exist, the request is admitted, and fewer requests are incomplete than may
+-- be
 pub record MayIssue (s : LockState) (seat : ℕ) (r : RequestFields) : Type 0 where
   pub seat_there : seat < s.seats
   pub reads : IsTrue (all_below s.groups.q r.reads)
@@ -74,13 +75,15 @@ abbrev pub GivesBackAll : ℕ → Event → Type 0
 GivesBackAll seat event = (event ≡ Finish seat) ⊎ (event ≡ Rise seat)
 
 module _ {V E : Type 0} (after : V → E → V) where
-  -- Each resource has a home, which is absent exactly where a seat has taken the resource for writing, and else has the value that the entries make of its opening value
+  -- Each resource has a home. It is absent exactly if a seat has taken the resource for writing, and else has the value that the entries make of its
+  -- opening value
   pub record HomesAre (c : Contents V E) (at_home : List (ShareFields V)) : Type 0 where
     pub each : AreHome c.beginning.seats c.taken c.beginning.values (value_now after c) at_home
     pub all : length at_home ≡ length c.beginning.values
 
 module _ {V E : Type 0} (after : V → E → V) (taken : V → E → Bool) (number : V → ℕ) where
-  -- The machine is what the entries lead to, these are lawful, and there is room for one more entry for each claim: each event that gives something back takes a claim away
+  -- The machine is what the entries lead to, these are lawful, and there is room for one more entry for each claim, as each event that gives
+  -- something back takes a claim away
   pub record IsKept (machine : LockState) (spare : ℕ) (c : Contents V E) : Type 0 where
     pub machine_is : machine ≡ lock_of c
     pub lawful : IsLawfulFrom after taken number c.beginning c.entries
@@ -88,14 +91,14 @@ module _ {V E : Type 0} (after : V → E → V) (taken : V → E → Bool) (numb
     pub room : length machine.claims ≤ spare
     pub values : length c.beginning.values ≡ c.beginning.groups.q
 
-  -- what the type of a locked state keeps: `given` is the number of shares that were given for its end, of which there are none before, and `room` how many may be given
+  -- what the type of a locked state keeps. `given` is the number of shares given out at its end, 0 before that, and `room` is how many may be
   pub record IsState (machine : LockState) (spare : ℕ) (c : Contents V E) (at_home : List (ShareFields V)) (given room : ℕ) : Type 0 where
     pub kept : IsKept machine spare c
     pub homes : HomesAre after c at_home
     pub none_given : given ≡ 0
     pub closing : length at_home ≤ room
 
-  -- and those who watch the machine have been told just the steps of the entries
+  -- and the watchers of the machine have been given just the steps of the entries
   pub record IsWhole (machine : LockState) (watched : Option (List Seen)) (spare : ℕ) (c : Contents V E) (at_home : List (ShareFields V)) (given room : ℕ) : Type 0 where
     pub stands : IsState machine spare c at_home given room
     pub told : HaveBeenTold c.beginning c.entries watched
@@ -105,7 +108,7 @@ module _ {V E : Type 0} (after : V → E → V) where
   abbrev pub IsLentNow : Contents V E → Granted → LentFields V → Type 0
   IsLentNow c g lent = IsLent c.beginning.seats g c.beginning.values (value_now after c) (value_now after c) lent
 
-  -- With this entry just what the seat has taken comes home, what it has taken for writing as the entry makes it; and the entry edits nothing else
+  -- With this entry just what the seat has taken comes home, and what it has taken for writing as the entry makes it; the entry edits nothing else
   pub record ComesHome (c : Contents V E) (entry : EntryFields E) (g : Granted) (back : LentFields V) : Type 0 where
     pub lent : IsLent c.beginning.seats g c.beginning.values (value_now after c) (value_now after (with_entry c entry)) back
     pub edits : (l : ℕ) → contains g.writes l ≡ false → edits_of entry l ≡ []

@@ -15,7 +15,8 @@ use Rattle.rvalue.specs.Lawful.{IsRightEntry, IsLawful, state_after}
 use Rattle.rwatch.specs.Seen.{Seen, watched_after}
 use Rattle.rwatch.specs.Codes.{watched_code}
 
--- how a lock begins: the read groups, the number of seats and of requests that may be incomplete at once, the value of each resource, and those who watch, if there are any
+-- how a lock begins: the read groups, the number of seats and of requests that may be incomplete at once, the value of each resource, and the
+-- watchers, if there are any
 pub record Beginning (V : Type 0) : Type 0 where
   pub groups : ReadGroups
   pub seats : ℕ
@@ -31,7 +32,7 @@ reads_of s seat = (holds_of s.claims seat).reads
 abbrev pub writes_of : LockState → ℕ → Set
 writes_of s seat = (holds_of s.claims seat).writes
 
--- the resource has this value in the list, which tells of no resource beyond
+-- the resource has this value in the list, which has no resources beyond
 abbrev pub IsListed : {V : Type 0} → List V → ℕ → V → Type 0
 IsListed values l value = slice_get values l ≡ Some value
 
@@ -48,11 +49,11 @@ module _ {V : Type 0} where
   abbrev pub steps_in : {E : Type 0} → Beginning V → List (EntryFields E) → List (Event × ChangeLists)
   steps_in {E} b entries = steps_of (first_of b) (map (λ (entry : EntryFields E). entry.event) entries)
 
-  -- those who watch have been told just the steps of the entries, in order
+  -- the watchers have been given just the steps of the entries, in order
   abbrev pub HaveBeenTold : {E : Type 0} → Beginning V → List (EntryFields E) → Option (List Seen) → Type 0
   HaveBeenTold b entries watched = watched ≡ watched_after (steps_in b entries) b.watched
 
--- The rules of the model say what is lawful, and the list of opening values tells the values
+-- The rules of the model say what is lawful, and the list of opening values gives the values
 module _ {V E : Type 0} (after : V → E → V) (taken : V → E → Bool) (number : V → ℕ) (b : Beginning V) where
   -- the entry may come after the earlier ones
   abbrev pub MayFollow : List (EntryFields E) → EntryFields E → Type 0

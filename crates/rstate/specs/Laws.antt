@@ -12,13 +12,13 @@ use Rattle.rstate.specs.Histories.{Beginning, reads_of, writes_of, lock_after, I
 abbrev pub is_held_by : LockState → ℕ → ℕ → Bool
 is_held_by s seat l = contains (reads_of s seat) l || contains (writes_of s seat) l
 
--- the seat holds the resource later in the way in which it held it before
+-- the seat still holds the resource, in the same way as before
 pub record IsHeldStill (before later : LockState) (seat l : ℕ) : Type 0 where
   pub reads : contains (reads_of before seat) l ≡ true → contains (reads_of later seat) l ≡ true
   pub writes : contains (writes_of before seat) l ≡ true → contains (writes_of later seat) l ≡ true
 
--- What is held stays as it was: a resource that a seat holds after the first entries of a lawful history it holds in the same way after more of them, and its value is the same,
--- where none of those gives back what the seat holds
+-- What is held stays as it was: a resource that a seat holds after the first entries of a lawful history it still holds in the same way after more of
+-- them, with the same value, unless one of those gives back what the seat holds
 abbrev pub HeldStaysAsItWas : {V E : Type 0} → (V → E → V) → (V → E → Bool) → (V → ℕ) → Type 0
 HeldStaysAsItWas {V} {E} after taken number =
     (b : Beginning V) (begins more : List (EntryFields E)) (seat l : ℕ)

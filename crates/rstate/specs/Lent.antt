@@ -1,4 +1,4 @@
--- What is lent to a seat: of each resource that it has taken for reading one share, and of each that it has taken for writing all shares.
+-- What is lent to a seat: one share of each resource that it has taken for reading, and all shares of each that it has taken for writing.
 use Rattle.std.specs.Prelude.{◌≡◌, ℕ, ◌+◌, Bool, false, ◌==◌, Option, Some, None, List, [], ◌∷◌, map, slice_get, slice_set, if◌then◌else◌, refl}
 use Rattle.std.specs.Option.{option_map}
 use Rattle.std.specs.List.{list_any, AllByRecursion}
@@ -7,7 +7,7 @@ use Rattle.std.specs.Coded.{Coded, code_by, coded_ℕ, coded×, coded_list}
 use Rattle.rmodel.specs.declared.granted.Granted.{Granted}
 use Rattle.rstate.specs.Shares.{ShareFields, whole, share_code}
 
--- a share of the value of a resource, and all shares of one; and for how many of each kind there is room
+-- a share of the value of each resource lent to read, all shares of each lent to write, and for how many of each kind there is room
 pub record LentFields (V : Type 0) : Type 0 where
   pub reads : List (ℕ × V)
   pub writes : List (ℕ × ShareFields V)
@@ -26,7 +26,7 @@ lent_code {V} code =
 abbrev pub has : ℕ → List ℕ → Bool
 has l places = list_any (λ k. k == l) places
 
--- no resource stands twice
+-- no resource occurs twice
 abbrev pub Once : List ℕ → Type 0
 Once [] = Unit {0}
 Once (l ∷ places) = (has l places ≡ false) × Once places
@@ -40,12 +40,12 @@ abbrev pub at_place : {X : Type 0} → List (ℕ × X) → ℕ → Option X
 at_place [] l = None
 at_place (loan ∷ loans) l = if loan.0 == l then Some loan.1 else at_place loans l
 
--- at which place of the list the resource stands first
+-- the first place of the resource in the list
 abbrev pub index_of : {X : Type 0} → List (ℕ × X) → ℕ → ℕ
 index_of [] l = 0
 index_of (loan ∷ loans) l = if loan.0 == l then 0 else index_of loans l + 1
 
--- the list with other shares of the resource in the place of those that are there
+-- the list with other shares of the resource replacing those that are there
 abbrev pub replaced : {X : Type 0} → List (ℕ × X) → ℕ → X → List (ℕ × X)
 replaced loans l shares = slice_set loans (index_of loans l) (l, shares)
 
@@ -58,7 +58,8 @@ value_from None whole = option_map (λ shares. shares.value) whole
 abbrev pub lent_value : {V : Type 0} → LentFields V → ℕ → Option V
 lent_value lent l = value_from (at_place lent.reads l) (at_place lent.writes l)
 
--- Just what a seat has taken is lent to it, of values that are listed as they open: what it reads as it is now, by `at`, and what it writes as it is to be, by `later`
+-- Just what a seat has taken is lent to it, of values with these opening values: what it reads as it is now, by `at`, and what it writes as it will
+-- be, by `later`
 pub record IsLent {V : Type 0} (seats : ℕ) (g : Granted) (values : List V) (at later : ℕ → V → V) (lent : LentFields V) : Type 0 where
   pub reads_once : Once (places lent.reads)
   pub reads_has : (l : ℕ) → has l (places lent.reads) ≡ contains g.reads l

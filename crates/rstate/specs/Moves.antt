@@ -24,7 +24,7 @@ module _ {V : Type 0} where
   abbrev pub HasShare : List (ShareFields V) → ℕ → Type 0
   HasShare homes l = (home : ShareFields V) × (slice_get homes l ≡ Some home) × (0 < home.count)
 
-  -- and so it is of each of several, when its turn comes
+  -- and that holds for each of several, when its turn comes
   abbrev pub HaveShares : (ShareFields V → ShareFields V) → List (ShareFields V) → List ℕ → Type 0
   HaveShares f homes [] = Unit {0}
   HaveShares f homes (l ∷ ls) = HasShare homes l × HaveShares f (change_at f homes l) ls
@@ -47,11 +47,11 @@ module _ {V : Type 0} where
   wholes_from homes [] = []
   wholes_from homes (l ∷ ls) = whole_of (slice_get homes l) l ++ wholes_from (change_at absent homes l) ls
 
-  -- a share is missing at home of the resource of the loan, and it is one of that value
+  -- a share of the loan's resource is missing at home, and the loan has that value
   abbrev pub IsMissed : List (ShareFields V) → ℕ × V → Type 0
   IsMissed homes loan = (home : ShareFields V) × (slice_get homes loan.0 ≡ Some home) × (home.count < home.full) × (loan.1 ≡ home.value)
 
-  -- and so it is of each of several, when its turn comes
+  -- and that holds for each of several, when its turn comes
   abbrev pub AreMissed : List (ShareFields V) → List (ℕ × V) → Type 0
   AreMissed homes [] = Unit {0}
   AreMissed homes (loan ∷ loans) = IsMissed homes loan × AreMissed (change_at more homes loan.0) loans
@@ -71,7 +71,7 @@ module _ {V : Type 0} where
   after_wholes homes [] = homes
   after_wholes homes (whole ∷ wholes) = after_wholes (slice_set homes whole.0 whole.1) wholes
 
-  -- there is room for what a seat that has taken the first takes more of the second
+  -- there is room for what a seat takes more when it goes from the first to the second
   pub record HasRoomFor (taken granted : Granted) (lent : LentFields V) : Type 0 where
     pub reads : length lent.reads + length (rising (difference granted.reads taken.reads)) ≤ lent.reads_room
     pub writes : length lent.writes + length (rising (difference granted.writes taken.writes)) ≤ lent.writes_room

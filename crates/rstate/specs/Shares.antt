@@ -2,7 +2,7 @@
 use Rattle.std.specs.Prelude.{ℕ, ◌+◌, ◌-◌, refl}
 use Rattle.std.specs.Coded.{Coded, code_by, coded_ℕ, coded×}
 
--- How many shares of a value are there, of how many that were made, and the value that they are shares of, which stays known where no share is there
+-- How many shares of a value are there, how many were made, and the value itself, which stays known when no share is there
 pub record ShareFields (V : Type 0) : Type 0 where
   pub count : ℕ
   pub full : ℕ

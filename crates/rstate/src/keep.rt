@@ -1,4 +1,4 @@
-// One step of the machine, which the history keeps.
+// One step of the machine, which the history records.
 ghost use Rattle.std.specs.Prelude.{◌≡◌, ◌-◌, ◌≤◌, ◌++◌, ◌∷◌, []};
 ghost use Rattle.rclaim.specs.Events.{IsNormalEvent};
 ghost use Rattle.rmodel.specs.Holds.{nothing};
@@ -21,7 +21,7 @@ pub(crate) fn nothing() -> Granted
     }
 }
 
-/// The machine takes the event, and the history keeps it with the acts, in room that was made.
+/// The machine takes the event, and the history records it with the acts, in room that was made.
 pub(crate) fn keep<E: Drop, M: Machine>(
     machine: &mut M,
     history: &mut History<E>,

@@ -18,7 +18,7 @@ impl<T: Editable, M: Machine> Kept for State<T, M> {
 
     ghost number = { λ entry. seat_of entry.event };
 
-    // what a seat has taken stays taken by it
+    // what a seat has taken, it still has
     ghost stays = { λ n before after. slice_get after.taken n ≡ slice_get before.taken n };
 
     ghost stays_refl = { λ n state. refl };

@@ -3,8 +3,8 @@ ghost use Rattle.rstate.specs.Laws.{HeldStaysAsItWas};
 
 use rvalue::Editable;
 
-/// *What is held stays as it was*: a resource that a seat holds after the first entries of a lawful history it holds in the same
-/// way after more of them, and its value is the same, until the finish or the rise of the seat.
+/// *What is held stays as it was*: a resource that a seat holds after the first entries of a lawful history it still holds in the
+/// same way after more of them, with the same value, until the seat's finish or rise.
 pub fn l8<T: Editable>()
     ensures { HeldStaysAsItWas T.after T.taken T.number }
 {}

@@ -26,7 +26,7 @@ impl<T> Model for Loan<T> {
     ghost view = { λ a. (a.place, arc_value a.share) };
 }
 
-/// All shares of the value of a resource: there is one at least.
+/// All shares of the value of a resource: at least one.
 #[derive(Drop)]
 pub struct Whole<T> {
     pub(crate) place: u8,
@@ -47,8 +47,8 @@ impl<T> Model for Whole<T> {
     ghost invariant = { λ a. 0 < a.shares.count };
 }
 
-/// What is lent to a seat: of each resource that it has taken for reading one share, and of each that it has taken for writing
-/// all shares. They go home by a finish or a rise.
+/// What is lent to a seat: one share of each resource that it has taken for reading, and all shares of each that it has taken for
+/// writing. They go home by a finish or a rise.
 #[derive(Drop)]
 pub struct Lent<T> {
     pub(crate) reads: Vec<Loan<T>>,
@@ -71,7 +71,7 @@ impl<T: Drop> Lent<T> {
     ///
     /// # Errors
     ///
-    /// Want of memory.
+    /// Out of memory.
     pub fn new(alloc: Global, n: usize) -> Result<Lent<T>, AllocError>
         ensures { IfOk result (λ lent. lent ≡ record { reads = []; writes = []; reads_room = n; writes_room = n }) }
     {
@@ -82,7 +82,7 @@ impl<T: Drop> Lent<T> {
     ///
     /// # Errors
     ///
-    /// Want of memory.
+    /// Out of memory.
     pub fn with_room(alloc: Global, reads: usize, writes: usize) -> Result<Lent<T>, AllocError>
         ensures { IfOk result (λ lent. lent ≡ record { reads = []; writes = []; reads_room = reads; writes_room = writes }) }
     {
@@ -95,7 +95,7 @@ impl<T: Drop> Lent<T> {
     ///
     /// # Errors
     ///
-    /// Want of memory.
+    /// Out of memory.
     pub fn reserve(&mut self, n: usize) -> Result<(), AllocError>
         ensures reads { self.new.reads ≡ self.old.reads }
         ensures writes { self.new.writes ≡ self.old.writes }
@@ -106,7 +106,7 @@ impl<T: Drop> Lent<T> {
         self.writes.reserve(n)
     }
 
-    /// Puts other shares in the place of those of a resource of which all are lent. No memory is taken.
+    /// Replaces the shares of a resource whose shares are all lent. Takes no memory.
     pub fn replace(&mut self, place: u8, shares: Shares<T>)
         requires lent { IsSome (at_place self.old.writes place) }
         requires some { 0 < shares.count }
@@ -118,14 +118,14 @@ impl<T: Drop> Lent<T> {
 }
 
 impl<T> Lent<T> {
-    /// Of how many resources all shares are lent.
+    /// The number of resources whose shares are all lent.
     pub fn written(&self) -> usize
         ensures { result ≡ length self.now.writes }
     {
         self.writes.len()
     }
 
-    /// Lends the value of a resource that is lent. No memory is taken.
+    /// Lends the value of a resource that is lent. Takes no memory.
     pub fn get(&self, place: u8) -> &T
         requires { IsSome (lent_value self.now place) }
         ensures { lent_value self.now place ≡ Some result.now }
@@ -161,7 +161,7 @@ fn whole_at<T>(wholes: &[Whole<T>], place: u8) -> Option<&T>
     None
 }
 
-// Where all shares of the resource stand.
+// Where all shares of the resource are.
 fn find_whole<T>(wholes: &[Whole<T>], place: u8) -> usize
     requires { IsSome (at_place wholes.now place) }
     ensures index { result ≡ index_of wholes.now place }

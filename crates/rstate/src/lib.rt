@@ -1,8 +1,8 @@
-//! The locked state: a machine, its history and the home values, which lie behind the gate together.
+//! The locked state: a machine, its history and the home values, together behind the gate.
 //!
-//! A [`State`] keeps that they agree. A seat takes what it holds out of it as a [`Lent`], and gives it back with the event
-//! that ends its section or lets its upgrade rise. The value of each resource is in [`Shares`], made beforehand, so that
-//! no share is made while the state is held. The module [`laws`] says what holds of every lawful history.
+//! A [`State`] keeps them in agreement. A seat takes what it holds out of it as a [`Lent`], and gives it back with the event that
+//! ends its section or lets its upgrade rise. The value of each resource is in [`Shares`], made beforehand, so that no share is
+//! made while the state is held. The module [`laws`] says what holds of every lawful history.
 #![tactic(auto)]
 
 mod keep;

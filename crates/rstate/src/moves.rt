@@ -14,7 +14,7 @@ use rvalue::Editable;
 use std::alloc::{AllocError, Global};
 use std::sync::Arc;
 
-// A share of the value of the resource, of which one is at home.
+// Takes a share of the resource's value; one is at home.
 fn take_read_at<T>(homes: &mut Vec<Shares<T>>, place: u8) -> Arc<T, Global>
     requires { HasShare homes.old.items place }
     ensures value { (home : ShareFields T) → slice_get homes.old.items place ≡ Some home → arc_value result ≡ home.value }
@@ -23,7 +23,7 @@ fn take_read_at<T>(homes: &mut Vec<Shares<T>>, place: u8) -> Arc<T, Global>
     homes[place as usize].take_read()
 }
 
-// All shares of the value of the resource.
+// Takes all shares of the value of the resource.
 fn take_all_at<T>(homes: &mut Vec<Shares<T>>, place: u8, alloc: Global) -> Shares<T>
     requires { HasShare homes.old.items place }
     ensures shares { slice_get homes.old.items place ≡ Some result }
@@ -106,11 +106,11 @@ pub(crate) fn give_writes<T: Drop>(homes: &mut Vec<Shares<T>>, wholes: Vec<Whole
     }
 }
 
-/// The homes of the values as a lock begins: of each value `n` shares.
+/// The homes of the values as a lock begins: `n` shares of each value.
 ///
 /// # Errors
 ///
-/// Want of memory.
+/// Out of memory.
 pub(crate) fn homes_of<T: Editable>(
     alloc: Global,
     n: u16,
@@ -125,7 +125,7 @@ pub(crate) fn homes_of<T: Editable>(
     Ok(homes)
 }
 
-/// A share of each value, put into room that was made for them. A share of each is at home.
+/// Takes a share of each value, into room that was made for them. A share of each is at home.
 pub(crate) fn one_of_each<T: Drop>(
     homes: Vec<Shares<T>>,
     room: Vec<Arc<T, Global>>,

@@ -4,8 +4,8 @@ use rmodel::Machine;
 use std::marker::Model;
 use std::snapshot::Snapshot;
 
-/// How a lock began: the read groups, the number of seats and of requests that may be incomplete at once, the value of
-/// each resource, and what those who watch had been told. Groups, values and these stand in contracts alone.
+/// How a lock began: the read groups, the number of seats and of requests that may be incomplete at once, the value of each
+/// resource, and what the watchers had been given. Groups, values and what watchers were given exist only in contracts.
 #[derive(Drop)]
 pub struct Opening<T, M: Machine> {
     pub(crate) groups: Snapshot<Groups>,

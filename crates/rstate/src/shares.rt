@@ -1,4 +1,4 @@
-// Shares of one value, made beforehand, so that readers can be lent it without memory.
+// Shares of one value, made beforehand, so that lending it to readers takes no memory.
 ghost use Rattle.std.specs.Prelude.{◌≡◌, ◌<◌, IfOk};
 ghost use Rattle.std.specs.Arc.{arc_value};
 ghost use Rattle.rstate.specs.Shares.{whole, less, more, absent};
@@ -10,10 +10,10 @@ use std::mem;
 use std::snapshot::Snapshot;
 use std::sync::Arc;
 
-/// Shares of one value, of which some may be out with readers, or all with a writer.
+/// Shares of one value: some may be out with readers, or all with a writer.
 ///
-/// A contract sees how many shares are there (`count`), of how many that were made (`full`), and the `value`, which stays
-/// known where no share is there.
+/// A contract sees how many shares are there (`count`), how many were made (`full`), and the `value`, which stays known when no
+/// share is there.
 #[derive(Drop)]
 pub struct Shares<T> {
     list: Vec<Arc<T, Global>>,
@@ -36,7 +36,7 @@ impl<T> Model for Shares<T> {
 }
 
 impl<T> Shares<T> {
-    /// Takes one share. No memory is taken.
+    /// Takes one share. Takes no memory.
     pub(crate) fn take_read(&mut self) -> Arc<T, Global>
         requires { 0 < self.old.count }
         ensures value { arc_value result ≡ self.old.value }
@@ -45,7 +45,7 @@ impl<T> Shares<T> {
         self.list.pop().unwrap()
     }
 
-    /// Puts back a share of the value, for which there is room where one is out. No memory is taken.
+    /// Puts back a share of the value; there is room for it when one is out. Takes no memory.
     pub(crate) fn give_read(&mut self, share: Arc<T, Global>)
         requires out { self.old.count < self.old.full }
         requires same { arc_value share ≡ self.old.value }
@@ -54,7 +54,7 @@ impl<T> Shares<T> {
         self.list.push_reserved(share);
     }
 
-    /// Takes all shares away; what is left tells the value still. No memory is taken.
+    /// Takes all shares away; the value of what is left is still known. Takes no memory.
     pub(crate) fn take_all(&mut self, alloc: Global) -> Shares<T>
         requires { 0 < self.old.count }
         ensures taken { result ≡ self.old }
@@ -69,7 +69,7 @@ impl<T> Shares<T> {
         mem::replace(self, left)
     }
 
-    /// Lends the value, of which a share is there.
+    /// Lends the value; a share of it is there.
     pub fn get(&self) -> &T
         requires { 0 < self.now.count }
         ensures { result.now ≡ self.now.value }
@@ -79,7 +79,7 @@ impl<T> Shares<T> {
 }
 
 impl<T: Drop> Shares<T> {
-    /// One share, and the others are let go. No memory is taken.
+    /// Keeps one share and drops the others. Takes no memory.
     pub(crate) fn into_one(self) -> Arc<T, Global>
         requires { 0 < self.count }
         ensures { arc_value result ≡ self.value }
@@ -94,7 +94,7 @@ impl<T: Editable> Shares<T> {
     ///
     /// # Errors
     ///
-    /// Want of memory.
+    /// Out of memory.
     pub fn of(alloc: Global, n: u16, value: &T) -> Result<Shares<T>, AllocError>
         ensures { IfOk result (λ shares. shares ≡ whole n value.now) }
     {

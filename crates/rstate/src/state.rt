@@ -24,10 +24,10 @@ use std::marker::Model;
 use std::snapshot::Snapshot;
 use std::sync::Arc;
 
-/// A machine, the history of what was done at it, and the values of the resources, of which some are lent to seats.
+/// A machine, the history of what was done at it, and the values of the resources, some of them lent to seats.
 ///
 /// A contract sees how the lock began (`beginning`), the `entries` of the history, and what each seat has `taken`. The entries
-/// tell the state of the machine, and what each value has become.
+/// determine the state of the machine and what each value has become.
 #[derive(Drop)]
 struct Parts<T: Editable, M: Machine> {
     machine: M,
@@ -40,7 +40,7 @@ struct Parts<T: Editable, M: Machine> {
     alloc: Global,
 }
 
-/// The locked state, in one place on the heap, so that a turn moves no more than where it is.
+/// The locked state in one place on the heap, so that a turn moves only the address.
 #[derive(Drop)]
 pub struct State<T: Editable, M: Machine> {
     all: Box<Parts<T, M>, Global>,
@@ -64,7 +64,7 @@ impl<T: Editable, M: Machine> State<T, M> {
     ///
     /// # Errors
     ///
-    /// Want of memory. The machine comes back, and those who watch it were told nothing.
+    /// Out of memory. The machine comes back, and its watchers were given nothing.
     pub fn new_over(
         alloc: Global,
         machine: M,
@@ -106,11 +106,11 @@ impl<T: Editable, M: Machine> State<T, M> {
         }
     }
 
-    /// The same; where memory is wanting the machine is dropped.
+    /// The same; if memory runs out, the machine is dropped.
     ///
     /// # Errors
     ///
-    /// Want of memory.
+    /// Out of memory.
     pub fn new(alloc: Global, machine: M, values: Vec<T>) -> Result<State<T, M>, AllocError>
         requires claims { (M.state machine).claims ≡ [] }
         requires issued { (M.state machine).issued ≡ 0 }
@@ -125,8 +125,8 @@ impl<T: Editable, M: Machine> State<T, M> {
         }
     }
 
-    /// Lends the machine, which is in the state that the entries tell. What each seat has taken lies within what it holds there. Those who
-    /// watch it have been told just the steps of the entries.
+    /// Lends the machine, which is in the state that the entries lead to. What each seat has taken lies within what it holds
+    /// there. The watchers have been given just the steps of the entries.
     pub fn machine(&self) -> &M
         ensures state { M.state result.now ≡ lock_of self.now }
         ensures taken { AreTaken (lock_of self.now).claims self.now.beginning.seats self.now.taken }
@@ -144,18 +144,18 @@ impl<T: Editable, M: Machine> State<T, M> {
         &self.all.history
     }
 
-    /// Whether nothing of the seat is pending: it has no request, or that holds something and no ask of it is pending.
+    /// Whether nothing of the seat is pending: it has no request, or the request holds something and has no pending ask.
     pub fn ready(&self, seat: u8) -> bool
         ensures { result ≡ is_ready (lock_of self.now) seat }
     {
         !self.all.machine.pending(seat)
     }
 
-    /// A seat issues a request. The history gets room for all that follows of it but asks.
+    /// A seat issues a request. The history gets room for all that follows of it except asks.
     ///
     /// # Errors
     ///
-    /// Want of memory. Nothing changes then.
+    /// Out of memory. Nothing changes.
     pub fn issue(&mut self, seat: u8, request: Request) -> Result<(), AllocError>
         requires { MayIssue (lock_of self.old) seat request }
         ensures beginning { self.new.beginning ≡ self.old.beginning }
@@ -173,7 +173,7 @@ impl<T: Editable, M: Machine> State<T, M> {
     ///
     /// # Errors
     ///
-    /// Want of memory. Nothing changes then.
+    /// Out of memory. Nothing changes.
     pub fn ask(&mut self, seat: u8, set: ResourceSet) -> Result<(), AllocError>
         requires fits { Fits (lock_of self.old) (Ask seat set) }
         requires accepted { Accepts (lock_of self.old) (Ask seat set) }
@@ -185,7 +185,7 @@ impl<T: Editable, M: Machine> State<T, M> {
         self.add(Event::Ask { seat, set })
     }
 
-    // One more entry without acts, of an event that gives nothing back. The room for it is made first.
+    // One more entry without acts, of an event that gives nothing back. Its room is made first.
     fn add(&mut self, event: Event) -> Result<(), AllocError>
         requires fits { Fits (lock_of self.old) event }
         requires accepted { Accepts (lock_of self.old) event }
@@ -203,7 +203,7 @@ impl<T: Editable, M: Machine> State<T, M> {
         Ok(())
     }
 
-    /// Takes all that the seat holds and has not taken yet, and lends it to the seat. No memory is taken.
+    /// Takes all that the seat holds and has not taken yet, and lends it to the seat. Takes no memory.
     pub fn take(&mut self, seat: u8, into: &mut Lent<T>)
         requires seat { seat < self.old.beginning.seats }
         requires lent { (g : Granted) → slice_get self.old.taken seat ≡ Some g → IsLentNow T.after self.old g into.old }
@@ -224,8 +224,8 @@ impl<T: Editable, M: Machine> State<T, M> {
         all.taken[usize::from(seat)] = granted;
     }
 
-    /// Ends the section of the seat: the history keeps its acts, and what it has taken comes home, what it has edited with the
-    /// edits. No memory is taken.
+    /// Ends the section of the seat: the history records its acts, and what it has taken comes home, with the edits. Takes no
+    /// memory.
     pub fn finish(&mut self, seat: u8, back: Lent<T>, acts: Vec<Act<T::Edit>>)
         requires right { MayFollow T.after T.taken T.number self.old.beginning self.old.entries (record { event = Finish seat; acts = acts.items }) }
         requires back { (g : Granted) → slice_get self.old.taken seat ≡ Some g → ComesHome T.after self.old (record { event = Finish seat; acts = acts.items }) g back }
@@ -236,8 +236,8 @@ impl<T: Editable, M: Machine> State<T, M> {
         self.give_back(seat, Event::Finish { seat }, back, acts);
     }
 
-    /// The upgrade of the seat rises: the history keeps the shows among its acts so far, and what it has taken comes home.
-    /// No memory is taken.
+    /// The upgrade of the seat rises: the history records its acts so far, which are shows, and what it has taken comes home.
+    /// Takes no memory.
     pub fn rise(&mut self, seat: u8, back: Lent<T>, acts: Vec<Act<T::Edit>>)
         requires right { MayFollow T.after T.taken T.number self.old.beginning self.old.entries (record { event = Rise seat; acts = acts.items }) }
         requires back { (g : Granted) → slice_get self.old.taken seat ≡ Some g → ComesHome T.after self.old (record { event = Rise seat; acts = acts.items }) g back }
@@ -248,7 +248,7 @@ impl<T: Editable, M: Machine> State<T, M> {
         self.give_back(seat, Event::Rise { seat }, back, acts);
     }
 
-    // The history keeps an event that gives back what the seat holds, with its acts, and what the seat has taken comes home.
+    // The history records an event that gives back what the seat holds, with its acts, and what the seat has taken comes home.
     fn give_back(&mut self, seat: u8, event: Event, back: Lent<T>, acts: Vec<Act<T::Edit>>)
         requires gives { GivesBackAll seat event }
         requires right { MayFollow T.after T.taken T.number self.old.beginning self.old.entries (record { event = event; acts = acts.items }) }
@@ -265,7 +265,8 @@ impl<T: Editable, M: Machine> State<T, M> {
         all.taken[usize::from(seat)] = nothing();
     }
 
-    /// Takes the state apart while no request is incomplete: the history, a share of each value, and the machine. No memory is taken.
+    /// Takes the state apart while no request is incomplete: the history, a share of each value, and the machine. Takes no
+    /// memory.
     pub fn into_whole(self) -> (History<T::Edit>, Vec<Arc<T, Global>>, M)
         requires { (seat : ℕ) → has_request (lock_of self).claims seat ≡ false }
         ensures entries { result.0.entries ≡ self.entries }
@@ -287,7 +288,7 @@ impl<T: Editable, M: Machine> State<T, M> {
         (history, one_of_each(homes, closing), machine)
     }
 
-    /// Takes the state apart while no request is incomplete: the history, and a share of each value. No memory is taken.
+    /// Takes the state apart while no request is incomplete: the history, and a share of each value. Takes no memory.
     pub fn into_parts(self) -> (History<T::Edit>, Vec<Arc<T, Global>>)
         requires { (seat : ℕ) → has_request (lock_of self).claims seat ≡ false }
         ensures entries { result.0.entries ≡ self.entries }
@@ -300,7 +301,8 @@ impl<T: Editable, M: Machine> State<T, M> {
     }
 }
 
-// What a state has beside its machine and its history: nothing that is taken, the homes of the values, and room for a share of each.
+// What a state has besides its machine and its history: nothing that is taken, the homes of the values, and room for a share of
+// each.
 type Room<T> = (Vec<Granted>, Vec<Shares<T>>, Vec<Arc<T, Global>>);
 
 fn room_of<T: Editable>(alloc: Global, seats: u8, values: &[T]) -> Result<Room<T>, AllocError>
@@ -314,8 +316,8 @@ fn room_of<T: Editable>(alloc: Global, seats: u8, values: &[T]) -> Result<Room<T
     Ok((taken, homes, closing))
 }
 
-// The most requests that may be issued. After these there is no stamp for another.
+// The most requests that may be issued. After these there is no stamp left.
 const MOST_ISSUES: u64 = 1 << 63;
 
-// The number itself: an issue may be refused after these, and a lower number would fit its clauses as well.
+// The number itself: an issue may be refused after that many, and a lower number would fit its clauses as well.
 const _: () = prove!(MOST_ISSUES == 9_223_372_036_854_775_808);

@@ -1,4 +1,4 @@
--- A wait that an event ends is told by a grant, unless an ask ends with it.
+-- A wait that an event ends is seen by a grant, unless an ask ends with it.
 use Rattle.std.proofs.Common.{◌≡◌, ◌≢◌, ◌==◌, Bool, true, false, not, ◌&&◌, cond, Option, Some, None, List, [], ◌∷◌, find, refl, sym, ap, subst, ◌∙◌, inl, inr}
 use Rattle.std.proofs.lemmas.Bool.{and_parts, and_from, eq-eqb, eqb-true}
 use Rattle.std.specs.List.{filter_map, cons_option}
@@ -187,7 +187,7 @@ module _ (s : LockState) (e : Event) (reached : IsReached s) (comes : Comes s e)
   goes_on Rise waits = stands_by waits_to_rise (rise_goes waits)
   goes_on (Ask k) waits = contrary (waits_for_ask [] x) waits (not_false (waits_for_ask [] x) parts.1)
 
--- ---- a write that becomes satisfied is told
+-- ---- a write that becomes satisfied is reported
 
 same_satisfied : (a b : Status) → (number_of a == number_of b) ≡ true → satisfied_by b ≡ true → satisfied_by a ≡ true
 same_satisfied Satisfied b same sat = refl
@@ -202,7 +202,7 @@ module _ (s : LockState) (e : Event) (reached : IsReached s) (comes : Comes s e)
   abbrev told : List StatusChange
   told = (changes_between s (next s e)).statuses
 
-  -- a write that becomes satisfied is told with its seat
+  -- a write that becomes satisfied is reported with its seat
   pub is_told : (y z : Claimed) → Among y (next s e).claims → Among z s.claims → y.claim ≡ z.claim → y.claim.write_half ≡ true → is_satisfied y ≡ true → is_satisfied z ≡ false → tells_write_of told y.claim.seat ≡ true
   unfolding changes_between
   is_told y z in_next in_claims claim half sat unsat =
@@ -217,7 +217,7 @@ module _ (s : LockState) (e : Event) (reached : IsReached s) (comes : Comes s e)
       (among_found (λ x. status_change (was_in s.claims x.claim) x) (next s e).claims y change in_next is)
       (and_from (y.claim.seat == y.claim.seat) (y.claim.write_half && satisfied_by y.status) (eq-eqb y.claim.seat y.claim.seat refl) (and_from y.claim.write_half (satisfied_by y.status) half sat))
 
-  -- and a write that is told is satisfied
+  -- and a write that is reported is satisfied
   pub told_is : (y : Claimed) → Among y (next s e).claims → y.claim.write_half ≡ true → tells_write_of told y.claim.seat ≡ true → is_satisfied y ≡ true
   unfolding changes_between
   told_is y in_next half on =

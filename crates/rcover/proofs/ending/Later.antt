@@ -1,4 +1,4 @@
--- Of two claims of one seat the later is in no wait.
+-- Of two claims of a seat, the later is in no wait.
 use Rattle.std.proofs.Common.{◌≡◌, ◌==◌, nat_lt, true, false, not, ◌&&◌, [], ◌∷◌, refl, ap, inl, inr}
 use Rattle.std.proofs.lemmas.Bool.{and_parts, and_from, eq-eqb}
 use Rattle.std.specs.FinSet.{len}

@@ -1,4 +1,4 @@
--- The least of a line stays where it is not of the seat that is lost.
+-- The least of a line stays if it is not of the lost seat.
 use Rattle.std.proofs.Common.{◌≡◌, ◌≢◌, ℕ, zero, suc, ◌<◌, ◌≤◌, ◌==◌, Bool, true, false, not, ◌&&◌, ◌||◌, cond, Some, List, [], ◌∷◌, refl, sym, ap, subst, ◌∙◌, arith, inl, inr}
 use Rattle.std.proofs.lemmas.Bool.{and_parts, and_from, eq-eqb, eqb-true}
 use Rattle.std.specs.List.{list_any, AllByRecursion}
@@ -42,7 +42,7 @@ use Rattle.rcover.proofs.heads_told.Heads.{holds_own}
 use Rattle.rcover.proofs.heads_told.Leasts.{least_under, least_from, one_of_stamp, least_all}
 use Rattle.rcover.proofs.told.Stood.{before}
 
--- resources that hold all that those writes write that are told to be satisfied
+-- resources that include all that is written by the writes that are reported to be satisfied
 abbrev pub HoldWritten : Set → List StatusChange → Moment → Type 0
 HoldWritten written statuses m = AllByRecursion (λ x. x.claim.write_half ≡ true → tells_write_of statuses x.claim.seat ≡ true → is_subset x.claim.writes written ≡ true) m
 
@@ -66,7 +66,7 @@ third_of_three true false false h = h
 third_of_three false true false h = h
 third_of_three false false false h = h
 
--- a read conflicts with what writes some of what it reads
+-- a read conflicts with a claim that writes some of what it reads
 read_meets : (c v : Claim) → c.writes ≡ empty → conflicts v c ≡ true → meets c.reads v.writes ≡ true
 read_meets c v none h =
     sym (at (meets c.reads v.writes))
@@ -78,7 +78,7 @@ read_meets c v none h =
     at true = refl
     at false = refl
 
--- what a claim and all writes have the least of its line has
+-- what holds of a claim and of all writes holds of the least of its line
 least_writes : (P : Claim → Type 0) (c : Claim) → P c → (m : Moment) → AllByRecursion (λ x. x.claim.write_half ≡ true → P x.claim) m → P (least_of c m)
 least_writes P c own [] all = own
 least_writes P c own (x ∷ xs) all =
@@ -88,7 +88,7 @@ least_writes P c own (x ∷ xs) all =
     (all.0 (earlier_of c x.claim (and_parts (is_earlier_write c x.claim) (list_any (share_place x.claim) (c ∷ line c xs)) on).0).write))
     (λ off. subst (λ b. P (first_or c (cond b (x.claim ∷ line c xs) (line c xs)))) (sym off) (least_writes P c own xs all.1))
 
--- ---- behind an event that is no issue
+-- ---- after an event that is no issue
 
 module _ (s : LockState) (e : Event) (reached : IsReached s) (comes : Comes s e) (old : is_issue e ≡ false) where
   abbrev m : Moment
@@ -103,7 +103,7 @@ module _ (s : LockState) (e : Event) (reached : IsReached s) (comes : Comes s e)
   on : IsReached (next s e)
   on = reached_next s e reached comes
 
-  -- a write that the event does not take away stands behind it
+  -- a write that the event does not take away is there after it
   pub stands : (x : Claimed) → Among x m → x.claim.write_half ≡ true → takes_seat e x.claim.seat ≡ false → There x.claim n
   stands x there write still =
       let at = left_by e old still in
@@ -122,7 +122,7 @@ module _ (s : LockState) (e : Event) (reached : IsReached s) (comes : Comes s e)
       left_by (event.Rise seat) old still = (x, in_filter (λ z. not ((z.claim.seat == seat) && not z.claim.write_half)) s.claims x there (ap (λ b. not ((x.claim.seat == seat) && not b)) write ∙ ap not (and_none (x.claim.seat == seat))), itself)
       left_by (event.Ask seat part) old still = let h = left s (event.Ask seat part) x there refl in (h.to, h.there, h.still)
 
-  -- the least of a line stays where it is of another seat than the one that is lost
+  -- the least of a line stays if it is of another seat than the lost one
   module _ (lost : Head) (gone : Set) (is_lost : AllByRecursion (IsLost lost gone e m) m) where
     rising : EachPair Rises m
     rising = reached.sound.well_formed.rising
@@ -152,7 +152,7 @@ module _ (s : LockState) (e : Event) (reached : IsReached s) (comes : Comes s e)
         low : (least_of c m).stamp ≤ (least_of c n).stamp
         low = least_below c m rising (least_of c n) shrunk
 
-        -- it is so of earlier writes
+        -- it holds of earlier writes
         Earlier : Type 0
         Earlier = (y : Claimed) → Among y m → y.claim.write_half ≡ true → There y.claim n → y.claim.stamp < k → (least_of y.claim m).seat ≢ lost.claim.seat → least_of y.claim n ≡ least_of y.claim m
 
@@ -178,7 +178,7 @@ module _ (s : LockState) (e : Event) (reached : IsReached s) (comes : Comes s e)
           | inr y ↦ by stays_so y.0 y.1 y.2 y.3 y.4
         ]
 
-  -- it stays too where no earlier write that shares a place goes, or gets another one: the places of those are among these
+  -- it also stays if no earlier write that shares a place goes or gets another least: the places of those are among these
   module _ (dirty : Set) (gone : AllByRecursion (λ y. y.claim.write_half ≡ true → takes_seat e y.claim.seat ≡ true → is_subset y.claim.places dirty ≡ true) m) where
     pub least_apart : (x : Claimed) → Among x m → x.claim.write_half ≡ true → meets x.claim.places dirty ≡ false → AllByRecursion (λ y. y.claim.stamp < x.claim.stamp → IsNoted dirty m n y) n → (least_of x.claim n).stamp ≡ (least_of x.claim m).stamp
     least_apart x there write apart noted = let l = low in let h = high in omega arith
@@ -222,7 +222,7 @@ module _ (s : LockState) (e : Event) (reached : IsReached s) (comes : Comes s e)
           | inr y ↦ by y.0 y.1 y.2 y.3 y.4
         ]
 
-  -- heads that tell of all writes before the event tell of those behind it
+  -- heads that are known for all writes before the event are known for those after it
   pub told_before : (hs : List Head) → TellHeads hs m → TellAt hs m n
   told_before hs tells =
       all_from (λ z. z.claim.write_half ≡ true → slice_get hs z.claim.seat ≡ Some (head_of m z.claim)) n
@@ -231,7 +231,7 @@ module _ (s : LockState) (e : Event) (reached : IsReached s) (comes : Comes s e)
       subst (λ (d : Claim). slice_get hs d.seat ≡ Some (head_of m d)) (sym z.2.claim)
       (all_at (λ y. y.claim.write_half ≡ true → slice_get hs y.claim.seat ≡ Some (head_of m y.claim)) m z.0 tells z.1 (ap (λ (d : Claim). d.write_half) (sym z.2.claim) ∙ write)))
 
-  -- sets that hold all writes before the event hold those behind it
+  -- sets that hold all writes before the event hold those after it
   pub behind_before : (ss : List Set) → HoldBehind ss m m → HoldBehind ss m n
   behind_before ss hold =
       all_from (λ z. z.claim.write_half ≡ true → IsBehind ss m z) n
@@ -248,7 +248,7 @@ module _ (s : LockState) (e : Event) (reached : IsReached s) (comes : Comes s e)
       least_low : (least_of c m).seat < SEATS
       least_low = least_all (λ d. d.seat < SEATS) c low m seats
 
-      -- the least of the line stands at the next moment
+      -- the least of the line is there at the next moment
       standing : (y : Claimed) × Among y n × (y.claim ≡ least_of c n) × ((least_of c n).write_half ≡ true)
       standing =
           least_writes (λ d. (y : Claimed) × Among y n × (y.claim ≡ d) × (d.write_half ≡ true)) c (x, there, refl, write) n
@@ -305,7 +305,7 @@ module _ (s : LockState) (e : Event) (reached : IsReached s) (comes : Comes s e)
             came_head : Head
             came_head = record { claim = least_of c m; holds = true }
 
-    -- so the head of each write goes on
+    -- so the head of each write is carried on
     pub goes_by : (lost : Head) (gone : Set) → AllByRecursion (IsLost lost gone e m) m → (touched : Set) → AllByRecursion (IsTouched lost.claim.seat told touched m) m → (x : Claimed) → Among x n → x.claim.seat < SEATS → GoesBy lost gone came touched m n x
     goes_by lost gone is_lost touched touch x there low = record {
       still = λ write off.
@@ -348,7 +348,7 @@ module _ (s : LockState) (e : Event) (reached : IsReached s) (comes : Comes s e)
             (least_stays lost gone is_lost (suc z.0.claim.stamp) z.0 z.1 (half write) (record { at = x; among = there; is = is }) (omega arith)
             (λ h. apart (ap (λ (d : Claim). (least_of d m).seat) is ∙ h))))
 
-  -- what the writes before the event take, those behind it do
+  -- what the writes before the event take, those after it do
   pub shares_before : (ss : List Share) → TellShares ss m → TellShares ss n
   shares_before ss tell =
       all_from (λ z. z.claim.write_half ≡ true → slice_get ss z.claim.seat ≡ Some (share_of z.claim)) n

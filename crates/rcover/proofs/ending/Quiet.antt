@@ -47,7 +47,7 @@ use Rattle.rcover.specs.Shown.{write_shown, write_closed}
 use Rattle.rcover.specs.Tracked.{no_sections, keeper_at, read_closed_if, gone_on, kept_by, shown, told_if, told}
 use Rattle.rcover.proofs.heads_told.Leasts.{least_all}
 
--- ---- what stands at a moment has what all claims there have
+-- ---- what is there at a moment has what all claims there have
 
 pub keeper_all : (P : Claim → Type 0) (c : Claim) (m : Moment) → AllByRecursion (λ x. P x.claim) m → IfSome (keeper_at c m) P
 keeper_all P c [] all = tt
@@ -56,9 +56,9 @@ keeper_all P c (x ∷ xs) all =
     (λ on. subst (λ b. IfSome (option_map (λ (y : Claimed). y.claim) (cond b (Some x) (find (keeps_out c) xs))) P) (sym on) all.0)
     (λ off. subst (λ b. IfSome (option_map (λ (y : Claimed). y.claim) (cond b (Some x) (find (keeps_out c) xs))) P) (sym off) (keeper_all P c xs all.1))
 
--- ---- claims behind all others
+-- ---- claims after all others
 
--- claims that are settled behind others stand behind them
+-- claims that are settled after others come after them
 behind_is : (xs ns : Moment) → (zs : Moment) × (settled_behind xs ns ≡ xs ++ zs)
 behind_is xs [] = ([], sym (append-nil xs))
 behind_is xs (x ∷ rest) = let h = behind_is (xs ++ new_claim xs x ∷ []) rest in (new_claim xs x ∷ h.0, h.1 ∙ append_assoc xs (new_claim xs x ∷ []) h.0)
@@ -165,7 +165,7 @@ module _ (s : LockState) (seat : ℕ) (r : RequestFields) (reached : IsReached s
   given : (x : Claimed) → Among x m → x.claim.stamp < s.issued
   given x there = all_at (λ y. y.claim.stamp < s.issued) m x reached.sound.given_out there
 
-  -- each new claim is of the seat, with a stamp of its own
+  -- each new claim is of the seat, with a new stamp
   of_seat : (y : Claimed) → Among y ns → (s.issued ≤ y.claim.stamp) × (y.claim.seat ≡ seat)
   of_seat y there =
       let news = map (waiting r.first) (claims_of s.groups.groups s.issued seat r) in
@@ -237,7 +237,7 @@ module _ (s : LockState) (seat : ℕ) (r : RequestFields) (reached : IsReached s
       all_none [] within = refl
       all_none (x ∷ xs) within = (λ i. cons_option (of_one x (within x (inl refl)) (wait_of es m x) refl i) (all_none xs (λ y there. within y (inr there)) i))
 
-  -- a new claim did not stand before
+  -- a new claim was not there before
   stood_not : (test : Moment → Claimed → Bool) (y : Claimed) → Among y ns → stands test y.claim m ≡ false
   stood_not test y there =
       none_from (λ x. is_claim y.claim x.claim && test m x) m
@@ -269,7 +269,7 @@ module _ (s : LockState) (seat : ℕ) (r : RequestFields) (reached : IsReached s
       ap (λ b. cond b (kept_by waits_first x.claim a m n) (kept_by waits_to_rise x.claim a m n)) not_first
       ∙ ap (λ b. cond b (gone_on x.claim a m n) no_sections) (stands_in waits_to_rise m x there (sym (rise_stays x there) ∙ rise)) ∙ same_old a x there)
 
-  -- and what is kept of all waits is what was kept, but for the seat, whose wait begins
+  -- and what is kept of all waits is what was kept, except for the seat, whose wait begins
   pub kept_all : (table table' : ℕ → Sections) → ((other : ℕ) → table' other ≡ with_entry table seat no_sections other) → AllByRecursion (λ x. may_wait n x ≡ true → table' x.claim.seat ≡ kept_of m n (table x.claim.seat) x) n
   kept_all table table' are =
       all_from (λ x. may_wait n x ≡ true → table' x.claim.seat ≡ kept_of m n (table x.claim.seat) x) n
@@ -292,7 +292,7 @@ module _ (s : LockState) (seat : ℕ) (r : RequestFields) (reached : IsReached s
   pub old_rises_as : (x : Claimed) → Among x n → x.claim.seat ≢ seat → Among x m × (waits_to_rise n x ≡ waits_to_rise m x)
   old_rises_as x there other = let old = (old_as_before x there other).0 in (old, rise_stays x old)
 
-  -- the claims that were there stand before the new ones
+  -- the claims that were there come before the new ones
   pub first_there : (take (length m) n ≡ m) × (length m ≤ length n)
   first_there =
       let long = ap (λ (zs : Moment). length zs) is ∙ length-append m ns in

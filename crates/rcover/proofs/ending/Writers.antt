@@ -25,7 +25,7 @@ use Rattle.rcover.proofs.told.Stood.{before}
 use Rattle.rcover.proofs.told.Waiting.{none_left}
 
 module _ (s : LockState) (e : Event) (reached : IsReached s) (comes : Comes s e) (old : is_issue e ≡ false) where
-  -- no claim of a seat whose claims the event takes away stands behind it
+  -- after the event, no claim of a seat whose claims it takes away is there
   left_none : (e : Event) → Comes s e → (x : Claimed) → Among x (next s e).claims → takes_seat e x.claim.seat ≡ true → ⊥
   left_none (Issue t r) comes x there takes = contrary false takes refl
   left_none (Finish t) comes x there takes =
@@ -33,7 +33,7 @@ module _ (s : LockState) (e : Event) (reached : IsReached s) (comes : Comes s e)
   left_none (event.Rise t) comes x there takes = contrary false takes refl
   left_none (event.Ask t part) comes x there takes = contrary false takes refl
 
-  -- behind it the same seats have a write, but for that of which it takes one away
+  -- after it the same seats have a write, except the seat whose write it takes away
   pub writers_next : (writers writers' : Set) → HaveWrites writers s.claims → AreLeft e writers writers' → HaveWrites writers' (next s e).claims
   writers_next writers writers' have left seat = same_test (contains writers' seat) (list_any (is_write_of seat) (next s e).claims) stay was
     where

@@ -1,4 +1,4 @@
--- The heads of writes, by those before them.
+-- The heads of writes, by the heads before them.
 use Rattle.std.proofs.Common.{◌≡◌, ◌≢◌, ℕ, zero, suc, ◌<◌, ◌≤◌, ◌==◌, Bool, true, false, ◌&&◌, ◌⊎◌, cond, Some, List, [], ◌∷◌, ◌++◌, append_assoc, get_or, length, refl, sym, ap, subst, ◌∙◌, arith, inl, inr}
 use Rattle.std.proofs.Math.ListN.{set}
 use Rattle.std.proofs.lemmas.Bool.{and_parts, and_from, eq-eqb, eqb-true}
@@ -29,7 +29,7 @@ use Rattle.rcover.proofs.Pairs.{pairs_before, pairs_after, pairs_front}
 use Rattle.rcover.proofs.heads_told.Leasts.{least_own}
 use Rattle.rcover.proofs.heads_told.Reached.{seat_found}
 
--- ---- a write is satisfied where its claim is
+-- ---- a write is satisfied if its claim is
 
 pub holds_own : (m : Moment) → EachPair Rises m → (x : Claimed) → Among x m → x.claim.write_half ≡ true → holds_at x.claim m ≡ is_satisfied x
 holds_own m rising x there write =
@@ -93,7 +93,7 @@ module _ (xs ys : Moment) (x : Claimed) (rising : EachPair Rises (xs ++ x ∷ ys
     apart : (y : Claimed) → Among y xs → y.claim.write_half ≡ true → y.claim.seat ≢ x.claim.seat
     apart y there w = other_seat y x (all_at (λ z. Distinct z x) xs y (pairs_before Distinct xs x ys distinct) there) w
 
-    -- what is found before a write is its own seat: then it is the head of itself
+    -- what is found before a write is its own seat: then the write is its own head
     pub own_found_is : f.seat ≡ x.claim.seat → own_head x ≡ head_of m c
     own_found_is own =
         let itself : least_of c m ≡ c
@@ -103,7 +103,7 @@ module _ (xs ys : Moment) (x : Claimed) (rising : EachPair Rises (xs ++ x ∷ ys
         ] in
         (λ i. let h : Head = record { claim = sym itself i; holds = (sym (holds_own m rising x in_m write) ∙ ap (λ d. holds_at d m) (sym itself)) i } in h)
 
-    -- or another: then it is the head of the write of that seat
+    -- or another seat: then its head is that of the write of that seat
     pub other_found_is : (hs : List Head) → TellAt hs m xs → f.seat ≢ x.claim.seat → slice_get hs f.seat ≡ Some (head_of m c)
     other_found_is hs tells other =
         elim least_where [
@@ -129,7 +129,7 @@ get_set (k ∷ hs) (suc i) v (suc seat) h =
     (λ on. on ∙ sym (eq-eqb (suc seat) (suc i) (ap suc (eqb-true seat i on))))
     (λ off. off ∙ sym (false_from (suc seat == suc i) (λ e. let same = eqb-true (suc seat) (suc i) e in contrary (seat == i) (eq-eqb seat i (omega arith)) off))))
 
--- one claim more is told of
+-- the head of one more claim is known
 pub told_push : (hs hs' : List Head) (xs ys : Moment) (x : Claimed) → EachPair Distinct (xs ++ x ∷ ys)
     → ((seat : ℕ) → slice_get hs' seat ≡ heads_with hs (head_of (xs ++ x ∷ ys) x.claim) x seat) → TellAt hs (xs ++ x ∷ ys) xs → TellAt hs' (xs ++ x ∷ ys) (xs ++ x ∷ [])
 told_push hs hs' xs ys x distinct are told =
@@ -175,7 +175,7 @@ same_front xs ys zs x rises rises' write =
     leasts : least_of x.claim (xs ++ x ∷ ys) ≡ least_of x.claim (xs ++ x ∷ zs)
     leasts = least_front xs ys x rises write ∙ sym (least_front xs zs x rises' write)
 
--- claims that stand in front are told of at a longer moment too
+-- heads of claims in front are known at a longer moment too
 pub told_widen : (hs : List Head) (xs ys : Moment) → EachPair Rises (xs ++ ys) → TellAt hs xs xs → TellAt hs (xs ++ ys) xs
 told_widen hs xs ys rising told = go [] xs refl told
   where
@@ -200,7 +200,7 @@ pub but_more : (lost : ℕ) (ss ss' : List Set) → HoldMore ss ss' → (m : Mom
 but_more lost ss ss' wider m [] hold = tt
 but_more lost ss ss' wider m (z ∷ zs) hold = ((λ write other. wider (least_of z.claim m).seat z.claim.seat (hold.0 write other)), but_more lost ss ss' wider m zs hold.1)
 
--- where the least claim is the same
+-- if the least claim is the same
 pub behind_same : (ss : List Set) (m n : Moment) (x : Claimed) → least_of x.claim n ≡ least_of x.claim m → IsBehind ss m x → IsBehind ss n x
 behind_same ss m n x same is = ap (λ (d : Claim). contains (set_at ss d.seat) x.claim.seat) same ∙ is
 

@@ -20,11 +20,11 @@ least_all P c own (x ∷ xs) all =
     (λ on. subst (λ b. P (first_or c (cond b (x.claim ∷ line c xs) (line c xs)))) (sym on) all.0)
     (λ off. subst (λ b. P (first_or c (cond b (x.claim ∷ line c xs) (line c xs)))) (sym off) (least_all P c own xs all.1))
 
--- the test by which a claim joins the line behind it
+-- the test by which a claim joins the line after it
 abbrev joins : Claim → Claimed → Moment → Bool
 joins c x xs = is_earlier_write c x.claim && list_any (share_place x.claim) (c ∷ line c xs)
 
--- an earlier write that shares a place with a claim, by which one of its line is reached
+-- an earlier write that shares a place with a claim, and by which a claim of its line is reached
 pub record IsBeside (c d : Claim) (xs : Moment) : Type 0 where
   pub at : Claimed
   pub among : Among at xs
@@ -32,7 +32,7 @@ pub record IsBeside (c d : Claim) (xs : Moment) : Type 0 where
   pub share : share_place at.claim c ≡ true
   pub reaches : (d ≡ at.claim) ⊎ Among d (line at.claim xs)
 
--- each of a line is reached by one
+-- each claim of a line is reached by one
 pub beside : (c : Claim) (xs : Moment) → EachPair Rises xs → (d : Claim) → Among d (line c xs) → IsBeside c d xs
 beside c [] pairs d there = absurd there
 beside c (x ∷ xs) pairs d there = at (joins c x xs) refl (λ e. beside c xs pairs.1 e) there
@@ -47,7 +47,7 @@ beside c (x ∷ xs) pairs d there = at (joins c x xs) refl (λ e. beside c xs pa
     longer : (e : Claim) → IsBeside c e xs → IsBeside c e (x ∷ xs)
     longer e h = record { at = h.at; among = inr h.among; earlier = h.earlier; share = h.share; reaches = elim h.reaches [ inl is ↦ inl is | inr further ↦ inr (stays h.at.claim e further) ] }
 
-    -- a claim that joins by one of the line is reached by what that is reached by
+    -- a claim that joins by a claim of the line is reached by what reaches that
     joined : (u : Claim) (h : IsBeside c u xs) → x.claim.write_half ≡ true → share_place x.claim u ≡ true → Among x.claim (line h.at.claim (x ∷ xs))
     joined u h write share =
         let up = (all_at (Rises x) xs h.at pairs.0 h.among).after_write write in
@@ -76,7 +76,7 @@ beside c (x ∷ xs) pairs d there = at (joins c x xs) refl (λ e. beside c xs pa
         ]
 
 module _ (m : Moment) (rising : EachPair Rises m) where
-  -- a line holds the lines of its claims
+  -- a line includes the lines of its claims
   line_of_one : (c v : Claim) → Among v (line c m) → (ys : Moment) → ((y : Claimed) → Among y ys → Among y m) → EachPair Rises ys → (d : Claim) → Among d (line v ys) → Among d (line c m)
   line_of_one c v in_c [] within pairs d there = absurd there
   line_of_one c v in_c (y ∷ ys) within pairs d there = at (joins v y ys) refl (λ e. line_of_one c v in_c ys (λ z h. within z (inr h)) pairs.1 e) there
@@ -134,7 +134,7 @@ module _ (m : Moment) (rising : EachPair Rises m) where
     ]
   ]
 
-  -- the least of the line of a write that is there is one
+  -- the least of the line of a write that is there is a write that is there
   pub least_in : (x : Claimed) → Among x m → x.claim.write_half ≡ true → (y : Claimed) × Among y m × (y.claim ≡ least_of x.claim m) × (y.claim.write_half ≡ true)
   least_in x there write = elim (least_is x.claim m) [
     | inl itself ↦ (x, there, sym itself, write)
@@ -143,7 +143,7 @@ module _ (m : Moment) (rising : EachPair Rises m) where
         (h.at, h.among, h.is, ap (λ (d : Claim). d.write_half) h.is ∙ (earlier_of x.claim (least_of x.claim m) h.earlier).write))
   ]
 
-  -- writes of one stamp are one
+  -- writes of one stamp are the same
   pub one_of_stamp : (x y : Claimed) → Among x m → Among y m → x.claim.write_half ≡ true → y.claim.write_half ≡ true → x.claim.stamp ≡ y.claim.stamp → x ≡ y
   one_of_stamp x y in_x in_y x_write y_write stamp =
       elim (pair_among Rises m x y rising in_x in_y) [
@@ -152,7 +152,7 @@ module _ (m : Moment) (rising : EachPair Rises m) where
         | inr (inr r) ↦ (let below = r.after_write y_write in absurd (omega arith))
       ]
 
-  -- leasts of one stamp are one
+  -- leasts of one stamp are the same
   pub same_least : (x y : Claimed) → Among x m → Among y m → x.claim.write_half ≡ true → y.claim.write_half ≡ true → (least_of x.claim m).stamp ≡ (least_of y.claim m).stamp → least_of x.claim m ≡ least_of y.claim m
   same_least x y in_x in_y x_write y_write stamps =
       let a = least_in x in_x x_write in

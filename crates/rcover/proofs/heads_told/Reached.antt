@@ -42,7 +42,7 @@ module _ (m : Moment) (c : Claim) (y : Claimed) (zs : Moment) (are : AreBefore m
   pub found_read : y.claim.write_half ≡ false → IsFound m c (y ∷ zs) f
   found_read read = same_by (λ beside. contrary y.claim.write_half beside.write read)
 
-  -- nor does a write with none of the places that are left: a later one that shares the place reaches it
+  -- nor does a write with none of the places that are left: a later write that shares the place reaches it
   pub found_apart : y.claim.write_half ≡ true → meets y.claim.places f.left ≡ false → IsFound m c (y ∷ zs) f
   found_apart write apart =
       same_by (λ beside.
@@ -108,7 +108,7 @@ module _ (m : Moment) (c : Claim) (y : Claimed) (zs : Moment) (are : AreBefore m
         to : ℕ → ℕ → Found
         to seat stamp = record { seat = seat; stamp = stamp; left = left }
 
--- where no place is left, nothing more is found
+-- if no place is left, nothing more is found
 pub found_rest : (m : Moment) (c : Claim) (us zs : Moment) → AreBefore m c (us ++ zs) → (f : Found) → f.left ≡ empty → IsFound m c zs f → IsFound m c (us ++ zs) f
 found_rest m c [] zs are f none is = is
 found_rest m c (u ∷ us) zs are f none is =
@@ -131,7 +131,7 @@ module _ (xs ys : Moment) (x : Claimed) (rising : EachPair Rises (xs ++ x ∷ ys
   in_m : Among x m
   in_m = among_behind xs (x ∷ ys) x (inl refl)
 
-  -- all claims in front stand before it
+  -- all claims in front are before it
   pub are_before : AreBefore m c xs
   are_before = record {
     rising = rising;
@@ -148,7 +148,7 @@ module _ (xs ys : Moment) (x : Claimed) (rising : EachPair Rises (xs ++ x ∷ ys
     | inr (inr behind) ↦ (let not_above = (all_at (Rises x) ys z (pairs_after Rises xs x ys rising) behind).not_above in absurd (omega arith))
   ]
 
-  -- what is so of those in front is so of all earlier ones
+  -- what holds of those in front holds of all earlier ones
   pub earlier_all : (P : Claimed → Type 0) → AllByRecursion P xs → AllByRecursion (λ y. y.claim.stamp < c.stamp → P y) m
   earlier_all P all = all_from (λ y. y.claim.stamp < c.stamp → P y) m (λ y there below. all_at P xs y all (in_front y there below))
 

@@ -1,4 +1,4 @@
--- Room that is filled anew.
+-- Room that is filled again.
 use Rattle.std.proofs.Common.{◌≡◌, List, length, drop, ◌∙◌, arith}
 use Rattle.std.proofs.lemmas.List.{take-append-le, take_all}
 use Rattle.std.specs.Vec.{with_items}
@@ -7,7 +7,7 @@ use Rattle.std.specs.declared.alloc.Global.{Global}
 use Rattle.rcover.specs.declared.lines.Head.{Head}
 use Rattle.rset.specs.Sets.{Set}
 
--- elements that stand in the place of others, as many as they are
+-- elements that replace others, as many as they are
 pub refill : {X : Type 0} (v : Vec X Global) (xs : List X) → length xs ≡ length v.items → (with_items v xs).items ≡ xs
 refill v xs same =
     let len = v.ok.0 in

@@ -19,7 +19,7 @@ use Rattle.rcover.specs.Lines.{head_of, is_taken, takes_seat, IsLost}
 use Rattle.rcover.proofs.heads_told.Leasts.{least_in, least_all}
 use Rattle.rmodel.proofs.reaching.Soundness.{read_of_half}
 
--- a seat has one write claim at most
+-- a seat has at most one write claim
 pub one_write : (xs : Moment) → EachPair Distinct xs → (z x : Claimed) → Among z xs → Among x xs → z.claim.write_half ≡ true → x.claim.write_half ≡ true → z.claim.seat ≡ x.claim.seat → z ≡ x
 one_write xs distinct z x in_xs there z_write x_write seated =
     elim (pair_among Distinct xs z x distinct in_xs there) [
@@ -28,7 +28,7 @@ one_write xs distinct z x in_xs there z_write x_write seated =
       | inr (inr two) ↦ (let h = two (sym seated) in contrary x.claim.write_half x_write (read_of_half x.claim h.reads))
     ]
 
--- none is where no write goes, and the seat is none
+-- no head is lost if no write goes and the lost seat is no seat
 pub lost_none : (lost : Head) (gone : Set) (e : Event) (m : Moment) → SEATS ≤ lost.claim.seat → AllByRecursion (λ x. x.claim.seat < SEATS) m → ((x : Claimed) → Among x m → x.claim.write_half ≡ true → takes_seat e x.claim.seat ≡ false) → AllByRecursion (IsLost lost gone e m) m
 lost_none lost gone e m high low none =
     all_from (IsLost lost gone e m) m
@@ -51,7 +51,7 @@ seat_taken (event.Ask t part) seat takes = contrary false takes refl
 only_one : (e : Event) (m : Moment) → EachPair Distinct m → (x w : Claimed) → Among x m → Among w m → x.claim.write_half ≡ true → w.claim.write_half ≡ true → takes_seat e x.claim.seat ≡ true → takes_seat e w.claim.seat ≡ true → x ≡ w
 only_one e m distinct x w in_x in_w x_write w_write x_takes w_takes = one_write m distinct x w in_x in_w x_write w_write (sym (seat_taken e x.claim.seat x_takes) ∙ seat_taken e w.claim.seat w_takes)
 
--- where one goes, it is its head
+-- if a write goes, the lost head is its head
 pub lost_one : (lost : Head) (e : Event) (w : Claimed) (m : Moment) → EachPair Rises m → EachPair Distinct m → Among w m → is_taken e w ≡ true → head_of m w.claim ≡ lost → AllByRecursion (IsLost lost w.claim.places e m) m
 lost_one lost e w m rising distinct in_m taken is =
     all_from (IsLost lost w.claim.places e m) m

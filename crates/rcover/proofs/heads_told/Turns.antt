@@ -1,4 +1,4 @@
--- Heads are gone on with, one claim after another.
+-- Heads are carried on, one claim after another.
 use Rattle.std.proofs.Common.{◌≡◌, ◌≢◌, ℕ, ◌==◌, Bool, true, false, ◌&&◌, ◌||◌, cond, Some, List, [], ◌∷◌, ◌++◌, refl, sym, ap, ◌∙◌, inl, inr}
 use Rattle.std.proofs.lemmas.Bool.{and_from, and_parts, eq-eqb, eqb-true, or_left, or_right}
 use Rattle.std.specs.List.{AllByRecursion, list_any}
@@ -21,11 +21,11 @@ use Rattle.rcover.specs.Lines.{tells_write_of, head_of, set_at, is_touched, AreP
 use Rattle.rcover.proofs.Pairs.{pairs_before, pairs_after}
 use Rattle.rcover.proofs.heads_told.Heads.{behind_more, behind_same, but_more, other_seat}
 
--- no seat of these writes is told to have another head yet
+-- no other head is noted yet for the seats of these writes
 abbrev pub AreNew : Moves → List Claimed → Type 0
 AreNew moves zs = AllByRecursion (IsNew moves) zs
 
--- of the claims before a place all is told as it is at n, and of those behind it as it was at m
+-- the heads of the claims before a place are known at n, and those after it at m
 pub record AreTurned (now : List Head) (moves : Moves) (lost : Head) (gone : Set) (m n : Moment) (xs ys : List Claimed) : Type 0 where
   pub within : is_subset gone moves.dirty ≡ true
   pub heads : TellAt now n xs
@@ -37,7 +37,7 @@ pub record AreTurned (now : List Head) (moves : Moves) (lost : Head) (gone : Set
 none_in : (s : Set) → s ≡ empty → (seat : ℕ) → contains s seat ≡ false
 none_in s none seat = ap (λ t. contains t seat) none ∙ contains_empty seat
 
--- before the first of them none is
+-- before the first claim no other head is noted
 pub none_told : (moves : Moves) → moves.moved ≡ empty → moves.risen ≡ empty → (zs : List Claimed) → AreNew moves zs
 none_told moves moved risen [] = tt
 none_told moves moved risen (z ∷ zs) = (record { unmoved = λ _. none_in moves.moved moved z.claim.seat; unrisen = λ _. none_in moves.risen risen z.claim.seat }, none_told moves moved risen zs)
@@ -94,7 +94,7 @@ module _ (now now' : List Head) (moves moves' : Moves) (lost : Head) (m n : Mome
   others_behind [] all = tt
   others_behind (z ∷ zs) all = ((λ _ write same. other_seat x z all.0 write (sym same)), others_behind zs all.1)
 
-  -- one claim more is told of
+  -- the head of one more claim is known
   pub turned_push : (gone : Set) (xs ys : List Claimed) → EachPair Distinct (xs ++ x ∷ ys) → AreTurned now moves lost gone m n xs (x ∷ ys) → AreTurned now' moves' lost gone m n (xs ++ x ∷ []) ys
   turned_push gone xs ys distinct are =
       let front = others_before xs (pairs_before Distinct xs x ys distinct) in
@@ -108,7 +108,7 @@ module _ (now now' : List Head) (moves moves' : Moves) (lost : Head) (m n : Mome
         untold = new_stay ys behind are.untold.1;
       }
 
-  -- the writes of the seats that moved or rose stand at their places, once that of the claim is noted
+  -- the writes of the seats that moved or rose are at their places, once that of the claim is noted
   pub placed_push : (places places' : List ℕ) (i : ℕ) → ((seat : ℕ) → slice_get places' seat ≡ cond (x.claim.write_half && (seat == x.claim.seat)) (Some i) (slice_get places seat)) → slice_get n i ≡ Some x
       → ArePlaced places moves.moved moves.risen n → ArePlaced places' moves'.moved moves'.risen n
   placed_push places places' i is there placed = λ seat on.
@@ -122,11 +122,11 @@ module _ (now now' : List Head) (moves moves' : Moves) (lost : Head) (m n : Mome
       let was = placed seat ((λ k. sym (turned.moved_stays seat apart) k || sym (turned.risen_stays seat apart) k) ∙ on) in
       record { place = was.place; noted = is seat ∙ ap (λ b. cond b (Some i) (slice_get places seat)) other ∙ was.noted; at = was.at; there = was.there; write = was.write; own = was.own })
 
--- before the first of them nothing need be noted
+-- before the first of them nothing needs to be noted
 pub none_placed : (places : List ℕ) (moved risen : Set) → moved ≡ empty → risen ≡ empty → (n : Moment) → ArePlaced places moved risen n
 none_placed places moved risen no_moved no_risen n = λ seat on. contrary (contains moved seat || contains risen seat) on (λ k. none_in moved no_moved seat k || none_in risen no_risen seat k)
 
--- ---- the ways of one claim
+-- ---- what may happen to a claim
 
 module _ (now : List Head) (moves : Moves) (lost : Head) (m n : Moment) (x : Claimed) where
   -- a read has no head
@@ -180,7 +180,7 @@ module _ (now : List Head) (moves : Moves) (lost : Head) (m n : Moment) (x : Cla
       elsewhere : (seat : ℕ) → (x.claim.write_half ≡ true → seat ≢ x.claim.seat) → slice_get now' seat ≡ slice_get now seat
       elsewhere seat other = now_is seat ∙ ap (λ b. cond b (Some h) (slice_get now seat)) (not_own seat other)
 
-      -- it was the one that is lost, and is another
+      -- it was the lost one, and is another
       pub turned_moved : IsNew moves x → head_of m x.claim ≡ lost → (least_of x.claim n).stamp ≢ lost.claim.stamp → IsTurned now moves lost now' (record { moved = insert moves.moved x.claim.seat; risen = moves.risen; dirty = union moves.dirty x.claim.places }) m n x
       turned_moved new was other = record {
         head = λ _. here;
@@ -231,7 +231,7 @@ told_held came h holds = at (contains came h.claim.seat)
     at true = (λ i. let g : Head = record { claim = h.claim; holds = sym holds i } in g)
     at false = refl
 
--- and so does the claim of any
+-- and so does the claim of any head
 told_claim : (came : Set) (h : Head) → (with_told came h).claim ≡ h.claim
 told_claim came h = at (contains came h.claim.seat)
   where
@@ -263,7 +263,7 @@ module _ (came : Set) (now : List Head) (moves : Moves) (lost : Head) (m n : Mom
 
 -- ---- the sets of the seats of least claims, one claim after another
 
--- of the claims before a place they hold those at n, of those behind it those at m whose least claim is not lost
+-- of the claims before a place they hold those at n, of those after it those at m whose least claim is not lost
 pub record AreHeld (lost : ℕ) (ss : List Set) (m n : Moment) (xs ys : List Claimed) : Type 0 where
   pub done : HoldBehind ss n xs
   pub rest : HoldBehindBut lost ss m ys
@@ -275,7 +275,7 @@ held_push lost ss ss' m n xs ys x wider own are = record {
   rest = but_more lost ss ss' wider m ys are.rest.1;
 }
 
--- where nothing is touched, all stays
+-- if nothing is touched, all stays
 module _ (lost : Head) (gone came touched : Set) (none : touched ≡ empty) (m n : Moment) (hs : List Head) where
   off : (x : Claimed) → contains touched x.claim.seat ≡ false
   off x = ap (λ s. contains s x.claim.seat) none ∙ contains_empty x.claim.seat
@@ -303,7 +303,7 @@ module _ (lost : Head) (gone came touched : Set) (none : touched ≡ empty) (m n
     tells_same moved risen no_moved no_risen zs by.1,
   )
 
--- the write of a seat has the least claim of a seat whose write is told to be satisfied
+-- the write of a seat has the least claim of a seat whose write is reported to be satisfied
 abbrev told_behind : List Set → List StatusChange → ℕ → Bool
 told_behind ss cs seat = list_any (λ c. (c.write_half && satisfied_by c.status) && contains (set_at ss c.seat) seat) cs
 

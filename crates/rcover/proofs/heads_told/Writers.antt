@@ -1,4 +1,4 @@
--- The seats that have a write, the write that an event takes away, and what those write that are told to be satisfied.
+-- The seats that have a write, the write that an event takes away, and what is written by those that are reported to be satisfied.
 use Rattle.std.proofs.Common.{◌≡◌, ◌==◌, ℕ, Bool, true, false, not, ◌&&◌, Some, List, refl, sym, ap, ◌∙◌}
 use Rattle.std.proofs.lemmas.Bool.{and_parts, and_from, eqb-true}
 use Rattle.std.specs.FinSet.{contains, is_subset, remove}
@@ -26,7 +26,7 @@ true_and : (b : Bool) → (true && b) ≡ b
 true_and true = refl
 true_and false = refl
 
--- the write that an event takes away, where its seat has one
+-- the write that an event takes away, if its seat has one
 pub taken_at : (e : Event) (m : Moment) (writers : Set) → HaveWrites writers m → takes_write e writers ≡ true → (w : Claimed) × Among w m × (is_taken e w ≡ true)
 taken_at (Issue t r) m writers have on = contrary true refl (sym (and_parts false (contains writers t) on).0)
 taken_at (Finish t) m writers have on =
@@ -36,7 +36,7 @@ taken_at (Finish t) m writers have on =
 taken_at (event.Rise t) m writers have on = contrary true refl (sym (and_parts false (contains writers t) on).0)
 taken_at (event.Ask t part) m writers have on = contrary true refl (sym (and_parts false (contains writers t) on).0)
 
--- none goes where its seat has none
+-- no write goes if its seat has none
 pub none_taken : (e : Event) (m : Moment) (writers : Set) → HaveWrites writers m → takes_write e writers ≡ false → (x : Claimed) → Among x m → x.claim.write_half ≡ true → takes_seat e x.claim.seat ≡ false
 none_taken (Issue t r) m writers have off x there write = refl
 none_taken (Finish t) m writers have off x there write =
@@ -52,7 +52,7 @@ and_turned true false = refl
 and_turned false true = refl
 and_turned false false = refl
 
--- where it takes none away, all seats that have a write are left
+-- if it takes no write away, all seats that have a write are left
 pub left_all : (e : Event) (writers : Set) → takes_write e writers ≡ false → AreLeft e writers writers
 left_all (Issue t r) writers off seat = sym (and_true (contains writers seat))
 left_all (Finish t) writers off seat =
@@ -68,7 +68,7 @@ left_all (Finish t) writers off seat =
 left_all (event.Rise t) writers off seat = sym (and_true (contains writers seat))
 left_all (event.Ask t part) writers off seat = sym (and_true (contains writers seat))
 
--- and where it takes one away, all but its seat
+-- and if it takes one away, all but its seat
 pub left_but : (e : Event) (writers : Set) → takes_write e writers ≡ true → AreLeft e writers (remove writers (seat_of e))
 left_but (Issue t r) writers on = contrary true refl (sym (and_parts false (contains writers t) on).0)
 left_but (Finish t) writers on = λ seat.
@@ -78,7 +78,7 @@ left_but (Finish t) writers on = λ seat.
 left_but (event.Rise t) writers on = contrary true refl (sym (and_parts false (contains writers t) on).0)
 left_but (event.Ask t part) writers on = contrary true refl (sym (and_parts false (contains writers t) on).0)
 
--- what the write of a seat writes is among all that is written, where it is told to be satisfied
+-- what the write of a seat writes is among all that is written, if it is reported to be satisfied
 pub told_written : (ss : List Share) (cs : List StatusChange) (written : Set) → ((l : ℕ) → contains written l ≡ is_written ss cs l) → (seat : ℕ) (share : Share) → tells_write_of cs seat ≡ true → slice_get ss seat ≡ Some share → is_subset share.writes written ≡ true
 told_written ss cs written is seat share told kept =
     within_from share.writes written (λ l has.

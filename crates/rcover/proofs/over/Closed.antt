@@ -36,15 +36,15 @@ module _ (h g : Head) (a : Sections) (m : Moment) where
   pub held_closed : h.holds ≡ true → closed_by h a m g ≡ made_of a.reads (cond (is_claim h.claim g.claim) a.writes (a.writes ++ h.claim ∷ []))
   held_closed held = (λ i. made_of (cond on a.reads (cond (held i) a.reads with_read)) (cond one a.writes (cond (held i) with_least a.writes))) ∙ ap (λ r. made_of r (cond one a.writes with_least)) (either on a.reads)
 
-  -- of one whose stretch goes on
+  -- of a least claim whose period goes on
   pub going_closed : h.holds ≡ false → (is_claim h.claim g.claim && not g.holds) ≡ true → closed_by h a m g ≡ a
   going_closed open_still goes = (λ i. made_of (cond (goes i) a.reads (cond h.holds a.reads with_read)) (cond one a.writes (cond (open_still i) with_least a.writes))) ∙ ap (made_of a.reads) (either one a.writes)
 
-  -- of one whose stretch is over
+  -- of a least claim whose period is over
   pub over_closed : h.holds ≡ false → (is_claim h.claim g.claim && not g.holds) ≡ false → closed_by h a m g ≡ made_of (with_option a.reads (first_at (reads_against h.claim) m)) a.writes
   over_closed open_still over = (λ i. made_of (cond (over i) a.reads (cond (open_still i) a.reads with_read)) (cond one a.writes (cond (open_still i) with_least a.writes))) ∙ ap (made_of with_read) (either one a.writes)
 
--- of one that came to be satisfied
+-- of a least claim that came to be satisfied
 pub risen_closed : (h g : Head) (a : Sections) (m : Moment) → h ≡ record { claim = g.claim; holds = false } → g.holds ≡ true → closed_by h a m g ≡ made_of (with_option a.reads (first_at (reads_against g.claim) m)) a.writes
 risen_closed h g a m was holds =
     ap (λ (k : Head). closed_by k a m g) was
@@ -54,7 +54,7 @@ risen_closed h g a m was holds =
     at true d is = ap not is
     at false d is = refl
 
--- where the head is the same, nothing is over
+-- if the head is the same, nothing is over
 pub same_closed : (h g : Head) (a : Sections) (m : Moment) → g ≡ h → closed_by h a m g ≡ a
 same_closed h g a m same = ap (λ (k : Head). closed_by h a m k) same ∙ at h.holds (is_claim h.claim h.claim) (is_itself h.claim)
   where

@@ -67,9 +67,9 @@ found_same : (t u : Claimed → Bool) → ((x : Claimed) → t x ≡ u x) → (x
 found_same t u same [] = refl
 found_same t u same (x ∷ xs) = (λ i. cond (same x i) (Some x) (found_same t u same xs i))
 
--- ---- one moment more, before the others
+-- ---- one more moment, before the others
 
--- of one stamp, one claim at most is satisfied
+-- of one stamp, at most one claim is satisfied
 one_satisfied : (s : LockState) → IsReached s → EachPair OfOneSeat s.claims → (x y : Claimed) → Among x s.claims → Among y s.claims → is_satisfied x ≡ true → is_satisfied y ≡ true → x.claim.stamp ≡ y.claim.stamp → x.claim ≡ y.claim
 one_satisfied s reached seats x y in_x in_y sat sat' stamps =
     elim (pair_among (λ x y. (x.claim.seat ≡ y.claim.seat → TurnsAreTaken x y) × OfOneSeat x y) s.claims x y
@@ -106,7 +106,7 @@ module _ (p : Claim → Bool) (s : LockState) (e : Event) (reached : IsReached s
       let same : x ≡ was.at = one_of_stamp s reached seats x was.at in_m was.among (record { stamp = one.stamp ∙ ap (λ d. d.stamp) (sym was.is); half = one.half ∙ ap (λ d. d.write_half) (sym was.is) }) in
       record { at = y.0; among = y.1; is = sym was.is ∙ ap (λ (z : Claimed). z.claim) (sym same); satisfied = parts.0 }
 
-  -- what passes before passes behind, as the same claim
+  -- what passes before passes after, as the same claim
   record Passing (c : Claim) (t : Claimed → Bool) (xs : Moment) : Type 0 where
     at : Claimed
     among : Among at xs

@@ -33,7 +33,7 @@ use Rattle.rcover.specs.Shown.{write_closed}
 use Rattle.rcover.specs.Tracked.{no_sections, keeper_at, read_closed_if, IsTracked, AreTracked, IsKept, gone_on, kept_by}
 use Rattle.rcover.proofs.over.Tracking.{kept_right, kept_at_most, is_ask}
 
--- ---- a claim waits in one way, and one of a seat at most
+-- ---- a claim waits in one way, and at most one claim of a seat waits
 
 not_first : (n : Moment) (x : Claimed) → is_rising_half x.claim ≡ true → waits_first n x ≡ false
 not_first n x rising = ap (λ b. is_nothing (held_by x) && not b) rising ∙ and_false (is_nothing (held_by x))

@@ -65,7 +65,7 @@ kept_found c v (x ∷ xs) some alone =
 keeper_is : (c v : Claim) (m : Moment) → IsKeptBy c v m → keeper_at c m ≡ Some v
 keeper_is c v m k = kept_found c v m (any_among (keeps_out c) m k.at k.among k.keeps) k.alone
 
--- once satisfied it is so to the end
+-- once satisfied it stays so to the end
 held_last : (v : Claim) (s : LockState) (es : List Event) → IsReached s → AreAccepted s es → AllByRecursion (IsActiveWrite v) (moments s es) → list_any (holds_at v) (moments s es) ≡ holds_at v (after s es).claims
 held_last v s [] reached accepted active = or_none (holds_at v s.claims)
   where
@@ -86,7 +86,7 @@ held_last v s (e ∷ es) reached accepted active =
 some_one : {X : Type 0} (x y : X) → Some x ≡ Some y → x ≡ y
 some_one x y h = cc
 
--- a run is over where the test does not pass at the last moment
+-- a run is over if the test does not pass at the last moment
 run_none : (p : Moment → Bool) (s : LockState) (es : List Event) → p (after s es).claims ≡ false → run_of p (moments s es) ≡ []
 run_none p s [] off = ap (λ b. cond (b && true) (s.claims ∷ []) []) off
 run_none p s (e ∷ es) off =
@@ -252,12 +252,12 @@ module _ (groups : ReadGroups) (seats cap : ℕ) (es : List Event) (accepted : A
       write_is waits_to_rise x w (rises_over x w) a (tracked.rise on)
   shown_of a x there tracked (Ask number) on = ask_is x (wait_at waits_for_ask x there on)
 
-  -- and so it is of all of them
+  -- and that for all of them
   pub shown_is : (table : ℕ → Sections) → AreTracked ms m table → (x : Claimed) → Among x m → (w : Which) → waits_in w m x ≡ true
       → sections_in w x (wait_so_far (waits_in w) x.claim ms) ≡ shown w x (table x.claim.seat) m
   shown_is table tracked x there w on = shown_of (table x.claim.seat) x there (tracked x there) w on
 
-  -- what is told with what is kept is what the definitions say of the waits that end
+  -- what is reported from what is kept is what the definitions say of the waits that end
   pub told_are_ended : (table : ℕ → Sections) → AreTracked ms m table → (event : Event) → told es m (next now event).claims table ≡ ended_by first es event
   told_are_ended table tracked event =
       filter_map_same (λ x. told_if (length_in es) m n table x (wait_of es m x)) (λ x. ended_if es ms n x (wait_of es m x)) m (λ x there. at x there (wait_of es m x) refl)
@@ -270,11 +270,11 @@ module _ (groups : ReadGroups) (seats cap : ℕ) (es : List Event) (accepted : A
       at x there (Some w) is =
           ap (λ (a : Sections). cond (stands (waits_in w) x.claim n) None (Some (wait_end w x.claim (numbers_of (length_in es) a)))) (sym (shown_is table tracked x there w (waits_told es m x w is)))
 
-  -- what is shown of a wait is no more than the cap
+  -- what is shown of a wait is at most the cap
   pub shown_at_most : 1 ≤ cap → (a : Sections) (x : Claimed) → Among x m → IsTracked ms m a x → (w : Which) → waits_in w m x ≡ true → AreAtMost cap (shown w x a m)
   shown_at_most some a x there tracked w on = subst (AreAtMost cap) (shown_of a x there tracked w on) (at_most groups seats cap es some accepted x there w on)
 
-  -- nor is what is kept of a write wait
+  -- and so is what is kept of a write wait
   pub kept_at_most : 1 ≤ cap → (a : Sections) (x : Claimed) → Among x m → IsTracked ms m a x → x.claim.write_half ≡ true → (w : Which) → waits_in w m x ≡ true → is_ask w ≡ false → AreAtMost cap a
   kept_at_most some a x there tracked write First on plain =
       among_shown (least_of x.claim m) a m
@@ -289,7 +289,7 @@ module _ (groups : ReadGroups) (seats cap : ℕ) (es : List Event) (accepted : A
     reached_next_now : IsReached (next now event)
     reached_next_now = reached_next now event reached_now comes
 
-    -- a claim that stands at both moments was the same claim before
+    -- a claim that is there at both moments was the same claim before
     pub was_before : (test : Moment → Claimed → Bool) (x : Claimed) → Among x n → stands test x.claim m ≡ true → (y : Claimed) × Among y m × (y.claim ≡ x.claim) × (test m y ≡ true)
     was_before test x there on =
         let c = x.claim in
@@ -322,7 +322,7 @@ module _ (groups : ReadGroups) (seats cap : ℕ) (es : List Event) (accepted : A
         (read_closed_next c w.start w.more w.reached w.accepted w.seats_apart waits event (subst (λ (s : LockState). Comes s event) (sym w.ends) comes)
         (subst (λ (s : LockState). ReadWaits c (next s event).claims) (sym w.ends) waits') a (subst (λ (p : List Moment × LockState). IsReadClosed c p.0 p.1.claims a) (λ i. (w.is i, sym w.ends i)) k))
 
-    -- the moments of a wait that stands at the next moment
+    -- the moments of a wait that is there at the next moment
     goes_on : (test : Moment → Claimed → Bool) (x : Claimed) → Among x n → test n x ≡ true → wait_so_far test x.claim (ms ++ n ∷ []) ≡ wait_so_far test x.claim ms ++ n ∷ []
     goes_on test x there on =
         run_push (stands test x.claim) ms n

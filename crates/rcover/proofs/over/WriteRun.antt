@@ -90,7 +90,7 @@ module _ (c : Claim) (s : LockState) (es : List Event) (reached : IsReached s) (
       false_from (held_over c ms e) (λ held. contrary (holds_at e m)
       (held_now c e s es reached accepted (each_there c s es reached accepted waits) (that_least c s es reached accepted waits e e_among) refl held) off) ∙ sym off)
 
-  -- the reads that are shown are those of all stretches
+  -- the reads that are shown are those of all periods
   pub shown_reads : (a : Sections) (k : IsClosed c ms m a) → (write_shown e a m).reads ≡ different (filter_map (taken_over c ms) k.before ++ option_to_list (taken_over c ms e))
   shown_reads a k =
       both_cases (holds_at e m)

@@ -1,4 +1,4 @@
--- The sections of the closed stretches of a write wait, once one moment more comes.
+-- The sections of the closed periods of a write wait, once one more moment comes.
 use Rattle.std.proofs.Common.{◌≡◌, ◌<◌, ◌≤◌, Bool, true, false, not, ◌&&◌, ◌||◌, cond, List, [], ◌∷◌, ◌++◌, filter, map, refl, sym, ap, subst, ◌∙◌, inl, inr, arith}
 use Rattle.std.proofs.lemmas.Bool.{cases_order}
 use Rattle.std.specs.List.{filter_map, AllByRecursion}
@@ -68,7 +68,7 @@ module _ (c : Claim) (s : LockState) (es : List Event) (reached : IsReached s) (
   not_below : e.stamp ≤ f.stamp
   not_below = least_below c m at_now.sound.well_formed.rising f (line_shrinks now at_now event comes c there_now f (least_is c n))
 
-  -- where it is of the same stamp, it is the same claim
+  -- if it is of the same stamp, it is the same claim
   same_least : is_claim e f ≡ true → e ≡ f
   same_least one = write_by_stamp now at_now e f (least_there now at_now c there_now) (of_line_there now at_now c there_now f (line_shrinks now at_now event comes c there_now f (least_is c n))) (are_one e f one).stamp
 
@@ -192,7 +192,7 @@ module _ (c : Claim) (s : LockState) (es : List Event) (reached : IsReached s) (
           (ap (λ b. b && not (holds_at f m')) (false_from (is_least c f m') (λ h. let same = (are_one f (least_of c m') h).stamp in let up = all.0 in let less = rises new in omega arith)))
           ∙ none_kept ns all.1
 
-      -- of the new least no read is taken yet where it is satisfied
+      -- no read is taken yet for the new least if it is satisfied
       none_taken : (b : Bool) → holds_at f n ≡ b → cond b (option_to_list (taken_over c ms' f)) [] ≡ []
       none_taken false off = refl
       none_taken true on =

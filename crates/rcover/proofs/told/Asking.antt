@@ -1,4 +1,4 @@
--- Of which requests an ask is pending.
+-- Which requests have a pending ask.
 use Rattle.std.proofs.Common.{◌≡◌, ◌≢◌, ◌==◌, nat_lt, true, not, ◌&&◌, cond, map, sym, ap, subst, ◌∙◌, inl, inr}
 use Rattle.std.proofs.lemmas.Bool.{and_parts, and_from, eq-eqb, eqb-true}
 use Rattle.std.specs.FinSet.{contains, empty, intersection, len, len-empty}
@@ -47,7 +47,7 @@ held_alike x y nested claim granted =
     ∙ (λ i. let g : Granted = record { reads = intersection (granted i) (claim i).reads; writes = intersection (granted i) (claim i).writes } in g)
     ∙ sym (held_of_nested x nested)
 
--- one that was granted nothing holds nothing
+-- a request that was granted nothing holds nothing
 pub held_none : (x : Claimed) → is_nested x.claim.kind ≡ true → x.granted ≡ empty → is_nothing (held_by x) ≡ true
 held_none x nested none =
     is_nothing_of (held_by x)
@@ -74,7 +74,7 @@ module _ (s : LockState) (e : Event) (reached : IsReached s) (comes : Comes s e)
         ap (λ (c : Claim). is_nested c.kind) from.2 ∙ nested,
       )
 
--- a claim of which an ask is pending once an event changed what is asked for
+-- a claim with a pending ask once an event changed what is asked for
 asking_in : (s : LockState) (e : Event) → Comes s e → (seats : Set) → HoldAsking seats s.claims → (y : Claimed) → Among y (changed s e).claims → waits_for_ask s.claims y ≡ true → is_nested y.claim.kind ≡ true → contains (asked_by seats e) y.claim.seat ≡ true
 asking_in s (Issue seat r) comes seats hold y there on nested =
     let ns = map (waiting r.first) (claims_of s.groups.groups s.issued seat r) in
@@ -103,7 +103,7 @@ asking_in s (event.Ask seat part) comes seats hold y there on nested =
     inserted_other seats seat y.claim.seat other
     ∙ all_at (λ z. waits_for_ask s.claims z ≡ true → contains seats z.claim.seat ≡ true) s.claims y hold (subst (λ (z : Claimed). Among z s.claims) (sym is) w.1) on)
 
--- all of which an ask is pending are held behind any event
+-- after any event, the set has all seats with a pending ask
 pub asking_next : (s : LockState) (e : Event) → IsReached s → Comes s e → (seats : Set) → HoldAsking seats s.claims → HoldAsking (asked_by seats e) (next s e).claims
 asking_next s e reached comes seats hold =
     all_from (λ x. waits_for_ask (next s e).claims x ≡ true → contains (asked_by seats e) x.claim.seat ≡ true) (next s e).claims

@@ -1,4 +1,4 @@
--- A seat of which an event ends a wait waits no more.
+-- A seat whose wait ends by an event waits no more.
 use Rattle.std.proofs.Common.{◌≡◌, ◌≢◌, ℕ, ◌<◌, ◌==◌, nat_lt, true, false, not, ◌&&◌, ◌||◌, cond, Option, Some, None, List, refl, sym, ap, subst, ◌∙◌, inl, inr}
 use Rattle.std.proofs.lemmas.Bool.{and_parts, and_from, eq-eqb, eqb-true}
 use Rattle.std.specs.FinSet.{contains, len}
@@ -81,7 +81,7 @@ module _ (s : LockState) (e : Event) (reached : IsReached s) (comes : Comes s e)
     grew : IsGrown y x
     grew = (before s e reached comes plain x there).2
 
-    -- where they are one claim
+    -- if they are the same claim
     module _ (same : z ≡ y) where
       claim : x.claim ≡ z.claim
       claim = grew.claim ∙ ap (λ (q : Claimed). q.claim) (sym same)
@@ -126,7 +126,7 @@ module _ (s : LockState) (e : Event) (reached : IsReached s) (comes : Comes s e)
           (λ none. contrary (is_nothing (held_by z)) (holds_less none) holds)
           (λ some. over (Ask k) gone (and_from (not (is_nothing (held_by x))) (nat_lt 0 (len x.asked)) (ap not some) asks)))
 
-    -- where z is the read half of an upgrade and x its write half
+    -- if z is the read half of an upgrade and x its write half
     later_half : z.claim.write_half ≡ false → z.claim.seat ≡ y.claim.seat → is_rising_half y.claim ≡ true → some_wait n x ≡ true → ⊥
     later_half read seated half =
         let half_x : is_rising_half x.claim ≡ true = ap is_rising_half grew.claim ∙ half in
@@ -137,7 +137,7 @@ module _ (s : LockState) (e : Event) (reached : IsReached s) (comes : Comes s e)
         (none_among (λ q. (q.claim.seat == y.claim.seat) && not q.claim.write_half) m z (rising_parts s e reached comes plain m y was).1 in_m))
         (not_asks (next s e) on_reached x there (and_parts (is_upgrade x.claim.kind) x.claim.write_half half_x).0)
 
-    -- where z is the write half and x the read half, z was in no wait
+    -- if z is the write half and x the read half, z was in no wait
     earlier_half : y.claim.write_half ≡ false → y.claim.seat ≡ z.claim.seat → is_rising_half z.claim ≡ true → (w : Which) → waits_in w m z ≡ true → ⊥
     earlier_half read seated half First waits = not_first_half m z half waits
     earlier_half read seated half Rise waits =
@@ -159,7 +159,7 @@ module _ (s : LockState) (e : Event) (reached : IsReached s) (comes : Comes s e)
               earlier_half (read_of_half y.claim h.reads) own (and_from (is_upgrade z.claim.kind) z.claim.write_half h.upgrade h.writes) w waits
         ]
 
-  -- a wait that is told ended, of the claim whose seat is told
+  -- a wait that is reported ended, and belongs to the claim whose seat is reported
   module _ (es : List Event) (table : ℕ → Sections) where
     abbrev EndOf : Claimed → WaitEnd → Type 0
     EndOf z end = (w : Which) × (waits_in w m z ≡ true) × (stands (waits_in w) z.claim n ≡ false) × (end.seat ≡ z.claim.seat)
@@ -181,7 +181,7 @@ module _ (s : LockState) (e : Event) (reached : IsReached s) (comes : Comes s e)
             (λ on. absurd (none_is (ap (λ b. cond b None (Some end_w)) (sym on) ∙ h)))
             (λ off. (w, waits_told es m z w was, off, seat_is end_w end (ap (λ b. cond b None (Some end_w)) (sym off) ∙ h)))
 
-    -- the seats that wait but that of the event waited before, and none of their waits ended
+    -- the seats that wait, except that of the event, waited before, and none of their waits ended
     pub waiting_over : (seats seats' : Set) → HoldWaiting seats m → (ended : List WaitEnd) → ended ≡ told es m n table
         → ((seat : ℕ) → seat < SEATS → contains seats' seat ≡ (not (has_end ended seat) && contains seats seat)) → AllByRecursion (λ x. x.claim.seat < SEATS) n → HoldWaiting (with_seat seats' n (seat_of e)) n
     waiting_over seats seats' hold ended are without low =

@@ -1,4 +1,4 @@
--- What a follower knows of the events that it followed holds with one event more.
+-- What a follower knows of the events that it followed holds with one more event.
 use Rattle.std.proofs.Common.{◌≡◌, ℕ, zero, suc, ◌*◌, ◌≤◌, ◌<◌, true, false, not, ◌&&◌, List, [], ◌∷◌, ◌++◌, append_assoc, length, length-append, refl, sym, ap, subst, ◌∙◌, arith}
 use Rattle.std.specs.Vec.{with_items}
 use Rattle.std.specs.declared.vec.Vec.{Vec}
@@ -64,7 +64,7 @@ use Rattle.rcover.proofs.over.Tracking.{shown_at_most, told_are_ended, tracked_n
 use Rattle.rcover.proofs.heads_told.Refilled.{refill}
 use Rattle.rcover.proofs.heads_told.Writers.{told_written}
 
--- what runs with room keep is no more than there are seats
+-- what runs with room keep is at most as much as there are seats
 run_few : (r : Run) → HasRoom r → AreAtMost SEATS (kept_in r)
 run_few r room =
     let reads = r.reads.ok in
@@ -88,7 +88,7 @@ renamed : (by by' len : Claim → ℕ) → ((c : Claim) → by' c ≡ by c) → 
 renamed by by' len is [] are = tt
 renamed by by' len is (x ∷ xs) are = (is x.claim ∙ are.0, renamed by by' len is xs are.1)
 
--- what is told to be written by the shares of all writes is all that those write
+-- what is reported to be written, by the shares of all writes, is all that those write
 pub all_written : (written : Set) (statuses : List StatusChange) (ss : List Share) → ((l : ℕ) → contains written l ≡ is_written ss statuses l) → (m : Moment) → TellShares ss m → HoldWritten written statuses m
 all_written written statuses ss is [] tell = tt
 all_written written statuses ss is (x ∷ xs) tell = ((λ write on. told_written ss statuses written is x.claim.seat (share_of x.claim) on (tell.0 write)), all_written written statuses ss is xs tell.1)
@@ -211,7 +211,7 @@ module _ (a : Following) (p : Past) (k : Follows a p) where
     pub is_moment_next : IsMoment n
     is_moment_next = record { few = claims_few_next; seats = seats_next_at SEATS refl; rising = rising_next; one_each = one_each_next }
 
-    -- a wait stood before the event, but for that of the upgrade that rises
+    -- a wait was there before the event, except that of the upgrade that rises
     pub stood_next : is_issue e ≡ false → AllByRecursion (StoodBy e m n) n
     stood_next old =
         all_from (StoodBy e m n) n
@@ -220,13 +220,13 @@ module _ (a : Following) (p : Past) (k : Follows a p) where
           rise = λ on. stood_by p.groups p.seats p.cap es k.accepted e comes old which.Rise x there refl on;
         })
 
-    -- a wait that nothing is granted goes on
+    -- a wait goes on if nothing is granted to it
     pub quiet_now : is_issue e ≡ false → AllByRecursion (GoesOn (seat_of e) (changes_between (state_of p) (next (state_of p) e)).grants m n) m
     quiet_now old =
         all_from (GoesOn (seat_of e) (changes_between (state_of p) (next (state_of p) e)).grants m n) m
         (λ x there quiet. goes_on (state_of p) e reached comes old x there quiet)
 
-    -- the waits that the event ends, told by what is known before it
+    -- the waits that the event ends, found from what is known before it
     pub ends_next : (last n' : Moment) (rs : List Run) (ended : List WaitEnd) → last ≡ m → n' ≡ n → rs ≡ a.runs.items
         → ((ds : List Event) → AllByRecursion (λ x. slice_index a.asks x.claim.seat ≡ asks_since x.claim.seat ds) last → AreOf (length_by a.lengths) (length_in ds) last → AllByRecursion (AreLong (length_in ds)) rs → ended ≡ told ds last n' (table_of rs))
         → ended ≡ told es m n table
@@ -235,13 +235,13 @@ module _ (a : Following) (p : Past) (k : Follows a p) where
         (subst (λ (z : Moment). AreOf (length_by a.lengths) (length_in es) z) (sym is_m) lengths_now) (subst (λ (z : List Run). AllByRecursion (AreLong (length_in es)) z) (sym are) long_now)
         ∙ (λ i. told es (is_m i) (is_n i) (table_of (are i)))
 
-    -- the seats that wait behind it: none of which a wait ended
+    -- the seats that wait after it: none of their waits ended
     pub waits_next : is_issue e ≡ false → (left now : Set) (n' : Moment) (ended : List WaitEnd) (seat : ℕ) → n' ≡ n → seat ≡ seat_of e → ended ≡ told es m n table
         → ((l : ℕ) → l < SEATS → contains left l ≡ (not (has_end ended l) && contains a.waiting l)) → now ≡ with_seat left n' seat → HoldWaiting now n
     waits_next old left now n' ended seat is_n seated are without is =
         subst (λ (w : Set). HoldWaiting w n) (sym (is ∙ (λ i. with_seat left (is_n i) (seated i)))) (waiting_over (state_of p) e reached comes old es table a.waiting left k.waiting ended are without (seats_next_at SEATS refl))
 
-    -- heads that tell of all writes before the event tell of those behind it, and go on as they do
+    -- heads that are known for all writes before the event are known for those after it, and are carried on with them
     pub heads_turn : is_issue e ≡ false → (hs : List Head) (lost : Head) (gone came touched : Set) (last n' : Moment) (statuses : List StatusChange) → last ≡ m → n' ≡ n → AllByRecursion (IsLost lost gone e last) last → statuses ≡ (changes_between (state_of p) (next (state_of p) e)).statuses
         → ((seat : ℕ) → seat < SEATS → contains came seat ≡ tells_write_of statuses seat) → AllByRecursion (IsTouched lost.claim.seat statuses touched last) last → TellHeads hs last → TellAt hs m n' × AllByRecursion (GoesBy lost gone came touched m n') n'
     heads_turn old hs lost gone came touched last n' statuses is_m is_n is_lost are_told are touch tells = (
@@ -252,18 +252,18 @@ module _ (a : Following) (p : Past) (k : Follows a p) where
           (all_from (λ y. y.claim.seat < SEATS) m (λ y in_m. seat_in y in_m)) lost gone (subst (λ (z : Moment). AllByRecursion (IsLost lost gone e z) z) is_m is_lost) touched (subst (λ (z : List StatusChange × Moment). AllByRecursion (IsTouched lost.claim.seat z.0 touched z.1) z.1) (λ i. (are_told i, is_m i)) touch) x there (seat_in_next x there))),
     )
 
-    -- sets that hold all writes before the event hold those behind it
+    -- sets that hold all writes before the event hold those after it
     pub behind_turn : is_issue e ≡ false → (ss : List Set) (last n' : Moment) → last ≡ m → n' ≡ n → HoldBehind ss last last → HoldBehind ss m n'
     behind_turn old ss last n' is_m is_n hold = subst (HoldBehind ss m) (sym is_n) (behind_before (state_of p) e reached comes old ss (subst (λ (z : Moment). HoldBehind ss z z) is_m hold))
 
-    -- the seats that have a write before the event, but for that of which it takes one away, have one behind it, which takes the same
+    -- the seats that have a write before the event, except the one whose write it takes away, have a write after it, which takes the same
     pub writes_turn : is_issue e ≡ false → (writers writers' : Set) (ss : List Share) (last n' : Moment) → last ≡ m → n' ≡ n → AreLeft e writers writers' → TellWrites writers ss last → TellWrites writers' ss n'
     writes_turn old writers writers' ss last n' is_m is_n left tell =
         let told = subst (TellWrites writers ss) is_m tell in
         subst (TellWrites writers' ss) (sym is_n)
         (record { seats = writers_next (state_of p) e reached comes old writers writers' told.seats left; shares = shares_before (state_of p) e reached comes old ss told.shares })
 
-    -- a read is kept waiting as before where it reads nothing of what came to be held
+    -- a read is kept waiting as before if it reads nothing of what came to be held
     pub reads_next : is_issue e ≡ false → (written : Set) (last n' : Moment) (statuses : List StatusChange) → last ≡ m → n' ≡ n → statuses ≡ (changes_between (state_of p) (next (state_of p) e)).statuses
         → HoldWritten written statuses n' → AllByRecursion (ReadStays written last n') n'
     reads_next old written last n' statuses is_m is_n are_told hold =

@@ -1,4 +1,4 @@
--- What is noted of requests tells the lengths of claims, whatever events follow.
+-- What is noted of requests gives the lengths of claims, whatever events follow.
 use Rattle.std.proofs.Common.{◌≡◌, ℕ, zero, suc, ◌+◌, ◌≤◌, ◌==◌, Bool, true, false, not, ◌&&◌, cond, List, [], ◌∷◌, ◌++◌, length, fold, map, refl, sym, ap, subst, ◌∙◌, inl, inr, arith}
 use Rattle.std.proofs.lemmas.Bool.{eq-eqb}
 use Rattle.std.proofs.lemmas.List.Sums.{fold-append}
@@ -28,7 +28,7 @@ grows s (Finish seat ∷ es) = grows (next s (Finish seat)) es
 grows s (Rise seat ∷ es) = grows (next s (Rise seat)) es
 grows s (Ask seat part ∷ es) = grows (next s (Ask seat part)) es
 
--- an issue behind some events has the number of those before it
+-- an issue after some events has the number of those before it
 new_length : (s : LockState) (es rest : List Event) (seat : ℕ) (r : RequestFields) (c : Claim) (k : ℕ) → k + s.issued ≡ (after s es).issued → length_from (es ++ Issue seat r ∷ rest) k c ≡ length_of r c
 new_length s [] rest seat r c zero is = refl
 new_length s [] rest seat r c (suc k) is = absurd (omega arith)
@@ -75,7 +75,7 @@ module _ (s : LockState) (reached : IsReached s) (by len : Claim → ℕ) (are :
       let m = came s e reached comes y there in
       subst (λ (d : Claim). noted e by d ≡ len d) (sym (m.1.given.claim ∙ m.1.by_rule.same)) (noted_changed e comes new m.0 m.1.in_changed))
 
--- the claims of the state after some events have their lengths by what is noted, with one event more
+-- the claims of the state after some events have their lengths by what is noted, with one more event
 pub lengths_next : (o : LockState) (es : List Event) (e : Event) → o.issued ≡ 0 → IsReached (after o es) → Comes (after o es) e → (by : Claim → ℕ) → (rest : List Event)
     → AllByRecursion (λ x. by x.claim ≡ length_in (es ++ e ∷ rest) x.claim) (after o es).claims → AllByRecursion (λ x. noted e by x.claim ≡ length_in (es ++ e ∷ rest) x.claim) (next (after o es) e).claims
 lengths_next o es e none reached comes by rest are =

@@ -51,7 +51,7 @@ reads_of groups Upgrade stamp seat reads writes c (inr (inr none)) off = elim no
 reads_of groups Nested stamp seat reads writes c (inl is) off = contrary c.write_half (ap (λ (d : Claim). d.write_half) is) off
 reads_of groups Nested stamp seat reads writes c (inr none) off = elim none [ ]
 
--- of other seats a request that comes tells nothing
+-- a request that comes says nothing of other seats
 noted_other : (b : Bool) (seats : Set) (seat l : ℕ) → l ≢ seat → contains (cond b (insert seats seat) (remove seats seat)) l ≡ contains seats l
 noted_other true seats seat l other = inserted_other seats seat l other
 noted_other false seats seat l other = removed_other seats seat l other
@@ -90,7 +90,7 @@ reading_in s (event.Ask seat part) comes seats hold y there read =
     same true z = refl
     same false z = refl
 
--- the seats of all claims that read are held behind any event
+-- after any event, the set has the seats of all claims that read
 pub reading_next : (s : LockState) (e : Event) → IsReached s → Comes s e → (seats : Set) → HoldReading seats s.claims → HoldReading (reading_by seats e) (next s e).claims
 reading_next s e reached comes seats hold =
     all_from (λ x. x.claim.write_half ≡ false → contains (reading_by seats e) x.claim.seat ≡ true) (next s e).claims
@@ -129,7 +129,7 @@ wanted_in s (event.Ask seat part) comes wanted tell y there read =
     same true z = refl
     same false z = refl
 
--- and behind any event
+-- and after any event
 pub wanted_next : (s : LockState) (e : Event) → IsReached s → Comes s e → (wanted wanted' : List Set) → ((seat : ℕ) → set_at wanted' seat ≡ wanted_by wanted e seat) → TellWanted wanted s.claims → TellWanted wanted' (next s e).claims
 wanted_next s e reached comes wanted wanted' is_noted tell =
     all_from (λ x. x.claim.write_half ≡ false → set_at wanted' x.claim.seat ≡ x.claim.reads) (next s e).claims
@@ -139,7 +139,7 @@ wanted_next s e reached comes wanted wanted' is_noted tell =
     ap (λ (c : Claim). set_at wanted' c.seat) is ∙ is_noted from.0.claim.seat ∙ wanted_in s e comes wanted tell from.0 from.1.in_changed (ap (λ (c : Claim). c.write_half) (sym is) ∙ read)
     ∙ ap (λ (c : Claim). c.reads) (sym is))
 
--- where no request comes all that is noted stays
+-- if no request comes, all that is noted stays
 pub wanted_still : (e : Event) → is_issue e ≡ false → (wanted : List Set) (seat : ℕ) → set_at wanted seat ≡ wanted_by wanted e seat
 wanted_still (Issue t r) plain wanted seat = contrary true refl plain
 wanted_still (Finish t) plain wanted seat = refl

@@ -1,4 +1,4 @@
--- Which claims wait to rise is told by the seats of the upgrades that rose.
+-- The seats of the upgrades that rose say which claims wait to rise.
 use Rattle.std.proofs.Common.{◌≡◌, ◌≢◌, ℕ, ◌==◌, nat_lt, Bool, true, false, not, ◌&&◌, ◌||◌, List, [], ◌∷◌, map, refl, sym, ap, ◌∙◌, inl, inr}
 use Rattle.std.proofs.lemmas.Bool.{and_parts, and_from, eq-eqb, eqb-true}
 use Rattle.std.specs.List.{list_any}
@@ -37,7 +37,7 @@ use Rattle.rcover.proofs.told.Waiting.{none_left}
 differ : (k l : ℕ) → k ≢ l → (k == l) ≡ false
 differ k l other = false_from (k == l) (λ on. other (eqb-true k l on))
 
--- sets that hold a seat alike tell alike of its claims
+-- sets that agree on a seat say the same of its claims
 alike : (seats seats' : Set) (x : Claimed) → contains seats' x.claim.seat ≡ contains seats x.claim.seat → is_rising seats x ≡ is_rising seats' x
 alike seats seats' x same = ap (λ b. b && not (is_satisfied x)) (sym same)
 
@@ -71,7 +71,7 @@ module _ (s : LockState) (e : Event) (reached : IsReached s) (comes : Comes s e)
       contrary ((was.0.claim.seat == c.seat) && not was.0.claim.write_half) (ap (λ (d : Claim). (d.seat == c.seat) && not d.write_half) (sym was.2.claim) ∙ reads)
       (none_among (λ y. (y.claim.seat == c.seat) && not y.claim.write_half) m was.0 none was.1)))
 
-  -- and of the upgrade that rises it leaves none
+  -- and it leaves no read claim of the upgrade that rises
   no_read_left : (c : Claim) → rises_at e c.seat ≡ true → has_read_claim n c ≡ false
   no_read_left c rises =
       none_from (λ y. (y.claim.seat == c.seat) && not y.claim.write_half) n
@@ -174,7 +174,7 @@ rising_at s (event.Rise seat) reached comes seats tell x there =
     still_told s (event.Rise seat) reached comes refl seats tell x there off ∙ alike seats (insert seats seat) x (inserted_other seats seat x.claim.seat other))
 rising_at s (event.Ask seat part) reached comes seats tell x there = still_told s (event.Ask seat part) reached comes refl seats tell x there refl
 
--- which claims wait to rise is told behind any event
+-- after any event it is known which claims wait to rise
 pub risen_next : (s : LockState) (e : Event) → IsReached s → Comes s e → (seats : Set) → TellRising seats s.claims → TellRising (risen_by seats e) (next s e).claims
 risen_next s e reached comes seats tell = all_from (λ x. waits_to_rise (next s e).claims x ≡ is_rising (risen_by seats e) x) (next s e).claims (λ x there. rising_at s e reached comes seats tell x there)
 

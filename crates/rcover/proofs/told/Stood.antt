@@ -47,7 +47,7 @@ module _ (s : LockState) (e : Event) (reached : IsReached s) (comes : Comes s e)
   not_new (event.Rise seat) old = refl
   not_new (event.Ask seat part) old = refl
 
-  -- each claim after it was there, and is as far or further
+  -- each claim after it was there, and is at least as far
   pub before : (x : Claimed) → Among x n → (y : Claimed) × Among y m × IsGrown y x
   before x there =
       let c = came s e reached comes x there in
@@ -63,7 +63,7 @@ module _ (s : LockState) (e : Event) (reached : IsReached s) (comes : Comes s e)
   stands_by test c y there same passes =
       any_among (λ z. is_claim c z.claim && test m z) m y there (and_from (is_claim c y.claim) (test m y) (ap (is_claim c) (sym same) ∙ is_itself c) passes)
 
-  -- a first wait was one before it
+  -- a first wait was a first wait before it
   pub first_was : (x : Claimed) → (there : Among x n) → waits_first n x ≡ true → waits_first m (before x there).0 ≡ true
   first_was x there on =
       let was = before x there in
@@ -80,7 +80,7 @@ module _ (s : LockState) (e : Event) (reached : IsReached s) (comes : Comes s e)
       let first = and_parts (is_rising_half x.claim) (not (has_read_claim k x.claim)) parts.0 in
       (first.0, not_false (has_read_claim k x.claim) first.1, not_false (is_satisfied x) parts.1)
 
-  -- a seat that has a claim still neither finishes nor, but for the one that rises, gives back a part
+  -- a seat that still has a claim neither finishes nor, except the one that rises, gives back a part
   not_given : (e : Event) → Comes s e → is_issue e ≡ false → (c : Claim) → (x : Claimed) → Among x (changed s e).claims → x.claim ≡ c → rises_at e c.seat ≡ false → gives_back c.seat e ≡ false
   not_given (Issue seat r) comes old c x there is rises = refl
   not_given (Finish seat) comes old c x there is rises =
@@ -89,7 +89,7 @@ module _ (s : LockState) (e : Event) (reached : IsReached s) (comes : Comes s e)
   not_given (event.Rise seat) comes old c x there is rises = rises
   not_given (event.Ask seat part) comes old c x there is rises = refl
 
-  -- and so was the wait of an upgrade to rise, but for the one that rises
+  -- and so was the wait of an upgrade to rise, except the one that rises
   pub rise_was : (x : Claimed) → (there : Among x n) → waits_to_rise n x ≡ true → rises_at e x.claim.seat ≡ false → waits_to_rise m (before x there).0 ≡ true
   rise_was x there on rises =
       let was = before x there in
@@ -164,7 +164,7 @@ module _ (groups : ReadGroups) (seats cap : ℕ) (es : List Event) (accepted : A
   reached_now : IsReached now
   reached_now = reached_after (opening groups seats cap) es (reached_opening groups seats cap) accepted
 
-  -- the wait of an upgrade that rises did not stand before
+  -- the wait of an upgrade that rises was not there before
   begun : (x : Claimed) → Among x after_it → rises_at e x.claim.seat ≡ true → stands waits_to_rise x.claim now.claims ≡ false
   begun x there on =
       false_from (stands waits_to_rise x.claim now.claims) (λ stood.
@@ -175,7 +175,7 @@ module _ (groups : ReadGroups) (seats cap : ℕ) (es : List Event) (accepted : A
       (and_from (half.0.claim.seat == y.0.claim.seat) (not half.0.claim.write_half) (ap (λ (d : Claim). half.0.claim.seat == d.seat) y.2 ∙ parts.0) (ap not (read_of_half half.0.claim parts.1)))
       (none_among (λ z. (z.claim.seat == y.0.claim.seat) && not z.claim.write_half) now.claims half.0 (rising_parts now e reached_now comes old now.claims y.0 y.3).1 half.1))
 
-  -- no claim of the seat that rises holds nothing as a first wait: what is left is the write half
+  -- no claim of the seat that rises is in a first wait: what is left is the write half
   never_first : (x : Claimed) → Among x after_it → waits_first after_it x ≡ true → rises_at e x.claim.seat ≡ false
   never_first x there on =
       false_from (rises_at e x.claim.seat) (λ rises.

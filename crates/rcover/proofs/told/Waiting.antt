@@ -1,4 +1,4 @@
--- Where no seat waits an event ends no wait; and which seats wait behind it.
+-- If no seat waits, an event ends no wait; and which seats wait after it.
 use Rattle.std.proofs.Common.{◌≡◌, ◌≢◌, ℕ, ◌≤◌, ◌==◌, ◌-◌, nat_lt, Bool, true, false, not, ◌&&◌, ◌||◌, cond, Option, Some, None, List, [], ◌∷◌, ◌++◌, arith, drop, length, map, take, refl, sym, ap, subst, ◌∙◌, inl, inr}
 use Rattle.std.proofs.lemmas.Bool.{and_parts, and_from, eq-eqb, eqb-true}
 use Rattle.std.proofs.lemmas.List.{length-drop, take-append-drop, take_all}
@@ -54,7 +54,7 @@ or_right : (a b : Bool) → b ≡ true → (a || b) ≡ true
 or_right true b h = refl
 or_right false b h = h
 
--- a claim whose seat is not held does not wait
+-- a claim whose seat is not in the set does not wait
 module _ (n : Moment) (x : Claimed) (seats : Set) where
   not_by : (test : Bool) → (test ≡ true → contains seats x.claim.seat ≡ true) → contains seats x.claim.seat ≡ false → test ≡ false
   not_by test is off = false_from test (λ on. contrary (contains seats x.claim.seat) (is on) off)
@@ -62,7 +62,7 @@ module _ (n : Moment) (x : Claimed) (seats : Set) where
   pub not_risen : (waits_to_rise n x ≡ true → contains seats x.claim.seat ≡ true) → contains seats x.claim.seat ≡ false → waits_to_rise n x ≡ false
   not_risen is off = not_by (waits_to_rise n x) is off
 
--- where the seats of all claims of other seats that pass a test are held, one seat more is told of
+-- if the set has the seats of all claims of other seats that pass a test, it is known of one more seat
 module _ (test : Moment → Claimed → Bool) (seats : Set) (n : Moment) (seat : ℕ) where
   abbrev passes : Bool
   passes = list_any (λ x. (x.claim.seat == seat) && test n x) n
@@ -87,7 +87,7 @@ module _ (test : Moment → Claimed → Bool) (seats : Set) (n : Moment) (seat :
 pub noted_seat : (seats : Set) (n : Moment) (seat : ℕ) → ((x : Claimed) → Among x n → x.claim.seat ≢ seat → some_wait n x ≡ true → contains seats x.claim.seat ≡ true) → HoldWaiting (with_seat seats n seat) n
 noted_seat seats n seat others = noted_by some_wait seats n seat others
 
--- ---- behind an event
+-- ---- after an event
 
 module _ (s : LockState) (e : Event) (reached : IsReached s) (comes : Comes s e) where
   abbrev m : Moment
@@ -96,7 +96,7 @@ module _ (s : LockState) (e : Event) (reached : IsReached s) (comes : Comes s e)
   abbrev n : Moment
   n = (next s e).claims
 
-  -- a claim of another seat was there, and what it asks for it asked for
+  -- a claim of another seat was there, and asked for what it asks for
   pub in_changed : (e : Event) → Comes s e → (c : Claimed) → Among c (changed s e).claims → c.claim.seat ≢ seat_of e → Among c m
   in_changed (Issue seat r) comes c there other =
       let ns = map (waiting r.first) (claims_of s.groups.groups s.issued seat r) in
@@ -155,7 +155,7 @@ module _ (s : LockState) (e : Event) (reached : IsReached s) (comes : Comes s e)
       (λ first. or_left (waits_first m was.0) (waits_to_rise m was.0) (first_was s e reached comes plain x there first))
       (λ off. or_right (waits_first m was.0) (waits_to_rise m was.0) (rise_was s e reached comes plain x there (ap (λ b. b || waits_to_rise n x) (sym off) ∙ waits) (rises_not e x.claim.seat other))))))
 
-  -- the seats that wait but that of the event waited before
+  -- the seats that wait, except that of the event, waited before
   pub waited_before : (seats : Set) → HoldWaiting seats m → (x : Claimed) → Among x n → x.claim.seat ≢ seat_of e → some_wait n x ≡ true → contains seats x.claim.seat ≡ true
   waited_before seats hold x there other waits =
       both_cases (may_wait n x) (may_before seats hold x there other)
@@ -167,7 +167,7 @@ module _ (s : LockState) (e : Event) (reached : IsReached s) (comes : Comes s e)
   pub waiting_next : (seats : Set) → HoldWaiting seats m → HoldWaiting (with_seat seats n (seat_of e)) n
   waiting_next seats hold = noted_seat seats n (seat_of e) (waited_before seats hold)
 
-  -- ---- where no seat waits
+  -- ---- if no seat waits
 
   module _ (seats : Set) (hold : HoldWaiting seats m) (none : is_subset seats empty ≡ true) where
     held_not : (l : ℕ) → contains seats l ≡ true → ⊥
@@ -207,7 +207,7 @@ module _ (s : LockState) (e : Event) (reached : IsReached s) (comes : Comes s e)
         all_none [] within = refl
         all_none (x ∷ xs) within = (λ i. cons_option (of_one x (within x (inl refl)) (wait_of es m x) refl i) (all_none xs (λ y there. within y (inr there)) i))
 
-  -- ---- where it ends none: it is an issue, or no seat waits
+  -- ---- if it ends no wait: it is an issue, or no seat waits
 
   module _ (seats : Set) (hold : HoldWaiting seats m) (calm : ends_none seats e ≡ true) where
     pub calm_all : (table table' : ℕ → Sections) → ((other : ℕ) → table' other ≡ with_entry table (seat_of e) no_sections other) → AllByRecursion (λ x. may_wait n x ≡ true → table' x.claim.seat ≡ kept_of m n (table x.claim.seat) x) n
@@ -226,9 +226,9 @@ module _ (s : LockState) (e : Event) (reached : IsReached s) (comes : Comes s e)
 pub plain_of : (seats : Set) (e : Event) → ends_none seats e ≡ false → is_issue e ≡ false
 plain_of seats e may = false_from (is_issue e) (λ issue. contrary (ends_none seats e) (or_left (is_issue e) (is_subset seats empty) issue) may)
 
--- ---- where the claims of the seat of an event stand
+-- ---- where the claims of the seat of an event are
 
--- what some behind a place pass, where none before it can
+-- a test of the claims after a place, if no claim before it can pass
 pub any_behind : (p q : Claimed → Bool) → ((x : Claimed) → p x ≡ true → q x ≡ true) → (i : ℕ) (xs : Moment) → list_any q (take i xs) ≡ false → list_any p (drop i xs) ≡ list_any p xs
 any_behind p q within i xs none =
     sym (ap (list_any p) (sym (take-append-drop i xs)) ∙ joined (take i xs) (drop i xs)
@@ -242,7 +242,7 @@ any_behind p q within i xs none =
         over true b c = refl
         over false b c = refl
 
--- what stands from a place on
+-- what is in a list from a place on
 pub rest_is : (xs : Moment) (i : ℕ) → take (length xs - i) (drop i xs) ≡ drop i xs
 rest_is xs i = let long = length-drop i xs in take_all (length xs - i) (drop i xs) (omega arith)
 

@@ -117,7 +117,7 @@ module _ (groups : List Set) (r : RequestFields) (task k : ℕ) where
       never false = refl
   write_found Upgrade stamp reads writes c (inr (inr never)) write = absurd never
 
--- ---- the requests of a task, and the tasks
+-- ---- the requests of a task, and all tasks
 
 -- the request at a place of a list
 abbrev pub HasAt : List RequestNeeds → ℕ → RequestFields → Type 0

@@ -1,4 +1,4 @@
--- Each claim of a state is one of a request that the history issues, and the history tells its number and its length.
+-- Each claim of a state belongs to a request that the history issues, and the history gives its number and its length.
 use Rattle.std.proofs.Common.{◌≡◌, ℕ, zero, suc, ◌+◌, ◌==◌, Bool, true, false, not, ◌&&◌, cond, List, [], ◌∷◌, ◌++◌, map, refl, sym, ap, subst, ◌∙◌, inl, inr, arith}
 use Rattle.std.proofs.lemmas.Bool.{eq-eqb}
 use Rattle.std.specs.List.{AllByRecursion}
@@ -22,7 +22,7 @@ use Rattle.rcover_laws.specs.History.{asks_of, requests_of, length_from, number_
 use Rattle.rcover_laws.specs.Moments.{moments}
 use Rattle.rcover_laws.proofs.bounds.Finding.{HasAt}
 
--- the issue of a number is that of a seat and a request
+-- the issue of a number is by this seat, of this request
 abbrev pub IsIssueAt : List Event → ℕ → ℕ → RequestFields → Type 0
 IsIssueAt [] k seat r = ⊥
 IsIssueAt (Issue t q ∷ es) zero seat r = (t ≡ seat) × (q ≡ r)
@@ -56,7 +56,7 @@ request_is (Ask t part ∷ es) k seat r at = request_is es k seat r at
 -- ---- the claims of states
 
 module _ (history : List Event) (groups : List Set) where
-  -- a claim is one of a request of the history
+  -- a claim belongs to a request of the history
   pub record IsIssued (c : Claim) : Type 0 where
     pub request : RequestFields
     pub at : IsIssueAt history c.stamp c.seat request

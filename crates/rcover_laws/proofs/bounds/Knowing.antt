@@ -37,11 +37,11 @@ pub record IsKnown (ns : List Needed) (len number : Claim → ℕ) (c : Claim) :
   pub among : Among need ns
   pub is : IsNeed len number c need
 
--- each claim of a moment has
+-- and so has each claim of a moment
 abbrev pub AreKnown : List Needed → (Claim → ℕ) → (Claim → ℕ) → Moment → Type 0
 AreKnown ns len number m = (x : Claimed) → Among x m → IsKnown ns len number x.claim
 
--- the greatest length is no less than any
+-- the greatest length is at least any length
 pub greatest_at : (p : Needed → Bool) (ns : List Needed) (n : Needed) → Among n ns → p n ≡ true → n.len ≤ greatest p ns
 greatest_at p [] n there pass = absurd there
 greatest_at p (m ∷ ms) n (inl same) pass = at (p m) (ap p (sym same) ∙ pass) (ap (λ (x : Needed). x.len) same)
@@ -61,11 +61,11 @@ module _ (ns : List Needed) (len number : Claim → ℕ) (places zone : Set) (is
     pub known : IsKnown ns len number c
     pub there : is_there zone known.need ≡ true
 
-  -- what has a place in the zone has its need there
+  -- a claim that has a place in the zone has its need there
   pub there_by : (c : Claim) → IsKnown ns len number c → meets c.places zone ≡ true → IsThere c
   there_by c k h = record { known = k; there = is_zone.closed k.need k.among (meets_within_left c.places k.need.claim.places zone k.is.places h) }
 
-  -- so has what shares a place with such a claim
+  -- so has a claim that shares a place with such a claim
   pub there_beside : (c d : Claim) → IsThere d → IsKnown ns len number c → share_place c d ≡ true → IsThere c
   there_beside c d t k share =
       there_by c k (meets_within_right c.places d.places zone (within_transitive d.places t.known.need.claim.places zone t.known.is.places t.there) share)
@@ -102,7 +102,7 @@ passes_any p ns len x h = any_among p ns h.need h.among h.passes
 passes_less : (p : Needed → Bool) (ns : List Needed) (len : Claim → ℕ) (x : Claim) → Passes p ns len x → len x ≤ greatest p ns
 passes_less p ns len x h = let less = greatest_at p ns h.need h.among h.passes in let same = h.lasts in omega arith
 
--- sections of which there is one at most, and their bound
+-- at most one section, and its bound
 pub record AreFew (p : Needed → Bool) (ns : List Needed) (len : Claim → ℕ) (xs : List Claim) : Type 0 where
   pub number : length xs ≤ one_if (list_any p ns)
   pub units : sum_by len xs ≤ greatest p ns

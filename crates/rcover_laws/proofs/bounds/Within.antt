@@ -32,7 +32,7 @@ use Rattle.rcover_laws.proofs.bounds.WriteBound.{write_within}
 use Rattle.rcover_laws.proofs.lists.Found.{all_both, all_so}
 use Rattle.rcover_laws.proofs.states.Asking.{ask_entitled}
 
--- the seats of claims are those that there are, at each moment
+-- the seats of claims exist, at each moment
 seated_moments : (s : LockState) (es : List Event) → IsReached s → AreAccepted s es → (seats : ℕ) → s.seats ≡ seats → AllByRecursion (λ m. (x : Claimed) → Among x m → x.claim.seat < seats) (moments s es)
 seated_moments s es reached accepted seats same = at_all s es reached accepted same
   where

@@ -37,12 +37,12 @@ use Rattle.rcover_laws.proofs.states.Lines.{least_is}
 
 -- ---- claims of one state
 
--- a claim stands in a state, and is no read half of an upgrade
+-- a claim is in a state, and is no read half of an upgrade
 record StandsWhole (d : Claim) (m : Moment) : Type 0 where
   there : There d m
   whole : is_read_half d ≡ false
 
--- different claims of one state are no more than the cap
+-- different claims of a state are at most as many as the cap
 within_cap : (s : LockState) → IsReached s → (ds : List Claim) → EachPair (λ d e. is_claim d e ≡ false) ds → AllByRecursion (λ d. StandsWhole d s.claims) ds → length ds ≤ s.cap
 within_cap s reached ds pairs each =
     let counted = pigeons (λ (d : Claim) (y : Claimed). is_claim d y.claim) (λ y. not (is_read_half y.claim)) s.claims ds
@@ -63,7 +63,7 @@ whole_write d write = ap (λ b. is_upgrade d.kind && not b) write ∙ never (is_
     never true = refl
     never false = refl
 
--- ---- claims of tasks of their own
+-- ---- claims of different tasks
 
 module _ (s : LockState) (reached : IsReached s) where
   seat_below : (d : Claim) → There d s.claims → d.seat < s.seats
@@ -124,7 +124,7 @@ module _ (c : Claim) (s : LockState) (es : List Event) (reached : IsReached s) (
       pigeons (λ (d : Claim) (t : ℕ). d.seat == t) (is_writer ns task zone) (tasks_of s.seats) others (apart_seats others seats_apart)
       (all_so Other (λ d. list_any (λ t. is_writer ns task zone t && (d.seat == t)) (tasks_of s.seats) ≡ true) other_hit others are_others)
 
-  -- the claims that stand beside the waiting one
+  -- the claims that are beside the waiting one
 
   is_c : is_claim c c ≡ true
   is_c = is_itself c
@@ -150,7 +150,7 @@ module _ (c : Claim) (s : LockState) (es : List Event) (reached : IsReached s) (
   others_within : length others ≤ w
   others_within = let a = few_writers in let b = few_claims in omega arith
 
-  -- a reader beside them, that is no upgrade
+  -- a reader beside them that is no upgrade
 
   module _ (x : Claim) (reader : Reader x) (sat : Sat x s.claims) (read : x.write_half ≡ false) (whole : is_read_half x ≡ false) where
     x_there : There x s.claims
@@ -219,7 +219,7 @@ module _ (c : Claim) (s : LockState) (es : List Event) (reached : IsReached s) (
   abbrev first_least : Claim
   first_least = least_of c s.claims
 
-  -- where the first least is satisfied at once, no read is taken for it
+  -- if the first least is satisfied at once, no read is taken for it
   fewer_reads : holds_at first_least s.claims ≡ true → length taken_reads ≤ length others
   fewer_reads on =
       let there = each_there c s es reached accepted waits in
@@ -230,7 +230,7 @@ module _ (c : Claim) (s : LockState) (es : List Event) (reached : IsReached s) (
       let b = different_shorter all_reads in
       let e = one_less c (leasts c ms) (are_different (map (least_of c) ms)) in omega arith
 
-  -- else a reader holds it up at the first moment
+  -- if not, a reader holds it up at the first moment
   held_first : none_beside ns s.seats s.cap task zone ≡ true → holds_at first_least s.claims ≡ false → suc (length others) ≤ w
   held_first beside off =
       let there = each_there c s es reached accepted waits in
@@ -290,7 +290,7 @@ module _ (c : Claim) (s : LockState) (es : List Event) (reached : IsReached s) (
   abbrev longest : ℕ → ℕ
   longest t = write_length ns task zone t
 
-  -- a write hits its task, if it is no longer than the longest there
+  -- a write hits its task, if its length is at most the longest there
   abbrev hits : Claim → ℕ → Bool
   hits d t = (d.seat == t) && not (nat_lt (longest t) (len d))
 

@@ -1,4 +1,4 @@
--- Whose the sections of a write wait are: those of other writers and other readers of the zone.
+-- Which claims the sections of a write wait belong to: other writers and other readers of the zone.
 use Rattle.std.proofs.Common.{◌≡◌, ◌≢◌, ◌≤◌, ℕ, ◌==◌, Bool, true, false, not, ◌&&◌, is_some, Option, Some, None, List, refl, sym, ap, subst, ◌∙◌, ◌⊎◌, inl, inr, arith}
 use Rattle.std.proofs.lemmas.Bool.{and_from, and_parts, eq-eqb}
 use Rattle.std.specs.List.{filter_map, AllByRecursion}
@@ -36,7 +36,7 @@ use Rattle.rcover_laws.proofs.states.Lines.{IsOfLine}
 module _ (c : Claim) (s : LockState) (es : List Event) (reached : IsReached s) (accepted : AreAccepted s es) (waits : AllByRecursion (WriteWaits c) (moments s es)) where
   -- ---- the reads that are taken
 
-  -- a read that is taken: for a least claim of the line it is satisfied at some moment
+  -- a read that is taken: it is satisfied at some moment for a least claim of the line
   pub record IsTakenRead (x : Claim) : Type 0 where
     pub least : Claim
     pub among_leasts : Among least (leasts c (moments s es))
@@ -145,7 +145,7 @@ module _ (c : Claim) (s : LockState) (es : List Event) (reached : IsReached s) (
       pub passes : reads_there need.claim.seat zone of_zone.known.need ≡ true
       pub other : x.seat ≢ c.seat
 
-    -- a read that is satisfied at some moment and conflicts with one of the line
+    -- a read that is satisfied at some moment and conflicts with a claim of the line
     pub other_read : (x d : Claim) → IsOfLine c s.claims d → x.write_half ≡ false → conflicts x d ≡ true → (m : Moment) → Among m (moments s es) → Sat x m → IsOtherRead x
     other_read x d of_line read conflict m in_m sat =
         record {

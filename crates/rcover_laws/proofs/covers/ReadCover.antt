@@ -46,7 +46,7 @@ kept_by s reached c v w x there keeps is = record {
       ap (λ z. z.claim) (one_keeper s reached w.at x y w.among (ap (λ d. d.write_half) w.is ∙ w.read) there (ap (λ d. keeps_out d x) w.is ∙ keeps) in_y (ap (λ d. keeps_out d y) w.is ∙ keeps_y)) ∙ is);
 }
 
--- it is one at all moments
+-- it is the same write at all moments
 pub kept_throughout : (c v : Claim) (s : LockState) (es : List Event) → IsReached s → AreAccepted s es → AllByRecursion (ReadWaits c) (moments s es)
     → (x : Claimed) → Among x s.claims → keeps_out c x ≡ true → x.claim ≡ v → AllByRecursion (IsKeptBy c v) (moments s es)
 kept_throughout c v s [] reached accepted waits x there keeps is = (kept_by s reached c v waits.0 x there keeps is, tt)
@@ -86,7 +86,7 @@ entitled_without v m a h = record {
   unsatisfied = not_held v m (record { at = a.at; among = a.among; is = a.is }) (not_false (holds_at v m) h);
 }
 
--- the write, once satisfied, is so from then on
+-- once the write is satisfied, it stays so
 pub satisfied_on : (v : Claim) (s : LockState) (es : List Event) → IsReached s → AreAccepted s es → AllByRecursion (IsActiveWrite v) (moments s es) → Sat v s.claims → moments_without v (moments s es) ≡ []
 satisfied_on v s [] reached accepted active sat = filter_no (λ m. not (holds_at v m)) s.claims [] (ap not (holds_sat v s.claims sat))
 satisfied_on v s (e ∷ es) reached accepted active sat =
@@ -108,7 +108,7 @@ stops_once v s (e ∷ es) reached accepted active =
     held true h = refl
     held false h = sym h
 
--- so it is at each moment, once it is at the first
+-- so it is satisfied at each moment, if it is at the first
 satisfied_each : (v : Claim) (s : LockState) (es : List Event) → IsReached s → AreAccepted s es → AllByRecursion (IsActiveWrite v) (moments s es) → Sat v s.claims → AllByRecursion (λ n. holds_at v n ≡ true) (moments s es)
 satisfied_each v s [] reached accepted active sat = (holds_sat v s.claims sat, tt)
 satisfied_each v s (e ∷ es) reached accepted active sat =
@@ -232,7 +232,7 @@ has_keeper s es reached accepted c waits =
       active = all_so (IsKeptBy c first.one.claim) (IsActiveWrite first.one.claim) (active_write c first.one.claim) (moments s es) kept;
     }
 
--- the facts on the sections of a read wait that v keeps waiting
+-- the facts about the sections of a read wait that v keeps waiting
 pub record AreReadSections (v : Claim) (ms : List Moment) (a : Sections) : Type 0 where
   pub covered : Covers a ms
   pub reads : AreReads v ms a.reads

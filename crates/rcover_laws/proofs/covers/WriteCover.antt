@@ -38,7 +38,7 @@ not_satisfied s reached c w = false_from (holds_at c s.claims) (λ h.
     let sat = sat_holds s reached c w.write (record { at = w.at; among = w.among; is = w.is }) h in
     contrary (is_satisfied sat.at) sat.satisfied (ap is_satisfied (one_claim s reached sat.at w.at sat.among w.among (sat.is ∙ sym w.is)) ∙ w.unsatisfied))
 
--- the test of a read that is taken for a least
+-- the test of a read that is taken for a least claim
 abbrev pub holds_up : Claim → Claim → Bool
 holds_up d r = not r.write_half && conflicts r d
 
@@ -71,7 +71,7 @@ module _ (c : Claim) (s : LockState) (es : List Event) (reached : IsReached s) (
   pub least_is_there : (d : Claim) → Among d (leasts c ms) → IsWriteThere d s.claims
   least_is_there d there = first_there d (least_is_of_first d there)
 
-  -- where one of the least claims is the least, it is that very claim
+  -- if one of the least claims is the least, it is that very claim
   pub that_least : (d : Claim) → Among d (leasts c ms) → AllByRecursion (IsThatLeast c d) ms
   that_least d there = all_from (IsThatLeast c d) ms (λ m in_m is.
       sym (write_by_stamp s reached d (least_of c m) (least_is_there d there) (first_there (least_of c m) (least_at m in_m)) (are_one d (least_of c m) is).stamp))
@@ -83,7 +83,7 @@ module _ (c : Claim) (s : LockState) (es : List Event) (reached : IsReached s) (
       subst (λ d. Among d (leasts c ms))
       (write_by_stamp s reached h.by (least_of c m) (least_is_there h.by h.among) (first_there (least_of c m) (least_at m in_m)) h.are_one.stamp) h.among
 
-  -- ---- the read that is taken for a least
+  -- ---- the read that is taken for a least claim
 
   pub each_held : (d : Claim) → Among d (leasts c ms) → AllByRecursion (λ m. is_kept_least c d m ≡ true → IsEntitledAndHeld IsRead d m) ms
   each_held d there =
@@ -96,7 +96,7 @@ module _ (c : Claim) (s : LockState) (es : List Event) (reached : IsReached s) (
       (at_moments (λ m. IsWriteThere c m → holds_at (least_of c m) m ≡ false → IsEntitledAndHeld IsRead (least_of c m) m)
       (λ t r w off. let ent = least_entitled t r c w off in record { entitled = ent; held = least_held t r c w ent }) s es reached accepted)
 
-  -- a read is taken where the least is not satisfied at some moment
+  -- a read is taken if the least claim is not satisfied at some moment
   pub record IsTakenFor (d : Claim) : Type 0 where
     pub first : Moment
     pub rest : List Moment
@@ -163,7 +163,7 @@ module _ (c : Claim) (s : LockState) (es : List Event) (reached : IsReached s) (
       let m = passing (λ m. is_least c d m && holds_at d m) ms some in
       contrary (holds_at c m.0) (holds_one d c m.0 (are_one d c one) (and_parts (is_least c d m.0) (holds_at d m.0) m.2).1) (all_at (λ m. holds_at c m ≡ false) ms m.0 never m.1))
 
-  -- ---- whose sections they are
+  -- ---- which claims they belong to
 
   pub of_other_seats : AreOfOtherSeats c (leasts c ms)
   of_other_seats = record {
@@ -178,7 +178,7 @@ module _ (c : Claim) (s : LockState) (es : List Event) (reached : IsReached s) (
       from_it d (inr there) = inr (λ seats. not_before_itself c
           (ap (is_earlier_write c) (sym (write_by_seat s reached d c (first_there d (inr there)) each_there.0 seats)) ∙ (in_line c s.claims d there).earlier))
 
-  -- ---- a read is taken for each that is kept waiting
+  -- ---- a read is taken for each least claim that is kept waiting
 
   reads_exist : (d : Claim) → Among d (leasts c ms) → kept_moments c d ms ≢ [] → is_some (read_for c ms d) ≡ true
   reads_exist d there some = elim (list_parts (kept_moments c d ms)) [

@@ -1,4 +1,4 @@
--- Counting: things that hit places of their own are no more than the places, and weigh no more than the heaviest of them.
+-- Counting: things that hit different places are at most as many as the places, and weigh at most as much as the heaviest of each.
 use Rattle.std.proofs.Common.{◌≡◌, ◌<◌, ◌≤◌, ℕ, zero, suc, ◌+◌, ◌*◌, Bool, true, false, not, ◌&&◌, ◌||◌, cond, length, List, [], ◌∷◌, filter, map, refl, sym, ap, subst, ◌∙◌, inl, inr, arith}
 use Rattle.std.specs.List.{list_any, count_by, range_with_len, AllByRecursion}
 use Rattle.rmodel.specs.WellFormed.{EachPair}
@@ -14,7 +14,7 @@ abbrev pub total : {X : Type 0} → (X → ℕ) → List X → ℕ
 total f [] = 0
 total f (x ∷ xs) = f x + total f xs
 
--- of elements of which one at most passes, one at most is not left
+-- if at most one element passes, at most one is not left
 module _ {X : Type 0} (p : X → Bool) where
   abbrev left : List X → List X
   left xs = filter (λ x. not (p x)) xs
@@ -31,7 +31,7 @@ module _ {X : Type 0} (p : X → Bool) where
       at true is rest = let same = ap length (none_leaves xs (all_from (λ y. p y ≡ false) xs (λ y there. all_at (λ y. p x ≡ true → p y ≡ false) xs y pairs.0 there is))) in omega arith
       at false is rest = omega arith
 
-  -- where one passes, it is shorter
+  -- if one passes, the list is shorter
   pub some_leave : (xs : List X) → list_any p xs ≡ true → suc (length (left xs)) ≤ length xs
   some_leave [] some = contrary false some refl
   some_leave (x ∷ xs) some = at (p x) (λ off. some_leave xs (ap (λ b. b || list_any p xs) (sym off) ∙ some)) (no_more xs)
@@ -73,7 +73,7 @@ module _ {X Y : Type 0} (hit : X → Y → Bool) where
   abbrev IsApart : X → X → Type 0
   IsApart d e = (y : Y) → hit d y ≡ true → hit e y ≡ false
 
-  -- one at most hits a place
+  -- at most one hits a place
   one_hits : (y : Y) (ds : List X) → EachPair IsApart ds → EachPair (λ d e. hit d y ≡ true → hit e y ≡ false) ds
   one_hits y [] pairs = tt
   one_hits y (d ∷ ds) pairs = (all_from (λ e. hit d y ≡ true → hit e y ≡ false) ds (λ e there. all_at (IsApart d) ds e pairs.0 there y), one_hits y ds pairs.1)

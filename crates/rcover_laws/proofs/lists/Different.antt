@@ -1,4 +1,4 @@
--- The claims of a list, each once; and lists that are no longer than others.
+-- The claims of a list, each once; and lists that are at most as long as others.
 use Rattle.std.proofs.Common.{◌≡◌, ◌≤◌, ◌+◌, Bool, true, false, not, cond, length, Option, Some, None, List, [], ◌∷◌, filter, refl, sym, ap, subst, ◌∙◌, inl, inr, arith}
 use Rattle.std.specs.List.{AllByRecursion, filter_map, cons_option}
 use Rattle.rclaim.specs.declared.claim.Claim.{Claim}
@@ -17,7 +17,7 @@ among_different [] d there = there
 among_different (c ∷ cs) d (inl same) = inl same
 among_different (c ∷ cs) d (inr later) = inr (among_different cs d (among_filter (λ d. not (is_claim c d)) (different cs) d later).0)
 
--- each claim stands there, or one of its stamp and half
+-- each claim is there, or one of its stamp and half
 pub record HasOne (cs : List Claim) (d : Claim) : Type 0 where
   pub by : Claim
   pub among : Among by cs
@@ -49,7 +49,7 @@ filter_shorter p (x ∷ xs) = at (p x) (filter_shorter p xs)
     at true rest = omega arith
     at false rest = omega arith
 
--- what passes the first test passes the second
+-- what passes the first test also passes the second
 pub filter_within : {X : Type 0} (p q : X → Bool) (xs : List X) → AllByRecursion (λ x. p x ≡ true → q x ≡ true) xs → length (filter p xs) ≤ length (filter q xs)
 filter_within p q [] so = omega arith
 filter_within p q (x ∷ xs) so = at (p x) (q x) so.0 (filter_within p q xs so.1)
@@ -91,7 +91,7 @@ among_filter_map f (z ∷ zs) y there = at (f z) refl (among_filter_map f zs y) 
     at (Some w) is rest (inl same) = (z, inl refl, is ∙ ap Some (sym same))
     at (Some w) is rest (inr later) = let found = rest later in (found.0, inr found.1, found.2)
 
--- of claims that are different, one at most is this one
+-- of different claims at most one is this one
 pub one_less : (c : Claim) (ds : List Claim) → EachPair (λ d e. is_claim d e ≡ false) ds → length ds ≤ length (filter (λ d. not (is_claim d c)) ds) + 1
 one_less c [] pairs = omega arith
 one_less c (d ∷ ds) pairs = at (is_claim d c) refl (one_less c ds pairs.1)
@@ -109,7 +109,7 @@ one_less c (d ∷ ds) pairs = at (is_claim d c) refl (one_less c ds pairs.1)
         let one = are_one d c is in
         let same = ap length (all_pass ds (all_from (λ e. is_claim e c ≡ false) ds (λ e there. others one e (all_at (λ e. is_claim d e ≡ false) ds e pairs.0 there)))) in omega arith
 
--- where nothing comes from one element, less comes than there are
+-- if nothing comes from one element, fewer come than there are
 pub filter_map_fewer : {X Y : Type 0} (f : X → Option Y) (xs : List X) (x : X) → Among x xs → f x ≡ None → length (filter_map f xs) + 1 ≤ length xs
 filter_map_fewer f [] x there none = absurd there
 filter_map_fewer f (z ∷ zs) x (inl same) none =

@@ -1,4 +1,4 @@
--- The sets for which a seat asked, by a list of events: those since its last issue, and those behind the issue of a number.
+-- The sets that a seat asked for, by a list of events: those since its last issue, and those after the issue of a number.
 use Rattle.std.proofs.Common.{◌≡◌, ◌<◌, ℕ, zero, suc, ◌+◌, ◌==◌, Bool, true, false, cond, List, [], ◌∷◌, ◌++◌, length, fold, Some, refl, sym, ap, subst, ◌∙◌, arith, append_assoc, length-append}
 use Rattle.std.specs.List.{slice_get}
 use Rattle.std.proofs.lemmas.Bool.{eq-eqb}
@@ -15,7 +15,7 @@ use Rattle.rcover_laws.proofs.bounds.Issued.{IsIssueAt}
 
 -- ---- since the last issue
 
--- the sets for which a seat asked since its last issue, once an event comes
+-- the sets that a seat asked for since its last issue, once an event comes
 abbrev pub more_asked : ℕ → List Set → Event → List Set
 more_asked task parts (Issue seat r) = cond (seat == task) [] parts
 more_asked task parts (Finish seat) = parts
@@ -28,7 +28,7 @@ asked_since task es = fold (more_asked task) [] es
 pub asked_push : (task : ℕ) (es : List Event) (e : Event) → asked_since task (es ++ e ∷ []) ≡ more_asked task (asked_since task es) e
 asked_push task es e = fold_push (more_asked task) [] es e
 
--- they are as many as are counted
+-- there are as many as are counted
 as_many : (task : ℕ) (parts : List Set) (n : ℕ) (es : List Event) → length parts ≡ n → length (fold (more_asked task) parts es) ≡ fold (count_ask task) n es
 as_many task parts n [] same = same
 as_many task parts n (e ∷ es) same = as_many task (more_asked task parts e) (count_ask task n e) es (one e)
@@ -50,9 +50,9 @@ as_many task parts n (e ∷ es) same = as_many task (more_asked task parts e) (c
 pub asked_count : (task : ℕ) (es : List Event) → length (asked_since task es) ≡ asks_since task es
 asked_count task es = as_many task [] 0 es refl
 
--- ---- behind the issue of a number
+-- ---- after the issue of a number
 
--- the sets for which the seat asks behind the issue of this number, until its next issue
+-- the sets that the seat asks for after the issue of this number, until its next issue
 abbrev pub asks_behind : List Event → ℕ → ℕ → List Set
 asks_behind [] stamp task = []
 asks_behind (Issue seat r ∷ es) zero task = asks_of task es
@@ -77,7 +77,7 @@ request_asks (Finish t ∷ es) k seat r at = request_asks es k seat r at
 request_asks (Rise t ∷ es) k seat r at = request_asks es k seat r at
 request_asks (Ask t part ∷ es) k seat r at = request_asks es k seat r at
 
--- the issues of a list
+-- the number of issues in a list
 abbrev pub issues : List Event → ℕ
 issues [] = 0
 issues (Issue seat r ∷ es) = suc (issues es)
@@ -92,7 +92,7 @@ issues_push (Finish seat ∷ es) e = issues_push es e
 issues_push (Rise seat ∷ es) e = issues_push es e
 issues_push (Ask seat part ∷ es) e = issues_push es e
 
--- the next issue behind a list has the number of those in it
+-- the next issue after a list has the number of those in it
 pub asks_next : (es ds : List Event) (seat task : ℕ) (r : RequestFields) → asks_behind (es ++ Issue seat r ∷ ds) (issues es) task ≡ asks_of task ds
 asks_next [] ds seat task r = refl
 asks_next (Issue t q ∷ es) ds seat task r = asks_next es ds seat task r
@@ -100,7 +100,7 @@ asks_next (Finish t ∷ es) ds seat task r = asks_next es ds seat task r
 asks_next (Rise t ∷ es) ds seat task r = asks_next es ds seat task r
 asks_next (Ask t part ∷ es) ds seat task r = asks_next es ds seat task r
 
--- and is that of its seat
+-- and belongs to its seat
 pub issue_next : (es ds : List Event) (seat : ℕ) (r : RequestFields) → IsIssueAt (es ++ Issue seat r ∷ ds) (issues es) seat r
 issue_next [] ds seat r = (refl, refl)
 issue_next (Issue t q ∷ es) ds seat r = issue_next es ds seat r
@@ -127,7 +127,7 @@ asks_on task (Ask seat part) off parts es = at (seat == task)
     at true = sym (append_assoc parts (part ∷ []) (asks_of task es))
     at false = refl
 
--- the last of some sets stands at the number of those before it
+-- the last of some sets is at the number of those before it
 pub last_at : (before : List Set) (part : Set) (behind : List Set) → slice_get ((before ++ part ∷ []) ++ behind) (length before) ≡ Some part
 last_at before part behind =
     let longer = length-append before (part ∷ behind) in

@@ -1,4 +1,4 @@
--- What the events so far tell of the asks of each claim: while one is pending, what it asks for is the last set for which its seat asked.
+-- What the events so far say of the asks of each claim: while an ask is pending, what it asks for is the last set that its seat asked for.
 use Rattle.std.proofs.Common.{◌≡◌, ◌≢◌, ℕ, ◌+◌, ◌==◌, Bool, true, false, not, ◌&&◌, cond, List, [], ◌∷◌, ◌++◌, map, refl, sym, ap, subst, ◌∙◌, inl, inr, arith, append_assoc}
 use Rattle.std.specs.FinSet.{empty, union}
 use Rattle.std.proofs.lemmas.Bool.{eq-eqb, eqb-true}
@@ -28,7 +28,7 @@ use Rattle.rcover_laws.proofs.past.Asks.{more_asked, asked_since, asked_push, as
 
 -- ---- where a claim comes from
 
--- a claim after an event, and as the event leaves it: what it still asks for it asked for, and was granted the same
+-- a claim after an event, and as the event leaves it: what it still asks for, it asked for before, and it was granted the same
 pub record CameFrom (s : LockState) (e : Event) (y : Claimed) : Type 0 where
   pub was : Claimed
   pub among : Among was (changed s e).claims
@@ -54,14 +54,14 @@ came_from s e reached comes y there =
           (ap (λ (w : Claimed). w.asked) same ∙ x.2.asked, ap (λ (w : Claimed). w.granted) same ∙ x.2.granted));
     }
 
--- ---- what the events so far tell of a claim
+-- ---- what the events so far say of a claim
 
--- they tell the asks of its request so far, and the last of them is what it asks for
+-- they give the asks of its request so far, and the last of these is what it asks for
 pub record IsKnown (past : List Event) (x : Claimed) : Type 0 where
   pub behind : (rest : List Event) → asks_behind (past ++ rest) x.claim.stamp x.claim.seat ≡ asked_since x.claim.seat past ++ history.asks_of x.claim.seat rest
   pub last : x.granted ≢ empty → x.asked ≢ empty → (before : List Set) × (asked_since x.claim.seat past ≡ before ++ x.asked ∷ [])
 
--- and of each claim of a state
+-- and that for each claim of a state
 record AreKnown (past : List Event) (s : LockState) : Type 0 where
   counted : s.issued ≡ issues past
   each : (x : Claimed) → Among x s.claims → IsKnown past x
@@ -85,7 +85,7 @@ behind_on past e x known off rest =
     ∙ asks_on x.claim.seat e off (asked_since x.claim.seat past) rest
     ∙ ap (λ (parts : List Set). parts ++ history.asks_of x.claim.seat rest) (sym (asked_push x.claim.seat past e))
 
--- and that asks for what it asked for
+-- and that asks for what it asked for before
 pub known_on : (past : List Event) (e : Event) (x : Claimed) → IsKnown past x → is_issue_of x.claim.seat e ≡ false → more_asked x.claim.seat (asked_since x.claim.seat past) e ≡ asked_since x.claim.seat past → IsKnown (past ++ e ∷ []) x
 known_on past e x known off same = record {
   behind = behind_on past e x known off;
@@ -163,7 +163,7 @@ known_after past s (e ∷ es) reached accepted known =
     subst (λ (ds : List Event). AreKnown ds (after (next s e) es)) (append_assoc past (e ∷ []) es)
     (known_after (past ++ e ∷ []) (next s e) es (reached_next s e reached accepted.0) accepted.1 (known_next past s e reached accepted.0 known))
 
--- *Of each claim the events so far tell the asks*
+-- *The events so far give the asks of each claim*
 pub known_claims : (groups : ReadGroups) (seats cap : ℕ) (es : List Event) → AreAccepted (opening groups seats cap) es → (x : Claimed) → Among x (after (opening groups seats cap) es).claims → IsKnown es x
 known_claims groups seats cap es accepted x there =
     (known_after [] (opening groups seats cap) es (reached_opening groups seats cap) accepted (record { counted = refl; each = λ y none. absurd none })).each x there

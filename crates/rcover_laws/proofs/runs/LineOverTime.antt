@@ -1,4 +1,4 @@
--- The line of a write over a run of moments: it only loses claims, its least only rises, and a least that is satisfied or passed is so from then on.
+-- The line of a write over a run of moments: it only loses claims, its least only rises, and a least that is satisfied or passed stays so.
 use Rattle.std.proofs.Common.{◌≡◌, ◌<◌, ◌≤◌, Bool, true, false, not, ◌&&◌, List, [], ◌∷◌, refl, sym, ap, subst, ◌∙◌, inl, inr, arith}
 use Rattle.std.proofs.lemmas.Bool.{and_from, and_parts, cases_order, or_cases}
 use Rattle.std.specs.List.{AllByRecursion, list_any}
@@ -21,7 +21,7 @@ use Rattle.rcover_laws.proofs.states.Lines.{IsOfLine, least_is, least_below}
 use Rattle.rcover_laws.proofs.states.ThroughEvent.{sat_next}
 
 module _ (c : Claim) where
-  -- the line at each moment lies within that at the first
+  -- the line at each moment lies within the first one
   pub line_of_first : (s : LockState) (es : List Event) → IsReached s → AreAccepted s es → AllByRecursion (IsWriteThere c) (moments s es) → AllByRecursion (λ m. (d : Claim) → IsOfLine c m d → IsOfLine c s.claims d) (moments s es)
   line_of_first s [] reached accepted there = (λ d h. h, tt)
   line_of_first s (e ∷ es) reached accepted there = (
@@ -40,7 +40,7 @@ module _ (c : Claim) where
   )
 
   module _ (d : Claim) where
-    -- a claim that was the least is it still and satisfied, or the least has a greater stamp
+    -- a claim that was the least still is and is satisfied, or the least has a greater stamp
     pub data Gone (m : Moment) : Type 0 where
       done : least_of c m ≡ d → Sat d m → Gone m
       passed : d.stamp < (least_of c m).stamp → Gone m
@@ -58,7 +58,7 @@ module _ (c : Claim) where
       not_below : (least_of c s.claims).stamp ≤ least'.stamp
       not_below = least_below c s.claims reached.sound.well_formed.rising least' least_of_before
 
-      -- the least before is the least after, or was passed
+      -- a claim that was the least still is, or was passed
       goes_or_passed : {P : Type 0} → least_of c s.claims ≡ d → (least' ≡ d → P) → (d.stamp < least'.stamp → P) → P
       goes_or_passed is goes passes = elim (cases_order d.stamp least'.stamp) [
         | inl same ↦ goes (sym (write_by_stamp s reached d least' (subst (λ (x : Claim). IsWriteThere x s.claims) is (least_there s reached c there)) (of_line_there s reached c there least' least_of_before) same))
@@ -96,7 +96,7 @@ module _ (c : Claim) where
         filter_no (is_kept_least c d) s.claims (moments (next s e) es) (gone_off s.claims gone)
         ∙ gone_filter (next s e) es (reached_next s e reached accepted.0) accepted.1 there.1 (gone_on s e reached accepted.0 there.0 there.1.0 gone)
 
-    -- where the claim is the least, it is that very claim
+    -- if the claim is the least, it is that very claim
     abbrev pub IsThatLeast : Moment → Type 0
     IsThatLeast m = is_least c d m ≡ true → least_of c m ≡ d
 
@@ -146,7 +146,7 @@ module _ (c : Claim) where
           | inr h ↦ held_gone (next s e) es on accepted.1 there.1 same.1 h
         ]
 
-    -- where the claim is the least at the last moment, it was satisfied as the least exactly where it is so there
+    -- if the claim is the least at the last moment, and was ever satisfied as the least, it is satisfied there
     pub held_now : (s : LockState) (es : List Event) → IsReached s → AreAccepted s es → AllByRecursion (IsWriteThere c) (moments s es) → AllByRecursion (IsThatLeast d) (moments s es) → least_of c (after s es).claims ≡ d
         → list_any (λ m. is_least c d m && holds_at d m) (moments s es) ≡ true → holds_at d (after s es).claims ≡ true
     held_now s es reached accepted there same is held = from_gone (held_gone s es reached accepted there same held)
@@ -155,7 +155,7 @@ module _ (c : Claim) where
         from_gone (done h sat) = holds_sat d (after s es).claims sat
         from_gone (passed less) = let e = ap (λ (x : Claim). x.stamp) is in absurd (omega arith)
 
-    -- once the claim is satisfied as the least, it is so wherever it is the least from then on
+    -- once the claim is satisfied as the least, it is so wherever it is the least later
     gone_each : (s : LockState) (es : List Event) → IsReached s → AreAccepted s es → AllByRecursion (IsWriteThere c) (moments s es) → Gone d s.claims → AllByRecursion (Gone d) (moments s es)
     gone_each s [] reached accepted there gone = (gone, tt)
     gone_each s (e ∷ es) reached accepted there gone = (

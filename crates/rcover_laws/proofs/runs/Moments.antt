@@ -36,7 +36,7 @@ is_itself c = and_from _ (is_same c.write_half c.write_half) (eq-eqb c.stamp c.s
 pub is_other : (c d : Claim) → c ≡ d → is_claim c d ≡ true
 is_other c d same = ap (is_claim c) (sym same) ∙ is_itself c
 
--- two claims that are one
+-- two claims that are the same
 pub record AreOne (c d : Claim) : Type 0 where
   pub stamp : c.stamp ≡ d.stamp
   pub half : c.write_half ≡ d.write_half
@@ -61,7 +61,7 @@ holds_one c d m one holds =
     any_among (λ x. is_satisfied x && is_claim d x.claim) m x.0 x.1
     (and_from (is_satisfied x.0) (is_claim d x.0.claim) parts.0 (one_from d x.0.claim (record { stamp = sym one.stamp ∙ by.stamp; half = sym one.half ∙ by.half })))
 
--- a write that is there holds exactly where it is satisfied
+-- a write that is there holds exactly if it is satisfied
 pub sat_holds : (s : LockState) → IsReached s → (c : Claim) → c.write_half ≡ true → There c s.claims → holds_at c s.claims ≡ true → Sat c s.claims
 sat_holds s reached c write there holds =
     let x = passing (λ x. is_satisfied x && is_claim c x.claim) s.claims holds in

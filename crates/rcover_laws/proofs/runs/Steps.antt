@@ -1,4 +1,4 @@
--- Events one after another, as a list of accepted events goes on.
+-- Events in sequence, as a list of accepted events goes on.
 use Rattle.std.proofs.Common.{◌≡◌, ℕ, zero, suc, ◌+◌, ◌<◌, arith, List, [], ◌∷◌, ◌++◌, length, get_or, take, sym, ap, subst, ◌∙◌}
 use Rattle.std.proofs.lemmas.List.{take_more}
 use Rattle.rclaim.specs.declared.event.Event.{Event}

@@ -1,4 +1,4 @@
--- The claim that is taken: where some claim is satisfied at all moments of a run, the definition finds one.
+-- The claim that is taken: if some claim is satisfied at all moments of a run, the definition finds one.
 use Rattle.std.proofs.Common.{◌≡◌, Bool, true, ◌&&◌, Some, List, [], ◌∷◌, refl, ap, ◌∙◌}
 use Rattle.std.proofs.lemmas.Bool.{and_parts, and_from}
 use Rattle.std.specs.List.{list_all, AllByRecursion}

@@ -13,19 +13,19 @@ use Rattle.rcover_laws.proofs.lists.Found.{filter_yes, filter_no, not_empty}
 use Rattle.rcover_laws.proofs.states.AtRest.{Sat, IsEntitled, HoldsUp, IsHeld}
 use Rattle.rcover_laws.proofs.states.ThroughEvent.{held_before}
 
--- once the test fails it fails from then on
+-- once the test fails, it keeps failing
 abbrev pub Stops : (Moment → Bool) → LockState → List Event → Type 0
 Stops q s [] = Unit {0}
 Stops q s (e ∷ es) = (q s.claims ≡ true → q (next s e).claims ≡ false → filter q (moments (next s e) es) ≡ []) × Stops q (next s e) es
 
--- a claim of a sort that holds a write up at each of these moments
+-- a claim of this sort holds a write up at each of these moments
 pub record IsHeldThroughout (R : Claim → Type 0) (v : Claim) (ms : List Moment) : Type 0 where
   pub by : Claim
   pub right : R by
   pub holds_up : HoldsUp v by
   pub sat : AllByRecursion (Sat by) ms
 
--- the write is entitled at a moment, and held up there by a claim of the sort
+-- the write is entitled at a moment, and held up there by a claim of this sort
 pub record IsEntitledAndHeld (R : Claim → Type 0) (v : Claim) (m : Moment) : Type 0 where
   pub entitled : IsEntitled v m
   pub held : IsHeld R v m
@@ -34,11 +34,11 @@ module _ (R : Claim → Type 0) (v : Claim) (q : Moment → Bool) where
   abbrev Holds : List Moment → Type 0
   Holds ms = IsHeldThroughout R v ms
 
-  -- where only the first moment passes
+  -- if only the first moment passes
   only_first : (m : Moment) → IsHeld R v m → Holds (m ∷ [])
   only_first m h = record { by = h.by; right = h.right; holds_up = h.holds_up; sat = (h.sat, tt) }
 
-  -- one moment more, before the others
+  -- one more moment, before the others
   one_more : (s : LockState) (e : Event) → IsReached s → Comes s e → (rest : List Moment)
       → (q s.claims ≡ true → IsEntitledAndHeld R v s.claims)
       → (q (next s e).claims ≡ true → IsEntitledAndHeld R v (next s e).claims)

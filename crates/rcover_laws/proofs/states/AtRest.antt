@@ -61,7 +61,7 @@ module _ (s : LockState) (reached : IsReached s) where
   pub stamp_given : (x : Claimed) → Among x s.claims → x.claim.stamp < s.issued
   stamp_given x there = all_at (λ x. x.claim.stamp < s.issued) s.claims x reached.sound.given_out there
 
-  -- a claim stands once
+  -- a claim occurs once
   pub one_claim : (x y : Claimed) → Among x s.claims → Among y s.claims → x.claim ≡ y.claim → x ≡ y
   one_claim x y in_x in_y same =
       elim (pair_among Distinct s.claims x y reached.sound.one_each in_x in_y) [
@@ -70,7 +70,7 @@ module _ (s : LockState) (reached : IsReached s) where
         | inr (inr d) ↦ not_same y x d (sym same)
       ]
 
-  -- stamps tell writes apart
+  -- stamps distinguish writes
   pub same_write : (x y : Claimed) → Among x s.claims → Among y s.claims → x.claim.write_half ≡ true → y.claim.write_half ≡ true → x.claim.stamp ≡ y.claim.stamp → x ≡ y
   same_write x y in_x in_y w w' stamps =
       elim (pair_among Rises s.claims x y reached.sound.well_formed.rising in_x in_y) [

@@ -32,7 +32,7 @@ module _ (s : LockState) (reached : IsReached s) where
   rising : EachPair Rises s.claims
   rising = reached.sound.well_formed.rising
 
-  -- writes of one stamp, or of one seat, are one
+  -- writes of one stamp, or of one seat, are the same
   pub write_by_stamp : (d e : Claim) → IsWriteThere d s.claims → IsWriteThere e s.claims → d.stamp ≡ e.stamp → d ≡ e
   write_by_stamp d e a b stamps =
       sym a.there.is

@@ -1,4 +1,4 @@
--- The line of a write at one moment: what is in it, that it is closed, and its least.
+-- The line of a write at a moment: what is in it, that it is closed, and its least.
 use Rattle.std.proofs.Common.{◌≡◌, ◌<◌, ◌≤◌, Bool, true, false, ◌&&◌, nat_lt, cond, List, [], ◌∷◌, refl, sym, ap, subst, ◌∙◌, ◌⊎◌, inl, inr, arith}
 use Rattle.std.proofs.lemmas.Bool.{and_parts, and_from, ltb-true, lt-ltb}
 use Rattle.std.specs.List.{list_any}
@@ -36,7 +36,7 @@ pub record IsInLine (c d : Claim) (m : Moment) : Type 0 where
   pub earlier : is_earlier_write c d ≡ true
 
 module _ (c : Claim) where
-  -- the test of a claim before the line of those behind it
+  -- the test of a claim before the line of those after it
   abbrev joins : Claimed → Moment → Bool
   joins x xs = is_earlier_write c x.claim && list_any (share_place x.claim) (c ∷ line c xs)
 
@@ -82,7 +82,7 @@ module _ (c : Claim) where
   joins_in : (x : Claimed) (xs : Moment) → joins x xs ≡ true → Among x.claim (line c (x ∷ xs))
   joins_in x xs is = subst (λ (b : Bool). Among x.claim (cond b (x.claim ∷ line c xs) (line c xs))) (sym is) (inl refl)
 
-  -- an earlier write that shares a place with the claim, or with one of the line behind it, joins
+  -- an earlier write that shares a place with the claim, or with a claim of the line after it, joins
   shares_in : (x : Claimed) (xs : Moment) (u : Claim) → Among u (c ∷ line c xs) → is_earlier_write c x.claim ≡ true → share_place x.claim u ≡ true → Among x.claim (line c (x ∷ xs))
   shares_in x xs u there earlier share =
       joins_in x xs (and_from (is_earlier_write c x.claim) (list_any (share_place x.claim) (c ∷ line c xs)) earlier (any_among (share_place x.claim) (c ∷ line c xs) u there share))
@@ -94,7 +94,7 @@ module _ (c : Claim) where
       let less = first.below in
       earlier_from c d (record { write = first.write; below = omega arith })
 
-  -- closed, for one of the line behind a claim
+  -- closed, for a claim of the line after a claim
   closed_behind : (z : Claimed) (zs : Moment) (u : Claim) (x : Claimed) → Among u (line c zs) → (Among x zs → Among x.claim (line c zs)) → Among x (z ∷ zs) → is_earlier_write u x.claim ≡ true → share_place x.claim u ≡ true
       → Among x.claim (line c (z ∷ zs))
   closed_behind z zs u x in_zs rest (inl same) earlier share =
@@ -102,7 +102,7 @@ module _ (c : Claim) where
       (shares_in z zs u (inr in_zs) (earlier_than_it zs u z.claim in_zs (ap (λ (w : Claimed). is_earlier_write u w.claim) (sym same) ∙ earlier)) (ap (λ (w : Claimed). share_place w.claim u) (sym same) ∙ share))
   closed_behind z zs u x in_zs rest (inr later) earlier share = stays_in z zs x.claim (rest later)
 
-  -- the line is closed: an earlier write that shares a place with one of it is in it
+  -- the line is closed: an earlier write that shares a place with a claim of it is in it
   pub line_closed : (xs : Moment) → EachPair Rises xs → (u : Claim) → IsOfLine xs u → (x : Claimed) → Among x xs → is_earlier_write u x.claim ≡ true → share_place x.claim u ≡ true → Among x.claim (line c xs)
   line_closed [] pairs u of_line x there earlier share = absurd there
   line_closed (z ∷ zs) pairs u (inl is) x (inl same) earlier share =
@@ -141,12 +141,12 @@ module _ (c : Claim) where
 
   -- ---- two moments
 
-  -- where each earlier write of a second list stands in the first, the line of the second lies within that of the first
+  -- if each earlier write of a second list is in the first, the line of the second lies within that of the first
   pub line_within : (xs ys : Moment) → EachPair Rises xs → EachPair Rises ys → ((y : Claimed) → Among y ys → is_earlier_write c y.claim ≡ true → There y.claim xs) → (d : Claim) → Among d (line c ys) → Among d (line c xs)
   line_within xs [] rises rises' old d there = absurd there
   line_within xs (y ∷ ys) rises rises' old d there = at (joins y ys) refl (λ e. line_within xs ys rises rises'.1 (λ z in_ys. old z (inr in_ys)) e) there
     where
-      -- the claim joined the line behind it by one that is in the first line too
+      -- the claim joined the line after it by a claim that is in the first line too
       joined : (u : Claim) → IsOfLine xs u → IsOfLine ys u → is_earlier_write c y.claim ≡ true → share_place y.claim u ≡ true → Among y.claim (line c xs)
       joined u of_xs of_ys earlier share =
           let h = old y (inl refl) earlier in

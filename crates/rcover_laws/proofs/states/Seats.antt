@@ -1,4 +1,4 @@
--- Whose claims can keep a claim waiting: those of other seats, or the read half of the same upgrade.
+-- Which claims can keep a claim waiting: those of other seats, or the read half of the same upgrade.
 use Rattle.std.proofs.Common.{◌≡◌, ◌≢◌, true, false, sym, ap, ◌∙◌, inl, inr}
 use Rattle.rset.specs.Sets.{Set}
 use Rattle.rclaim.specs.declared.claim.Claim.{Claim}

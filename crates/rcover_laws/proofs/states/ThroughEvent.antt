@@ -32,7 +32,7 @@ module _ (s : LockState) (e : Event) (reached : IsReached s) (comes : Comes s e)
   claim_moved : (x y : Claimed) → Moves s e x y → y.claim ≡ x.claim
   claim_moved x y m = m.given.claim ∙ m.by_rule.same
 
-  -- a claim that was satisfied, and one that keeps a read out, go on so
+  -- a claim that was satisfied stays so, and one that keeps a read out goes on doing so
   satisfied_moved : (x y : Claimed) → Moves s e x y → is_satisfied x ≡ true → is_satisfied y ≡ true
   satisfied_moved x y m sat = ap satisfied_by m.given.status ∙ satisfied_stays mid (settled mid) x m.mid m.by_rule sat
 
@@ -40,11 +40,11 @@ module _ (s : LockState) (e : Event) (reached : IsReached s) (comes : Comes s e)
   keeps_moved c x y m keeps =
       (λ i. (m.given.claim i).write_half && active_by (m.given.status i) && conflicts (m.given.claim i) c) ∙ keeps_on mid (settled mid) c x m.mid m.by_rule keeps
 
-  -- a claim of a smaller stamp than one that was there was there, as far as it is before all are settled
+  -- among the claims before all are settled, each whose stamp was given out before the event was there
   pub was_there : (x : Claimed) → Among x mid → x.claim.stamp < s.issued → WasThere s x
   was_there x there below = elim (origin s e comes x there) [ inl was ↦ was | inr new ↦ (let stamped = new.stamped in absurd (omega arith)) ]
 
-  -- so was one that is entitled or satisfied
+  -- so was a claim that is entitled or satisfied
   was_active : (x : Claimed) → Among x mid → is_active x ≡ true → WasThere s x
   was_active x there active = elim (origin s e comes x there) [
     | inl was ↦ was
@@ -96,7 +96,7 @@ module _ (s : LockState) (e : Event) (reached : IsReached s) (comes : Comes s e)
       let two : w ≡ g.0 = one_keeper (next s e) (reached_next s e reached comes) r' g.0 w in_r' (ap (λ c. c.write_half) same ∙ read) g.1.in_next (ap (λ c. keeps_out c g.0) same ∙ keeps_g) in_w (ap (λ c. keeps_out c w) same ∙ keeps_w) in
       ap (λ z. z.claim) two ∙ claim_moved u.0 g.0 g.1 ∙ was.still.claim ∙ ap (λ z. z.claim) one
 
-  -- an entitled write that goes on so is entitled while the claims are settled
+  -- an entitled write that stays entitled is so while the claims are settled
   entitled_between : (v : Claim) → IsEntitled v s.claims → IsEntitled v after_it → (x : Claimed) × Among x mid × (x.claim ≡ v) × (is_active x ≡ true)
   entitled_between v ent ent' =
       let m = came s e reached comes ent'.at ent'.among in
@@ -122,7 +122,7 @@ module _ (s : LockState) (e : Event) (reached : IsReached s) (comes : Comes s e)
         | inr free ↦ contrary (keeps_out m.mid.claim between.0) keeps (none_among (keeps_out m.mid.claim) mid between.0 (not_false (is_kept_out mid m.mid.claim) free) between.1)
       ]
 
-  -- what holds a write up after the event held it up before, where the write was entitled before and is so after
+  -- what holds a write up after the event held it up before, if the write is entitled both before and after
   pub held_before : (v x : Claim) → IsEntitled v s.claims → IsEntitled v after_it → HoldsUp v x → Sat x after_it → Sat x s.claims
   held_before v x ent ent' holds sat =
       both_cases (is_satisfied m.0) satisfied_before

@@ -82,7 +82,7 @@ asked_in s (Ask seat part) reached comes x y in_y some there same =
     (none_among (λ z. (z.claim.seat == seat) && nat_lt 0 (len z.asked)) s.claims y none in_y))
     (λ other. ap (λ (z : Claimed). z.asked) one ∙ sym (ap (λ (z : Claimed). z.asked) was.2 ∙ ap (λ b. (cond b (record was.0 { asked = part }) was.0).asked) other))
 
--- over the moments at which an ask is pending it is one and the same ask
+-- over the moments at which an ask is pending, it is the same ask
 pub ask_run : (c : Claim) (part : Set) (s : LockState) (es : List Event) → IsReached s → AreAccepted s es → AllByRecursion (StandsAs waits_for_ask c) (moments s es) → (x : Claimed) → Among x (after s es).claims → x.claim ≡ c → x.asked ≡ part
     → AllByRecursion (AskWaits c part) (moments s es)
 ask_run c part s [] reached accepted each x there is asks =

@@ -1,4 +1,4 @@
--- Each wait that a state tells is covered, and within its bound.
+-- Each wait that a state shows is covered, and within its bound.
 use Rattle.std.proofs.Common.{◌≡◌, ℕ, Bool, true, false, not, ◌&&◌, List, [], ◌∷◌, ◌++◌, refl, sym, ap, subst, ◌∙◌}
 use Rattle.std.proofs.lemmas.Bool.{and_parts, and_from}
 use Rattle.std.specs.List.{AllByRecursion}
@@ -41,7 +41,7 @@ joined : {X : Type 0} (xs ys zs : List X) → (xs ++ ys) ++ zs ≡ xs ++ (ys ++ 
 joined [] ys zs = refl
 joined (x ∷ xs) ys zs = ap (λ ws. x ∷ ws) (joined xs ys zs)
 
--- the wait of a claim so far: a run that some of the events make, at each moment of which the very claim stands so
+-- the wait of a claim so far: a run that some of the events make, at each moment of which that very claim is there and passes the test
 pub record IsWait (groups : ReadGroups) (seats cap : ℕ) (events rest : List Event) (test : Moment → Claimed → Bool) (x : Claimed) : Type 0 where
   pub start : LockState
   pub more : List Event

@@ -77,7 +77,7 @@ few_from len a bound cap within small =
 are_few : (cap : ℕ) (a : Sections) → cap ≤ SEATS → AreAtMost cap a → AreFew a
 are_few cap a small few = let r = few.reads in let w = few.writes in record { reads = omega arith; writes = omega arith }
 
--- the test that a wait stands on
+-- the test that goes with a wait
 Stands : Bool → Bool → Bool → Which → Type 0
 Stands first rise ask First = first ≡ true
 Stands first rise ask Rise = rise ≡ true
@@ -98,7 +98,7 @@ told_by false false false number First is = cc
 told_by false false false number Rise is = cc
 told_by false false false number (Ask k) is = cc
 
--- a wait that is told is one in which the claim is
+-- a wait that is reported is one that the claim is in
 pub waits_told : (es : List Event) (m : Moment) (x : Claimed) (w : Which) → wait_of es m x ≡ Some w → waits_in w m x ≡ true
 unfolding Stands
 waits_told es m x First is = told_by (waits_first m x) (waits_to_rise m x) (waits_for_ask m x) (last_ask es x.claim) First is

@@ -1,4 +1,4 @@
--- A claim of one stamp and half, at each moment of a run, is one and the same claim.
+-- A claim of one stamp and half is the same claim at each moment of a run.
 use Rattle.std.proofs.Common.{◌≡◌, ◌<◌, Bool, true, ◌&&◌, List, [], ◌∷◌, sym, ap, ◌∙◌, inl, inr, arith}
 use Rattle.std.proofs.lemmas.Bool.{and_parts}
 use Rattle.std.specs.List.{list_all, AllByRecursion}
@@ -19,7 +19,7 @@ use Rattle.rcover_laws.proofs.runs.Moments.{AreOne, are_one}
 use Rattle.rcover_laws.proofs.states.AtRest.{stamp_given}
 use Rattle.rcover_laws.proofs.states.ThroughEvent.{there_before}
 
--- in one state, claims of one stamp and half are one
+-- in a state, claims of one stamp and half are the same
 pub one_of_stamp : (s : LockState) → IsReached s → EachPair OfOneSeat s.claims → (x y : Claimed) → Among x s.claims → Among y s.claims → AreOne x.claim y.claim → x ≡ y
 one_of_stamp s reached seats x y in_x in_y one =
     elim (pair_among (λ x y. Distinct x y × OfOneSeat x y) s.claims x y (pairs_both Distinct OfOneSeat (λ x y. Distinct x y × OfOneSeat x y) (λ x y d o. (d, o)) s.claims reached.sound.one_each seats) in_x in_y) [
@@ -28,7 +28,7 @@ one_of_stamp s reached seats x y in_x in_y one =
       | inr (inr h) ↦ let halves = h.0 (h.1 (sym one.stamp)) in contrary x.claim.write_half halves.writes (one.half ∙ read_of_half y.claim halves.reads)
     ]
 
--- a claim stands at a moment, and passes a test there
+-- a claim is there at a moment, and passes a test
 pub record StandsAs (test : Moment → Claimed → Bool) (c : Claim) (m : Moment) : Type 0 where
   pub at : Claimed
   pub among : Among at m

@@ -33,7 +33,7 @@ run_is p s (e ∷ es) last =
       passes = rest.passes;
     })
 
--- one moment more: the run goes on if the test passes there, and else is over
+-- one more moment: the run goes on if the test passes there, and else is over
 pub run_push : (p : Moment → Bool) (ms : List Moment) (n : Moment) → run_of p (ms ++ n ∷ []) ≡ cond (p n) (run_of p ms ++ n ∷ []) []
 run_push p [] n = at (p n)
   where

@@ -1,4 +1,4 @@
--- What a state tells of a claim is that it waits.
+-- What a state shows of a claim is that it waits.
 use Rattle.std.proofs.Common.{◌≡◌, ◌==◌, nat_lt, true, false, not, ◌&&◌, sym, ap, ◌∙◌, inl, inr}
 use Rattle.std.proofs.lemmas.Bool.{and_parts, and_from, eq-eqb}
 use Rattle.std.specs.FinSet.{empty, len, intersection}

@@ -1,4 +1,4 @@
--- Acts of a seat stay right behind entries of others.
+-- Acts of a seat stay right after entries of others.
 use Rattle.std.proofs.Common.{◌≡◌, ℕ, Bool, true, IsTrue, List, [], ◌∷◌, ◌++◌, sym, subst, inl, inr}
 use Rattle.std.specs.FinSet.{contains}
 use Rattle.std.specs.List.{AllByRecursion}
@@ -12,7 +12,7 @@ use Rattle.rvalue.specs.Lawful.{is_held}
 use Rattle.rstate.specs.Histories.{reads_of, writes_of}
 use Rattle.rstate.specs.Laws.{is_held_by, IsHeldStill}
 
--- a seat that holds no less may do the acts still
+-- a seat that holds at least as much may still do the acts
 pub held_more : {E : Type 0} (s t : LockState) (n : ℕ) → ((l : ℕ) → IsHeldStill s t n l) → (acts : List (Act E)) → AllByRecursion (λ act. IsTrue (is_held (reads_of s n) (writes_of s n) act)) acts
     → AllByRecursion (λ act. IsTrue (is_held (reads_of t n) (writes_of t n) act)) acts
 held_more s t n still [] held = tt
@@ -31,7 +31,7 @@ places_held s n [] held = tt
 places_held s n (Edited place edit done ∷ acts) held = (or_right (contains (reads_of s n) place) (contains (writes_of s n) place) held.0, places_held s n acts held.1)
 places_held s n (Shown place shown ∷ acts) held = (held.0, places_held s n acts held.1)
 
--- answers that are right at some values are right at values that are the same where the acts are
+-- answers that are right at some values are right at values that agree where the acts are
 pub answers_same : {V E : Type 0} (after : V → E → V) (taken : V → E → Bool) (number : V → ℕ) (P : ℕ → Type 0) (old new : ℕ → V) → ((l : ℕ) → P l → new l ≡ old l) → (earlier acts : List (Act E))
     → AllByRecursion (λ act. P (place_of act)) acts → AllInTurn (IsAnsweredAfter after taken number old) earlier acts → AllInTurn (IsAnsweredAfter after taken number new) earlier acts
 answers_same after taken number P old new same earlier [] held right = tt

@@ -33,7 +33,7 @@ none_left p (x ∷ xs) none = at (p x) refl (none_left p xs)
     at true is rest = absurd (omega (arith, ap (λ (c : Bool). length (cond c (x ∷ filter p xs) (filter p xs))) is, none))
     at false is rest = (is, rest (ap (λ (c : Bool). length (cond c (x ∷ filter p xs) (filter p xs))) (sym is) ∙ none))
 
--- what stands behind is of others where the seat's own entries are the same before and after
+-- what comes after is of others if the seat's own entries are the same before and after
 pub others_behind : {E : Type 0} (n : ℕ) (seen more : List (EntryFields E)) → entries_by maker n (seen ++ more) ≡ entries_by maker n seen → AreOfOthers n more
 others_behind {E} n seen more same =
     none_left (λ (e : EntryFields E). maker e == n) more
@@ -64,7 +64,7 @@ module _ {V E : Type 0} (after : V → E → V) (taken : V → E → Bool) (numb
       (subst (λ (s : LockState). is_not_holding s.claims n ≡ false) (sym (lock_push b earlier e))
       (holding_next n (lock_after b earlier) e.event reached fits.0.comes (differs (maker e) n others.0) holding)))
 
-  -- entries of others give nothing back of the seat
+  -- entries of others give back nothing of the seat's
   pub none_given : (more : List (EntryFields E)) → AreOfOthers n more → AllByRecursion (λ (entry : EntryFields E). gives_back n entry.event ≡ false) more
   none_given [] others = tt
   none_given (e ∷ more) others = (gives_not n e.event (differs (maker e) n others.0), none_given more others.1)

@@ -35,7 +35,7 @@ put_any : {X : Type 0} (p : X → Bool) (x : X) (b : Bool) (ys zs : List X) → 
 put_any p x true ys zs none same = ap (λ c. p x || c) same
 put_any p x false ys zs none same = same ∙ sym (ap (λ c. c || list_any p zs) (none refl))
 
--- a filter that leaves out none that passes
+-- a filter that leaves out no element that passes
 pub any_filter : {X : Type 0} (p r : X → Bool) → ((x : X) → r x ≡ false → p x ≡ false) → (xs : List X) → list_any p (filter r xs) ≡ list_any p xs
 any_filter p r none [] = refl
 any_filter p r none (x ∷ xs) = put_any p x (r x) (filter r xs) xs (none x) (any_filter p r none xs)
@@ -50,7 +50,7 @@ none_map p f keeps (x ∷ xs) none =
     let parts = or_parts (p x) (list_any p xs) none in
     or_from (p (f x)) (list_any p (map f xs)) (keeps x parts.0) (none_map p f keeps xs parts.1)
 
--- a list of none that passes, behind another
+-- a list without an element that passes, after another
 none_behind : {X : Type 0} (p : X → Bool) (xs ys : List X) → list_any p ys ≡ false → list_any p (xs ++ ys) ≡ list_any p xs
 none_behind p xs ys none = list_any-append p xs ys ∙ ap (λ b. list_any p xs || b) none ∙ or_false (list_any p xs)
   where
@@ -61,7 +61,7 @@ none_behind p xs ys none = list_any-append p xs ys ∙ ap (λ b. list_any p xs |
 differ_test : (m n : ℕ) → m ≢ n → (m == n) ≡ false
 differ_test m n differ = false_from (m == n) (λ h. differ (eqb-true m n h))
 
--- ---- claims of a seat, by what stands in the claim itself
+-- ---- claims of a seat, by what is in the claim itself
 
 module _ (n : ℕ) (q : Claim → Bool) (of : (c : Claim) → q c ≡ true → c.seat ≡ n) where
   other_fails : (k : ℕ) (c : Claim) → k ≢ n → c.seat ≡ k → q c ≡ false
@@ -105,7 +105,7 @@ module _ (n : ℕ) (q : Claim → Bool) (of : (c : Claim) → q c ≡ true → c
   pub claim_next : (s : LockState) (e : Event) → IsReached s → Comes s e → seat_of e ≢ n → list_any (λ x. q x.claim) (next s e).claims ≡ list_any (λ x. q x.claim) s.claims
   claim_next s e reached comes differ = claim_settled s e reached comes ∙ claim_changed s e comes differ
 
-  -- nor does the seat's own ask
+  -- and neither does the seat's own ask
   pub claim_asked : (s : LockState) (part : Set) → IsReached s → Comes s (Ask n part) → list_any (λ x. q x.claim) (next s (Ask n part)).claims ≡ list_any (λ x. q x.claim) s.claims
   claim_asked s part reached comes = claim_settled s (Ask n part) reached comes ∙ any_map (λ x. q x.claim) (asking n part) (asking_claim n part) s.claims
 
@@ -185,14 +185,14 @@ module _ (n : ℕ) where
       let settles = settles_settled (changed s e).claims (sound_changed s e reached.sound comes).well_formed in
       given_none (settled (changed s e).claims) (sym (ask_settled (changed s e).claims (settled (changed s e).claims) settles) ∙ ask_changed s e comes differ none)
 
-  -- an event of another seat gives nothing back of this one
+  -- an event of another seat gives back nothing of this one's
   pub gives_not : (e : Event) → seat_of e ≢ n → gives_back n e ≡ false
   gives_not (Issue k r) differ = refl
   gives_not (Finish k) differ = differ_test k n differ
   gives_not (Rise k) differ = differ_test k n differ
   gives_not (Ask k part) differ = refl
 
-  -- a seat that holds something, of which no ask is pending, is so still after an event of another
+  -- a seat that holds something, and has no pending ask, is still like that after an event of another
   pub holding_next : (s : LockState) (e : Event) → IsReached s → Comes s e → seat_of e ≢ n → is_not_holding s.claims n ≡ false → is_not_holding (next s e).claims n ≡ false
   holding_next s e reached comes differ holding =
       let parts = or_parts (is_nothing (holds_of s.claims n)) (has_ask s.claims n) holding in

@@ -1,4 +1,4 @@
--- What a seat finds in its turn: the entries of others behind what it had seen, and what holds of its own still.
+-- What a seat finds in its turn: the entries of others after what it had seen, and what still holds of its own.
 use Rattle.std.proofs.Common.{◌≡◌, ℕ, Bool, true, false, List, [], ◌++◌, Some, sym, ap, subst, ◌∙◌}
 use Rattle.std.specs.Prelude.{slice_get}
 use Rattle.std.specs.List.{list_any}
@@ -22,7 +22,7 @@ use Rattle.rguard.specs.LentSeats.{SeatOf}
 use Rattle.rguard.specs.LentSections.{held_at, HasTaken, Knows}
 use Rattle.rguard.proofs.seats.Along.{AreOfOthers, maker, others_behind, claim_along, holding_along, none_given}
 
--- the state that a seat finds, of a lock that began so
+-- the state that a seat finds, of a lock that began like this
 pub record Finds {V E : Type 0} (after : V → E → V) (taken : V → E → Bool) (number : V → ℕ) (b : Beginning V) (k : SeatOf V E) (c : Contents V E) : Type 0 where
   pub began : c.beginning ≡ b
   pub more : List (EntryFields E)
@@ -35,7 +35,7 @@ pub record Finds {V E : Type 0} (after : V → E → V) (taken : V → E → Boo
   pub has_taken : (g : Granted) → HasTaken k g → slice_get c.taken k.number ≡ Some g
 
 module _ {V E : Type 0} (after : V → E → V) (taken : V → E → Bool) (number : V → ℕ) (b : Beginning V) where
-  -- by what the gate tells of the seat, and the state of its history
+  -- by what the gate says of the seat, and the state of its history
   pub finds : (site : Site) (k : SeatOf V E) (c : Contents V E) → Knows after taken number b site k
       → IsTrueOf (λ (entry : EntryFields E). seat_of entry.event) (λ n (before later : Contents V E). slice_get later.taken n ≡ slice_get before.taken n) k c.beginning c.entries c
       → IsLawfulFrom after taken number c.beginning c.entries → Finds after taken number b k c
@@ -64,7 +64,7 @@ module _ {V E : Type 0} (after : V → E → V) (taken : V → E → Bool) (numb
     pub reached_now : IsReached (lock_after b c.entries)
     reached_now = reached_lawful after taken number b c.entries f.lawful
 
-    -- what it holds it holds still
+    -- what it holds it still holds
     pub within_later : is_within (held_at b k) (holds_of (lock_after b c.entries).claims k.number) ≡ true
     within_later = subst (λ es. is_within (held_at b k) (holds_of (lock_after b es).claims k.number) ≡ true) (sym f.is)
         (held_along after taken number b k.number k.seen f.more f.reached f.fits (none_given after taken number b k.number f.more f.others))

@@ -1,4 +1,4 @@
--- While a seat may rise it has the half of its upgrade that writes, so it has a request still when it has risen.
+-- While a seat may rise, it has the write half of its upgrade, so it still has a request when it has risen.
 use Rattle.std.proofs.Common.{◌≡◌, ℕ, ◌==◌, Bool, true, false, not, ◌&&◌, ◌||◌, List, [], ◌∷◌, ◌++◌, map, filter, refl, sym, ap, subst, ◌∙◌, inl, inr, append-nil, append_assoc}
 use Rattle.std.proofs.lemmas.Bool.{true≢false, eq-eqb, eqb-true, or_cases, or_left, or_right, and_parts, and_from}
 use Rattle.std.proofs.lemmas.List.Folds.{list_any-append}
@@ -25,7 +25,7 @@ use Rattle.rstate.proofs.histories.Following.{lock_push, reached_push}
 use Rattle.rguard.proofs.seats.Along.{differs}
 use Rattle.rguard.proofs.seats.Claims.{is_of, may_rise_by, writes_by, of_seat, of_seat_and, any_filter, claim_settled, claim_next, claim_asked, finished_next}
 
--- where one passes the first test, it passes the second
+-- if an element passes the first test, it passes the second
 any_weaker : {X : Type 0} (p q : X → Bool) → ((x : X) → p x ≡ true → q x ≡ true) → (xs : List X) → list_any p xs ≡ true → list_any q xs ≡ true
 any_weaker p q weaker xs some = let x = passing p xs some in any_among q xs x.0 x.1 (weaker x.0 x.2)
 

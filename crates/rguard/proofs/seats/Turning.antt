@@ -16,7 +16,7 @@ use Rattle.rguard.specs.LentSections.{HasTaken, Knows}
 use Rattle.rguard.proofs.seats.Along.{maker}
 use Rattle.rguard.proofs.seats.Finding.{Finds}
 
--- `found` is the state at the entry, and `now` that at the leave, with these entries more
+-- `found` is the state at the entry, and `now` that at the leave, with these entries added
 module _ {V E : Type 0} (after : V → E → V) (taken : V → E → Bool) (number : V → ℕ) (b : Beginning V) (k : SeatOf V E) (found now : Contents V E) (pass later : SeatOf V E) (more : List (EntryFields E))
     (f : Finds after taken number b k found) (longer : now.entries ≡ found.entries ++ more) (pass_is : pass ≡ entered k found.entries) (left_is : later ≡ left pass now.entries now) where
   later_is : later ≡ left (entered k found.entries) now.entries now
@@ -46,7 +46,7 @@ module _ {V E : Type 0} (after : V → E → V) (taken : V → E → Bool) (numb
   pub number_is : later.number ≡ k.number
   number_is = ap (λ (x : SeatOf V E). x.number) later_is
 
-  -- what it had taken as it left
+  -- what it had taken when it left
   pub has_now : (g : Granted) → slice_get now.taken k.number ≡ Some g → HasTaken later g
   has_now g there = subst (λ (x : SeatOf V E). HasTaken x g) (sym later_is) (λ last is.
       ap (λ (c : Contents V E). slice_get c.taken k.number) (sym (same_item now last is)) ∙ there)
@@ -63,7 +63,7 @@ module _ {V E : Type 0} (after : V → E → V) (taken : V → E → Bool) (numb
     values = knows.values;
   })
 
--- the list that a turn leaves has one entry more, of the seat
+-- the list that a turn leaves has one more entry, of the seat
 pub appends_one : {V E : Type 0} (k pass : SeatOf V E) (found now : Contents V E) (e : EntryFields E) → seat_of e.event ≡ k.number → now.entries ≡ found.entries ++ e ∷ [] → pass ≡ entered k found.entries
     → Appends (λ (entry : EntryFields E). seat_of entry.event) pass.number pass.seen now.entries
 appends_one {V} {E} k pass found now e of longer pass_is = (
@@ -72,7 +72,7 @@ appends_one {V} {E} k pass found now e of longer pass_is = (
   All-cons (λ (entry : EntryFields E). seat_of entry.event ≡ pass.number) e [] (of ∙ ap (λ (p : SeatOf V E). p.number) (sym pass_is)) (All-nil (λ (entry : EntryFields E). seat_of entry.event ≡ pass.number)),
 )
 
--- or none
+-- or no more
 pub appends_none : {V E : Type 0} (k pass : SeatOf V E) (found now : Contents V E) → now.entries ≡ found.entries → pass ≡ entered k found.entries → Appends (λ (entry : EntryFields E). seat_of entry.event) pass.number pass.seen now.entries
 appends_none {V} {E} k pass found now same pass_is = (
   [],

@@ -1,4 +1,4 @@
--- What a seat holds stays as it was: it holds it still, and nobody edits it.
+-- What a seat holds stays as it was: the seat still holds it, and nobody edits it.
 use Rattle.std.proofs.Common.{◌≡◌, ◌≢◌, ℕ, ◌==◌, Bool, true, false, cond, IsTrue, List, [], ◌∷◌, ◌++◌, fold, refl, sym, ap, subst, ◌∙◌, inl, inr, append_assoc, append-nil}
 use Rattle.std.proofs.lemmas.Bool.{eq-eqb, eqb-true, or_cases, or_left, or_right, and_parts}
 use Rattle.std.specs.FinSet.{contains, is_subset}
@@ -28,7 +28,7 @@ use Rattle.rstate.specs.Histories.{Beginning, lock_after, reads_of, writes_of, M
 use Rattle.rstate.specs.Laws.{is_held_by, IsHeldStill, HeldStaysAsItWas}
 use Rattle.rstate.proofs.histories.Following.{in_turn_parts, lock_push, reached_push, reached_lawful}
 
--- acts of a seat that does not hold the resource for writing edit it not
+-- acts of a seat that does not hold the resource for writing do not edit it
 pub edits_none : {E : Type 0} (reads writes : Set) (l : ℕ) (acts : List (Act E)) → contains writes l ≡ false → AllByRecursion (λ act. IsTrue (is_held reads writes act)) acts → edits_in acts l ≡ []
 edits_none reads writes l [] unwritten held = refl
 edits_none reads writes l (Edited place edit done ∷ acts) unwritten held =
@@ -45,7 +45,7 @@ unwritten_by s seat other l reached differ held =
       | inr writes ↦ contrary (contains (writes_of s seat) l) writes (apart_at (writes_of s other) (writes_of s seat) apart.not_written l h)
     ])
 
--- an entry of another seat edits it not
+-- an entry of another seat does not edit it
 edits_of_others : {E : Type 0} (s : LockState) (seat l : ℕ) (event : Event) (acts : List (Act E)) → IsReached s → gives_back seat event ≡ false → is_held_by s seat l ≡ true
     → AllByRecursion (λ act. IsTrue (is_held (reads_of s (seat_of event)) (writes_of s (seat_of event)) act)) acts → cond (is_finish event) (edits_in acts l) [] ≡ []
 edits_of_others s seat l (Issue other request) acts reached others held acts_held = refl
@@ -55,7 +55,7 @@ edits_of_others s seat l (Finish other) acts reached others held acts_held =
 edits_of_others s seat l (Rise other) acts reached others held acts_held = refl
 edits_of_others s seat l (Ask other part) acts reached others held acts_held = refl
 
--- a seat that holds no less than before holds the resource in the way in which it held it
+-- a seat that holds at least what it held holds the resource in the same way
 pub still_from : (s t : LockState) (seat l : ℕ) → is_within (holds_of s.claims seat) (holds_of t.claims seat) ≡ true → IsHeldStill s t seat l
 still_from s t seat l within =
     let parts = and_parts (is_subset (reads_of s seat) (reads_of t seat)) (is_subset (writes_of s seat) (writes_of t seat)) within in

@@ -71,7 +71,7 @@ module _ {V : Type 0} (seats n : ℕ) (g g2 : Granted) (taken : List Granted) (v
   there_are_homes all = homes_for (length between) back.writes (λ w among.
       subst (λ k. w.0 < k) (sym (between_length ∙ all)) (m.writes_below w.0 (to_writes w.0 (sym (lent.writes_has w.0) ∙ place_among w back.writes among))))
 
-  -- nobody has taken for writing or reading what was given back after it was taken for writing
+  -- nobody has taken for writing or reading what was given back after being taken for writing
   each_other : (p : Granted → Bool) → p nothing ≡ false → ((k : ℕ) (h : Granted) → k ≢ n → slice_get taken k ≡ Some h → p h ≡ false) → (k : ℕ) (h : Granted) → slice_get now k ≡ Some h → p h ≡ false
   each_other p none others k h there = by_test (n == k) refl
     where

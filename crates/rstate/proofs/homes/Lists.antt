@@ -53,7 +53,7 @@ module _ {X : Type 0} (p : X → Bool) where
   any_here (y ∷ xs) zero x there passes = or_left (p y) (list_any p xs) (ap p (same_item y x there) ∙ passes)
   any_here (y ∷ xs) (suc k) x there passes = or_right (p y) (list_any p xs) (any_here xs k x there passes)
 
-  -- an item in the place of one that passes as it does
+  -- an item replaces one that passes just as it does
   pub any_same : (xs : List X) (k : ℕ) (x y : X) → slice_get xs k ≡ Some x → p x ≡ p y → list_any p (slice_set xs k y) ≡ list_any p xs
   any_same [] k x y there same = refl
   any_same (z ∷ xs) zero x y there same = ap (λ b. b || list_any p xs) (sym same ∙ ap p (sym (same_item z x there)))
@@ -63,7 +63,7 @@ module _ {X : Type 0} (p : X → Bool) where
   count_none [] none = refl
   count_none (x ∷ xs) none = sum_by-cons (λ y. cond (p y) 1 0) x xs ∙ (λ i. cond (none 0 x refl i) 1 0 + count_none xs (λ k y there. none (suc k) y there) i)
 
-  -- no more pass than there are
+  -- at most as many pass as there are
   pub count_few : (xs : List X) → count_by p xs ≤ length xs
   count_few [] = omega arith
   count_few (x ∷ xs) = let one = sum_by-cons (λ y. cond (p y) 1 0) x xs in let rest = count_few xs in let bit = at_most_one (p x) in omega arith
@@ -72,7 +72,7 @@ module _ {X : Type 0} (p : X → Bool) where
       at_most_one true = omega arith
       at_most_one false = omega arith
 
-  -- and fewer where one does not
+  -- and fewer if one does not
   pub count_fewer : (xs : List X) (k : ℕ) (x : X) → slice_get xs k ≡ Some x → p x ≡ false → count_by p xs < length xs
   count_fewer [] k x there fails = nothing_there x there
   count_fewer (y ∷ xs) zero x there fails =

@@ -1,4 +1,4 @@
--- From changes one after another to what each home is in the end.
+-- From changes in sequence to what each home is in the end.
 use Rattle.std.proofs.Common.{◌≡◌, ℕ, zero, suc, ◌<◌, ◌==◌, ◌||◌, Bool, true, false, cond, List, [], ◌∷◌, ◌++◌, length, Option, Some, None, refl, sym, ap, subst, ◌∙◌, inl, inr, arith}
 use Rattle.std.specs.Prelude.{slice_get, slice_set}
 use Rattle.std.specs.FinSet.{contains}
@@ -13,7 +13,7 @@ use Rattle.rstate.specs.Moves.{changed_at, change_at, after_changes, HasShare, H
 use Rattle.rstate.specs.Shares.{ShareFields, less, more, absent}
 use Rattle.rstate.proofs.homes.Lists.{get_here, get_else}
 
--- ---- no resource stands twice in a rising list
+-- ---- no resource occurs twice in a rising list
 
 put_before : (b : Bool) (low l : ℕ) (rest : List ℕ) → l < low → has l rest ≡ false → has l (cond b (low ∷ rest) rest) ≡ false
 put_before true low l rest before none = or_from (low == l) (has l rest) (false_from (low == l) (λ h. apart low l before (eqb-true low l h))) none
@@ -64,14 +64,14 @@ module _ {V : Type 0} where
   changes_length f homes [] = refl
   changes_length f homes (l ∷ ls) = changes_length f (change_at f homes l) ls ∙ change_length f homes l
 
-  -- a home whose resource does not stand in the list
+  -- a home whose resource is not in the list
   pub changes_else : (f : ShareFields V → ShareFields V) (homes : List (ShareFields V)) (ls : List ℕ) (l : ℕ) → has l ls ≡ false → slice_get (after_changes f homes ls) l ≡ slice_get homes l
   changes_else f homes [] l none = refl
   changes_else f homes (k ∷ ls) l none =
       let parts = or_parts (k == l) (has l ls) none in
       changes_else f (change_at f homes k) ls l parts.1 ∙ change_else f homes k l parts.0
 
-  -- and one whose resource stands there once
+  -- and one whose resource is there once
   pub changes_here : (f : ShareFields V → ShareFields V) (homes : List (ShareFields V)) (ls : List ℕ) (l : ℕ) (home : ShareFields V) → Once ls → has l ls ≡ true → slice_get homes l ≡ Some home
       → slice_get (after_changes f homes ls) l ≡ Some (f home)
   changes_here f homes [] l home once here there = absurd (true≢false (sym here))
@@ -88,7 +88,7 @@ module _ {V : Type 0} where
           ∙ get_here homes k home (f home) at_k
       at false differ rest = rest (sym (ap (λ b. b || has l ls) differ) ∙ here) (change_else f homes k l differ ∙ there)
 
-  -- a share is at home of each when its turn comes, if it is of each at first
+  -- a share of each is at home when its turn comes, if it is at first
   pub have_from : (f : ShareFields V → ShareFields V) (homes : List (ShareFields V)) (ls : List ℕ) → Once ls → ((l : ℕ) → has l ls ≡ true → HasShare homes l) → HaveShares f homes ls
   have_from f homes [] once each = tt
   have_from f homes (k ∷ ls) once each = (
@@ -114,7 +114,7 @@ module _ {V : Type 0} where
       ap (λ o. places (whole_of o l ++ wholes_from (change_at absent homes l) ls)) have.0.1
       ∙ ap (λ ks. l ∷ ks) (wholes_places (change_at absent homes l) ls have.1)
 
-  -- what is so of each home in the list is so of each loan
+  -- what holds of each home in the list holds of each loan
   pub loans_are : (Q : ℕ → V → Type 0) (homes : List (ShareFields V)) (ls : List ℕ) → Once ls → HaveShares less homes ls
       → ((l : ℕ) (home : ShareFields V) → has l ls ≡ true → slice_get homes l ≡ Some home → Q l home.value) → AllByRecursion (λ loan. Q loan.0 loan.1) (loans_from homes ls)
   loans_are Q homes [] once have each = tt
@@ -139,7 +139,7 @@ module _ {V : Type 0} where
 
   -- ---- what comes home
 
-  -- loans come home one after another as homes change by more
+  -- loans that come home in sequence change homes by `more`
   pub loans_change : (homes : List (ShareFields V)) (loans : List (ℕ × V)) → after_loans homes loans ≡ after_changes more homes (places loans)
   loans_change homes [] = refl
   loans_change homes (loan ∷ loans) = loans_change (change_at more homes loan.0) loans
@@ -165,7 +165,7 @@ module _ {V : Type 0} where
   wholes_length homes [] = refl
   wholes_length homes (w ∷ wholes) = wholes_length (slice_set homes w.0 w.1) wholes ∙ length-set homes w.0 w.1
 
-  -- a home whose resource came home whole: it has what came, of which this is so
+  -- a home whose resource came home whole: it has what came, and this holds of that
   pub wholes_here : (s : ShareFields V) (homes : List (ShareFields V)) (wholes : List (ℕ × ShareFields V)) (l : ℕ) (home : ShareFields V) → Once (places wholes) → has l (places wholes) ≡ true → slice_get homes l ≡ Some home
       → AllByRecursion (λ w. (w.0 == l) ≡ true → w.1 ≡ s) wholes → slice_get (after_wholes homes wholes) l ≡ Some s
   wholes_here s homes [] l home once here there all = absurd (true≢false (sym here))

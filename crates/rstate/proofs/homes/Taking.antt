@@ -16,8 +16,8 @@ use Rattle.rstate.proofs.homes.Counts.{home_by, home_some}
 use Rattle.rstate.proofs.homes.Lists.{any_none, count_none, count_few, get_there, same_item}
 use Rattle.rstate.proofs.homes.Moved.{once_rising, changes_else, have_from}
 
--- What a seat that has taken g may take: all of g2, of which it has g. No other seat has taken for writing what it reads or writes there, or for reading what it writes,
--- it reads nothing there that it writes, and all of it are resources that there are
+-- What a seat that has taken g may take: all of g2, which includes g. No other seat has taken for writing what g2 reads or writes, or for reading
+-- what it writes; g2 reads nothing that it writes, and all of its resources exist
 pub record MayTake (taken : List Granted) (n : ℕ) (g g2 : Granted) (many : ℕ) : Type 0 where
   pub there : slice_get taken n ≡ Some g
   pub more : is_within g g2 ≡ true

@@ -1,4 +1,4 @@
--- What the type of a locked state keeps, said of its parts, wherever these lie.
+-- What the type of a locked state keeps, said of its parts, wherever they are.
 use Rattle.std.proofs.Common.{◌≡◌, ℕ, Bool, List, Option, length, sym, subst}
 use Rattle.std.specs.Prelude.{vec_capacity}
 use Rattle.rmodel.specs.State.{LockState}

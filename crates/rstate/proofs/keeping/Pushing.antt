@@ -1,4 +1,4 @@
--- One more entry: the machine and the history go on together, and values stay where it edits nothing.
+-- One more entry: the machine and the history go on together, and values stay that it does not edit.
 use Rattle.std.proofs.Common.{◌≡◌, ℕ, ◌+◌, ◌≤◌, Bool, true, false, cond, List, [], ◌∷◌, ◌++◌, length, fold, Some, refl, sym, ap, subst, ◌∙◌, arith}
 use Rattle.rclaim.specs.declared.event.Event.{Event}
 use Rattle.rclaim.specs.declared.event.Event.TheVariants.{Issue, Finish, Rise, Ask}
@@ -40,7 +40,7 @@ taken_next s t e seats taken reached comes goes gives was = record {
       (within_all g (holds_of s.claims n) (holds_of (next s e).claims n) (was.within n g there) (held_next s e n reached comes (gives n)));
 }
 
--- few claims are there after an event
+-- few claims are left after an event
 pub few_after : (s t : LockState) (e : Event) → IsReached s → Comes s e → t ≡ next s e → length t.claims ≤ s.seats + s.seats
 few_after s t e reached comes goes =
     let few = few_claims (next s e) (reached_next s e reached comes).sound in
@@ -52,7 +52,7 @@ module _ {V E : Type 0} (after : V → E → V) (taken : V → E → Bool) (numb
   pub kept_reached : (m : LockState) (spare : ℕ) (c : Contents V E) → IsKept after taken number m spare c → IsReached m
   kept_reached m spare c kept = subst IsReached (sym kept.machine_is) (reached_lawful after taken number c.beginning c.entries kept.lawful)
 
-  -- the state with one more entry, of which room is left for those that follow
+  -- the state with one more entry, and room for those that follow
   pub kept_push : (m m2 : LockState) (spare spare2 : ℕ) (c : Contents V E) (entry : EntryFields E) (now : List Granted) → IsKept after taken number m spare c
       → MayFollow after taken number c.beginning c.entries entry → m2 ≡ next m entry.event → length m2.claims ≤ spare2 → AreTaken m2.claims c.beginning.seats now
       → IsKept after taken number m2 spare2 (record { beginning = c.beginning; entries = c.entries ++ entry ∷ []; taken = now })
@@ -74,11 +74,11 @@ module _ {V E : Type 0} (after : V → E → V) (taken : V → E → Bool) (numb
   }
 
 module _ {V E : Type 0} (after : V → E → V) where
-  -- an entry that edits nothing on a resource leaves its value
+  -- an entry that does not edit a resource leaves its value
   pub value_push : (c : Contents V E) (entry : EntryFields E) (l : ℕ) (v : V) → edits_of entry l ≡ [] → value_of after v (c.entries ++ entry ∷ []) l ≡ value_of after v c.entries l
   value_push c entry l v none = value_of-longer after v c.entries entry l ∙ ap (fold after (value_of after v c.entries l)) none
 
-  -- so homes stay homes where an entry edits nothing
+  -- so homes stay homes if an entry edits nothing
   pub homes_push : (c : Contents V E) (entry : EntryFields E) (at_home : List (ShareFields V)) → ((l : ℕ) → edits_of entry l ≡ []) → HomesAre after c at_home
       → HomesAre after (record { beginning = c.beginning; entries = c.entries ++ entry ∷ []; taken = c.taken }) at_home
   homes_push c entry at_home none homes = record {

@@ -1,4 +1,4 @@
--- A seat takes more of what it holds: why it may, and what the state keeps then.
+-- A seat takes more of what it holds: why it may, and what the state then keeps.
 use Rattle.std.proofs.Common.{◌≡◌, ℕ, ◌<◌, ◌≤◌, ◌==◌, ◌++◌, Bool, true, false, List, map, length, Some, refl, sym, ap, subst, ◌∙◌}
 use Rattle.std.specs.Prelude.{slice_get, slice_set, slice_index_or}
 use Rattle.std.specs.FinSet.{contains, difference, is_subset}
@@ -38,7 +38,7 @@ use Rattle.rstate.proofs.homes.Taken.{homes_after}
 use Rattle.rstate.proofs.homes.Taking.{MayTake, have_reads, have_writes}
 use Rattle.rstate.proofs.keeping.Pushing.{kept_reached}
 
--- what a seat holds are resources that there are, if it is so of what claims read and write
+-- what a seat holds are resources that exist, if that is so of what claims read and write
 record AreBelow (q : ℕ) (g : Granted) : Type 0 where
   reads : all_below q g.reads ≡ true
   writes : all_below q g.writes ≡ true

@@ -1,4 +1,4 @@
--- Those who watch are told each step in the turn that adds its entry.
+-- Watchers are given each step in the turn that adds its entry.
 use Rattle.std.proofs.Common.{◌≡◌, List, [], ◌∷◌, ◌++◌, map, fold, Option, Some, None, refl, sym, ap, subst, ◌∙◌}
 use Rattle.std.specs.Prelude.{option_map}
 use Rattle.std.proofs.lemmas.List.{map-append}
@@ -38,7 +38,7 @@ module _ {V E : Type 0} (b : Beginning V) where
   pub told_first : (entries : List (EntryFields E)) (watched : Option (List Seen)) → entries ≡ [] → watched ≡ b.watched → HaveBeenTold b entries watched
   told_first entries watched none is = is ∙ watched_first b.watched ∙ ap (λ (es : List (EntryFields E)). watched_after (steps_in b es) b.watched) (sym none)
 
-  -- after one entry more, of whose step they were told
+  -- after one more entry, whose step they were given
   pub told_next : (m : LockState) (entries entries2 : List (EntryFields E)) (entry : EntryFields E) (watched watched2 : Option (List Seen)) → m ≡ lock_after b entries → HaveBeenTold b entries watched
       → watched2 ≡ watched_next entry.event (changes_between m (next m entry.event)) watched → entries2 ≡ entries ++ entry ∷ [] → HaveBeenTold b entries2 watched2
   told_next m entries entries2 entry watched watched2 is so tells longer =

@@ -39,7 +39,7 @@ use Rattle.rcover.proofs.ended.tell.Goals.{then-has, else-has}
 table_at : (rs : List Run) (seat : ℕ) (r : Run) → seat < length rs → r ≡ get_or rs seat r → kept_in r ≡ table_of rs seat
 table_at rs seat r h is = ap kept_if (sym (slice_get_read rs (length rs) seat r refl h is))
 
--- where a seat is not looked at, the waits of its claims go on
+-- if a seat is not looked at, the waits of its claims go on
 unlooked_at : (looked waiting asking : Set) (seat : ℕ) (gs : List GrantChange) (m n : Moment) → AllByRecursion (λ x. x.claim.seat < SEATS) m → HoldWaiting waiting m → HoldAsking asking m → AllByRecursion (GoesOn seat gs m n) m
     → ((other : ℕ) → other < SEATS → contains looked other ≡ ((((seat == other) || has_grant gs other) || contains asking other) && contains waiting other))
     → (x : Claimed) → Among x m → contains looked x.claim.seat ≡ false → (w : Which) → waits_in w m x ≡ true → stands (waits_in w) x.claim n ≡ true
@@ -47,7 +47,7 @@ unlooked_at looked waiting asking seat gs m n low waits asks goes are x there of
     unlooked m n x looked waiting asking seat gs (all_at (λ y. some_wait m y ≡ true → contains waiting y.claim.seat ≡ true) m x waits there) (all_at (λ y. waits_for_ask m y ≡ true → contains asking y.claim.seat ≡ true) m x asks there)
     (all_at (GoesOn seat gs m n) m x goes there) (are x.claim.seat (all_at (λ y. y.claim.seat < SEATS) m x low there)) off
 
--- what a list has at a place is among it
+-- what a list has at a place is an element of it
 at_place : (m : List Claimed) (i : ℕ) (x : Claimed) → i < length m → x ≡ get_or m i x → Among x m
 at_place m i x low is = subst (λ (y : Claimed). Among y m) (sym is) (all_get (λ y. Among y m) m i x (all_from (λ y. Among y m) m (λ y there. there)) low)
 

@@ -5,7 +5,7 @@ use Rattle.rcover_laws.specs.History.{last_ask}
 use Rattle.rcover_laws.specs.Told.{waits_to_rise, waits_for_ask}
 use Rattle.rcover.proofs.ended.wait_by.Goals as goal
 
--- which wait these tests tell
+-- which wait these tests give
 abbrev by_tests : Bool → Bool → Bool → ℕ → Option Which
 by_tests a b d number = cond a (Some First) (cond b (Some Rise) (cond d (Some (Ask number)) None))
 

@@ -22,7 +22,7 @@ loop-x-init c = record {
   lengths = λ len are_m are_n have. have;
 }
 
--- one claim more is gone over
+-- one more claim is gone over
 step : (m n : Moment) (old now now' : ℕ → Sections) (i : ℕ) (x : Claimed) → i < length n → x ≡ get_or n i x → EachPair (WaitApart n) n
     → ((seat : ℕ) → now' seat ≡ kept_with m n now x seat) → Done m n old now (take i n) → Rest n old now (drop i n)
     → Done m n old now' (take (i + 1) n) × Rest n old now' (drop (i + 1) n)

@@ -19,7 +19,7 @@ use Rattle.rcover.specs.NotedSeats.{is_rising}
 use Rattle.rcover.proofs.Tables.{Visited, comes_once, first_kept, other, visited_all, visited_none, visited_push}
 use Rattle.rcover.proofs.follow.keep_writes.Goals as goal
 
--- the first of some seats stands among them
+-- the first of some seats is among them
 comes_first : (s : ℕ) (all left : List ℕ) → all ≡ s ∷ left → list_any (λ k. k == s) all ≡ true
 comes_first s all left steps = ap (λ ls. list_any (λ k. k == s) ls) steps ∙ ap (λ b. b || list_any (λ k. k == s) left) (eq-eqb s s refl)
 

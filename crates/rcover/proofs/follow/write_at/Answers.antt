@@ -7,7 +7,7 @@ use Rattle.rcover.specs.Lines.{StandsAt}
 use Rattle.rcover.proofs.Kept.{in_list}
 use Rattle.rcover.proofs.follow.write_at.Goals as goal
 
--- what is read at the place that is noted is the write that stands there
+-- what is read at the noted place is the write that is there
 is_at : (places : List ℕ) (n : Moment) (seat from : ℕ) (x : Claimed) (s : StandsAt places n seat) → from ≡ seat → x ≡ get_or n (get_or places from 0) x → x ≡ s.at
 is_at places n seat from x s own is =
     is ∙ ap (λ k. get_or n k x) (ap (λ k. get_or places k 0) own ∙ get_or_from_slice_get places seat s.place 0 s.noted) ∙ get_or_from_slice_get n s.place s.at x s.there

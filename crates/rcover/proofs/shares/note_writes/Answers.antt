@@ -12,7 +12,7 @@ use Rattle.rcover.proofs.Pairs.{drop_more, pairs_before}
 use Rattle.rcover.proofs.heads_told.Heads.{other_seat}
 use Rattle.rcover.proofs.shares.note_writes.Goals as goal
 
--- one claim more is noted
+-- one more claim is noted
 push : (ss ss' : List Share) (xs : List Claimed) (x : Claimed) → AllByRecursion (λ z. Distinct z x) xs → ((seat : ℕ) → slice_get ss' seat ≡ shares_with ss x seat) → TellShares ss xs → TellShares ss' (xs ++ x ∷ [])
 push ss ss' xs x apart are told = all_append (λ z. z.claim.write_half ≡ true → slice_get ss' z.claim.seat ≡ Some (share_of z.claim)) xs (x ∷ []) (stay xs apart told) (here, tt)
   where

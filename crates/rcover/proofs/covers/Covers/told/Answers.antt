@@ -7,7 +7,7 @@ use Rattle.std.specs.Prelude.{[], ◌∷◌}
 use Rattle.rcover.specs.Past.{start_of}
 use Rattle.rcover.proofs.covers.Covers.told.Goals as goal
 
--- what is so of a value is so where there is one
+-- what holds of a value holds if there is one
 given_ok : {T E P : Type 0} (r : Result T E) → IsOk r → OnOk r P → P
 given_ok (Ok v) is so = so
 given_ok (Err e) is so = cc

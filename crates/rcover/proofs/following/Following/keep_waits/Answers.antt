@@ -47,7 +47,7 @@ module _ (a b : Following) (machine : Standing) (p : Past) (e : Event) (t : HasN
   at_last : b.last.items ≡ (state_of p).claims
   at_last = ap (λ (z : Following). z.last.items) t.told.rest ∙ t.told.ahead.noted t.told.may_end
 
-  -- what each claim that reads reads, behind it
+  -- after it, what each claim that reads reads is still noted
   wanted_on : TellWanted b.wanted (next (state_of p) e).claims
   wanted_on =
       let g = t.told.ahead in
@@ -83,7 +83,7 @@ turn-requires-clause-room c =
       behind_room = ap (λ (v : Vec Set Global). vec_capacity v) c.lose-gone.ensures.behind ∙ room.behind_room;
     }
 
--- what the heads ask for as they are gone on with
+-- what the heads ask for as they are carried on
 both_of : (c : After-turn) (a : Following) (p : Past) → HasNoted a c.args.self.now c.args.machine.now p c.args.event.now → TellAt c.lose-gone.new.self.now.items (state_of p).claims c.claims.result.now
     × AllByRecursion (GoesBy c.lose-gone.new.self.lost c.lose-gone.result c.seats_told-came.result c.touched_by-touched.result (state_of p).claims c.claims.result.now) c.claims.result.now
 both_of c a p t =

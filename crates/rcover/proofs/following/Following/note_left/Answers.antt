@@ -31,11 +31,11 @@ use Rattle.rcover.proofs.following.Following.note_left.Goals as goal
 low : (a b : Following) (machine : Standing) (p : Past) (e : Event) → HasTold a b machine p e → seat_of e < SEATS
 low a b machine p e t = event_seat a p t.ahead.follows e t.ahead.comes
 
--- so many claims there were before it
+-- the number of claims before it
 there : (a b : Following) (machine : Standing) (p : Past) (e : Event) → HasTold a b machine p e → b.there ≡ length (state_of p).claims
 there a b machine p e t = ap (λ (z : Following). z.there) t.rest ∙ t.ahead.there
 
--- which upgrades rose, behind it
+-- which upgrades rose, after it
 rising_left : (a b : Following) (machine : Standing) (p : Past) (e : Event) → HasTold a b machine p e → TellRising (risen_by b.rising e) (next (state_of p) e).claims
 rising_left a b machine p e t =
     let g = t.ahead in

@@ -20,7 +20,7 @@ await_ticket-state-requires-clause-ready g c = let p = c.pass.inside in let (res
 abbrev came : (g : _) (c : goal.After-await_ticket-state g) → Known g.row.S.Denot g.row.S-Opening.Denot g.row.S-Entry.Denot
 came g c = let p = c.pass.inside in known_from p.place.table_id p.number p.place.me.0
 
--- what the wait tells of it
+-- what is known of it after the wait
 told : (g : _) (c : goal.After-await_ticket-state g)
     → (t : ℕ) × Serves c.await_ticket-state.new.place (entered (came g c) (g.S.Kept.entries c.await_ticket-state.result)) t c.await_ticket-state.result
     × IsTrueOf g.S.Kept.number g.S.Kept.stays (record (came g c) { turns = (came g c).turns + 1 }) (g.S.Kept.opening c.await_ticket-state.result) (g.S.Kept.entries c.await_ticket-state.result) c.await_ticket-state.result
