@@ -1,14 +1,14 @@
--- What was taken by several reads, into the front of one buffer.
+-- What was taken by several reads, to the front of one buffer.
 use Rattle.std.proofs.Common.{◌≡◌, ◌<◌, ◌≤◌, ◌+◌, ℕ, List, [], ◌++◌, length, take, drop, Option, None, Some, IfSome, ap, ◌∙◌, sym, arith, length-drop}
 use Rattle.std.proofs.lemmas.List.{drop-drop, take_all}
 use Rattle.std.proofs.Math.Seq.{take-add}
 use Rattle.io_ends.specs.Ends.{Gives, GivesFront}
 
--- n bytes were taken, and they stand in the front of the buffer
+-- n bytes were taken, and they are at the front of the buffer
 abbrev pub HoldsTaken : Option (List ℕ) → Option (List ℕ) → List ℕ → ℕ → Type 0
 HoldsTaken before after buffer n = IfSome before (λ bytes. (n ≤ length bytes) × (after ≡ Some (drop n bytes)) × (take n buffer ≡ take n bytes))
 
--- a read behind the first m bytes of a buffer that kept them
+-- a read into the buffer after its first m bytes, which it kept
 pub HoldsTaken-more : (first before after : Option (List ℕ)) (held : List ℕ) (rest buffer : List ℕ) (m n : ℕ) → HoldsTaken first before held m → take m buffer ≡ take m held → Gives before after rest (drop m buffer) n → HoldsTaken first after buffer (m + n)
 HoldsTaken-more None before after held rest buffer m n taken same given = tt
 HoldsTaken-more (Some bytes) before after held rest buffer m n taken same given =
@@ -18,7 +18,7 @@ HoldsTaken-more (Some bytes) before after held rest buffer m n taken same given 
       take-add m n buffer ∙ ap (λ (xs : List ℕ). xs ++ take n (drop m buffer)) (same ∙ taken.2) ∙ ap (λ (xs : List ℕ). take m bytes ++ xs) told.front ∙ sym (take-add m n bytes),
     )
 
--- a read that gave nothing to a buffer with room shows that these are all the bytes
+-- a read that gave nothing to a buffer with room shows that these are all
 pub HoldsTaken-whole : (first before after : Option (List ℕ)) (held : List ℕ) (rest new : List ℕ) (m n : ℕ) (all : List ℕ) → HoldsTaken first before held m → Gives before after rest new n → n ≡ 0 → 0 < length rest → all ≡ take m held → IfSome first (λ bytes. all ≡ bytes)
 HoldsTaken-whole None before after held rest new m n all taken given nothing room front = tt
 HoldsTaken-whole (Some bytes) before after held rest new m n all taken given nothing room front =

@@ -1,4 +1,4 @@
-// The calls of a device in memory: how many were made, which of them fail, how many failed, and how many bytes go in one.
+// The calls of a device in memory: how many were made, which of them fail, how many failed, and how many bytes go through in one call.
 ghost use Rattle.std.specs.Prelude.{◌≡◌, ◌≤◌, ◌<◌, ◌↔◌, IsTrue, [], ◌∷◌};
 ghost use Rattle.io_ends.specs.Faults.{one_more};
 ghost use Rattle.io_ends.specs.Memory.{NextFails, GoesOn, at_most};
@@ -23,7 +23,7 @@ impl Calls {
         }
     }
 
-    // Counts one more call, and answers whether it is one of those that fail.
+    // Counts a call, and answers whether it has to fail.
     pub(crate) fn begin(&mut self) -> bool
         ensures fails { IsTrue result ↔ NextFails self.old.made self.old.fails.items }
         ensures counted { self.new ≡ record self.old { made = one_more self.old.made } }
@@ -33,7 +33,7 @@ impl Calls {
         fails
     }
 
-    // Counts one more fault.
+    // Counts a fault.
     pub(crate) fn fail(&mut self) -> Failed
         ensures { self.new ≡ record self.old { faults = one_more self.old.faults } }
     {
@@ -42,8 +42,8 @@ impl Calls {
     }
 }
 
-// Whether the call after those that were made has one of these numbers. A number that is too
-// large for the list is not in it, so the count may stay at its last value.
+// Whether the next call has one of these numbers. A number that is too
+// large for a `u64` is not in the list, so the count may stay at its last value.
 fn is_next(numbers: &[u64], made: u64) -> bool
     ensures { IsTrue result ↔ NextFails made numbers.now }
 {
@@ -53,7 +53,7 @@ fn is_next(numbers: &[u64], made: u64) -> bool
     }
 }
 
-// So many bytes, but no more than go in one call.
+// This many bytes, but no more than go through in one call.
 pub(crate) fn at_most(most: Option<usize>, n: usize) -> usize
     requires { GoesOn most }
     ensures value { result ≡ at_most most n }

@@ -1,27 +1,27 @@
-// The traits of a source and of a sink.
+// The traits `Source` and `Sink`.
 ghost use Rattle.std.specs.Prelude.{◌≡◌, ◌≤◌, ℕ, List, Option, IfOk, OnOk, OnErr};
 ghost use Rattle.io_ends.specs.Faults.{Rose};
 ghost use Rattle.io_ends.specs.Ends.{Gives, Takes};
 
 use thiserror::Error;
 
-/// A read or a write did not happen, because the device failed.
+/// A read or a write did not happen because the device failed.
 #[derive(Clone, Copy, Debug, PartialEq, Eq, Error)]
 #[error("the device failed")]
 pub struct Failed;
 
-/// Gives bytes, in order, until none is left.
+/// Gives bytes, in order, until there are no more.
 pub trait Source {
-    /// The bytes that are left, where the source tells them.
+    /// The bytes that are left, where the source knows them.
     ghost left: { Self → Option (List ℕ) };
 
-    /// How often the source has failed; it stays at 2^64 - 1 once it is there.
+    /// How often the source has failed; the count stops at 2^64 - 1.
     ghost faults: { Self → ℕ };
 
-    /// Puts the next bytes into the front of `buf`, and answers how many. For a `buf` that
+    /// Puts the next bytes at the front of `buf`, and answers how many. For a `buf` that
     /// is not empty, 0 is the end of the input. After `Failed` nothing was taken, and the
-    /// content of `buf` is left open. The count of faults rises with `Failed`, and else it
-    /// stays as it was.
+    /// content of `buf` is unspecified. The count of faults rises with `Failed`, and otherwise
+    /// it stays as it was.
     fn read(&mut self, buf: &mut [u8]) -> Result<usize, Failed>
         ensures given { IfOk result (Gives (left self.old) (left self.new) buf.old buf.new) }
         ensures quiet { OnOk result (faults self.new ≡ faults self.old) }
@@ -32,15 +32,15 @@ pub trait Source {
 
 /// Takes bytes, in order.
 pub trait Sink {
-    /// The bytes that were written, where the sink tells them.
+    /// The bytes that were written, where the sink knows them.
     ghost written: { Self → Option (List ℕ) };
 
-    /// How often the sink has failed; it stays at 2^64 - 1 once it is there.
+    /// How often the sink has failed; the count stops at 2^64 - 1.
     ghost faults: { Self → ℕ };
 
-    /// Appends the first bytes of `piece`, and answers how many: at least one, where `piece`
+    /// Appends the first bytes of `piece`, and answers how many: at least one where `piece`
     /// is not empty. After `Failed` nothing was appended. The count of faults rises with
-    /// `Failed`, and else it stays as it was.
+    /// `Failed`, and otherwise it stays as it was.
     fn write(&mut self, piece: &[u8]) -> Result<usize, Failed>
         ensures taken { IfOk result (Takes (written self.old) (written self.new) piece.now) }
         ensures quiet { OnOk result (faults self.new ≡ faults self.old) }

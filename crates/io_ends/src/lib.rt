@@ -1,8 +1,9 @@
 //! The two ends of a program: a source of bytes and a sink for bytes.
 //!
-//! Each tells by ghost members which bytes are left or written, where it knows them, and
-//! a count of its faults. A fault is answered only where that count rose in the call.
-//! `read_all` and `write_all` stand on the traits alone; ends in memory implement them, and so do the readers and writers of the standard library.
+//! A [`Source`] gives bytes and a [`Sink`] takes them. Their ghost members say which bytes are left or were written, where
+//! that is known, and count the faults. A call answers a fault only where the count rose in that call.
+//! [`read_all`] and [`write_all`] work over any source and any sink. [`MemSource`] and [`MemSink`] are in memory, with
+//! calls that fail on purpose; [`ReaderSource`] and [`WriterSink`] wrap readers and writers of the standard library.
 #![tactic(auto)]
 
 mod calls;

@@ -1,4 +1,4 @@
-// A sink into memory.
+// A sink in memory.
 ghost use Rattle.std.specs.Prelude.{◌≡◌, ◌≤◌, ◌<◌, ◌-◌, ◌↔◌, ◌⊎◌, [], length, min, Some, None, IfOk, OnOk, OnErr, IsErr, is_err, if◌then◌else◌};
 ghost use Rattle.io_ends.specs.Faults.{Rose, one_more};
 ghost use Rattle.io_ends.specs.Ends.{Takes};
@@ -9,7 +9,7 @@ use crate::{Failed, Sink};
 use std::alloc::{AllocError, Global};
 use std::marker::Model;
 
-/// A sink into memory, of which chosen writes fail. It has its whole room from the start.
+/// A sink in memory whose chosen writes fail. All its room is reserved at the start.
 #[derive(Drop)]
 pub struct MemSink {
     bytes: Vec<u8>,
@@ -30,13 +30,13 @@ impl Model for MemSink {
 }
 
 impl MemSink {
-    /// An empty sink for `room` bytes. Its writes are counted from 1, and those whose number is
-    /// in `fails` fail, and so does each write to a full sink. The room is taken here, so no
+    /// An empty sink for `room` bytes. Its writes are numbered from 1, and those whose number is
+    /// in `fails` fail; so does every write to a full sink. The room is reserved here, so no
     /// write takes memory.
     ///
     /// # Errors
     ///
-    /// Want of memory for the room.
+    /// Out of memory.
     pub fn new(alloc: Global, room: usize, fails: Vec<u64>) -> Result<MemSink, AllocError>
         ensures { IfOk result (λ s. s ≡ record { written = []; room = room; most = None; calls = 0; fails = fails.items; faults = 0 }) }
     {
@@ -48,11 +48,11 @@ impl MemSink {
         })
     }
 
-    /// The same, which takes at most `most` bytes in one write, one at least.
+    /// The same, but each write takes at most `most` bytes, which is at least one.
     ///
     /// # Errors
     ///
-    /// Want of memory for the room.
+    /// Out of memory.
     pub fn short(
         alloc: Global,
         room: usize,
@@ -90,7 +90,7 @@ impl Sink for MemSink {
         ensures kept { OnErr result (Some self.new.written ≡ Some self.old.written) }
         ensures counted { self.old.faults ≤ self.new.faults }
 
-        // It fails just where it is to or the room is full, and else it takes as much as there is room for, or as goes in one write.
+        // It fails exactly where it has to or the room is full; otherwise it takes what there is room for, or what goes through in one write.
         ensures fails { IsErr result ↔ (NextFails self.old.calls self.old.fails
             ⊎ ((0 < length piece.now) × (length self.old.written ≡ self.old.room))) }
         ensures most { IfOk result (λ n. n ≡ min (at_most self.old.most (length piece.now)) (self.old.room - length self.old.written)) }

@@ -8,8 +8,8 @@ use crate::calls::{Calls, at_most};
 use crate::{Failed, Source};
 use std::marker::Model;
 
-/// A source over bytes in memory, of which chosen reads fail. It gives as many bytes as the
-/// buffer holds, or as go in one read.
+/// A source over bytes in memory whose chosen reads fail. It gives as many bytes as the
+/// buffer holds, or as go through in one read.
 #[derive(Drop)]
 pub struct MemSource {
     bytes: Vec<u8>,
@@ -30,7 +30,7 @@ impl Model for MemSource {
 }
 
 impl MemSource {
-    /// A source that has `bytes` left. Its reads are counted from 1, and those whose number is
+    /// A source that has `bytes` left. Its reads are numbered from 1, and those whose number is
     /// in `fails` fail.
     pub fn new(bytes: Vec<u8>, fails: Vec<u64>) -> MemSource
         ensures { result ≡ record { left = bytes.items; most = None; calls = 0; fails = fails.items; faults = 0 } }
@@ -43,7 +43,7 @@ impl MemSource {
         }
     }
 
-    /// The same, which gives at most `most` bytes in one read, one at least.
+    /// The same, but each read gives at most `most` bytes, which is at least one.
     pub fn short(bytes: Vec<u8>, fails: Vec<u64>, most: usize) -> MemSource
         requires { 1 ≤ most }
         ensures { result ≡ record { left = bytes.items; most = Some most; calls = 0; fails = fails.items; faults = 0 } }
@@ -69,7 +69,7 @@ impl Source for MemSource {
         ensures kept { OnErr result (Some self.new.left ≡ Some self.old.left) }
         ensures counted { self.old.faults ≤ self.new.faults }
 
-        // It fails just where it is to, and else it fills the buffer as far as the bytes go, or as many go in one read.
+        // It fails exactly where it has to; otherwise it fills the buffer as far as the bytes go, or as many as go through in one read.
         ensures fails { IsErr result ↔ NextFails self.old.calls self.old.fails }
         ensures most { IfOk result (λ n. n ≡ min (at_most self.old.most (length buf.old)) (length self.old.left)) }
         ensures buffer_kept { OnErr result (buf.new ≡ buf.old) }
@@ -89,7 +89,7 @@ impl Source for MemSource {
     }
 }
 
-// Copies as many bytes as go into so much room at the front of the buffer.
+// Copies as many bytes as fit into this much room at the front of the buffer.
 fn copy_front(bytes: &[u8], buf: &mut [u8], room: usize) -> usize
     requires { room ≤ length buf.old }
     ensures count { result ≡ min room (length bytes.now) }

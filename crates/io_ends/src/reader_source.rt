@@ -11,7 +11,8 @@ use std::io::{ErrorKind, Read};
 use std::marker::Model;
 use std::rt::Stdin;
 
-/// A reader as a source. A call that was interrupted is made again. As a source it tells no bytes. A contract sees the reader, and how often it told a fault, an interruption, and neither.
+/// A reader as a source. An interrupted call is made again. As a source it leaves its bytes unknown. A contract sees the reader, and how
+/// often it answered with a fault, with an interruption, and with neither.
 #[derive(Drop)]
 pub struct ReaderSource<R: Read> {
     reader: Tried<R>,
@@ -29,7 +30,7 @@ impl<R: Read> Model for ReaderSource<R> {
 }
 
 impl<R: Read> ReaderSource<R> {
-    /// A reader that told nothing yet.
+    /// A reader that was not called yet.
     pub fn new(reader: R) -> ReaderSource<R>
         ensures { result ≡ record { device = reader; tries = untried } }
     {
@@ -51,7 +52,7 @@ impl<R: Read> Source for ReaderSource<R> {
         ensures counted { fault_count self.old.tries ≤ fault_count self.new.tries }
         ensures cause { IsTried (is_err result) self.old.tries self.new.tries }
 
-        // Of a reader whose bytes are known it gave what it answers, and nothing after a failure; nothing is the end.
+        // Where the reader's bytes are known: it gave what it answers, and nothing with a failure; 0 is the end.
         ensures consumed { IfOk result (λ n. Consumes (R.remaining self.old.device) (R.remaining self.new.device) (take n buf.new)) }
         ensures end { IfOk result (λ n. n ≡ 0 → 0 < length buf.old → IsAtEnd (R.remaining self.new.device)) }
         ensures unchanged { OnErr result (Keeps (R.remaining self.old.device) (R.remaining self.new.device)) }
@@ -64,7 +65,7 @@ impl<R: Read> Source for ReaderSource<R> {
 pub type StdinSource = ReaderSource<Stdin>;
 
 impl<R: Read> Tried<R> {
-    // What one call of the reader told.
+    // One call of the reader, and what it answered.
     fn read_once(&mut self, buf: &mut [u8]) -> Result<usize, ErrorKind>
         ensures bound { IfOk result (λ n. n ≤ length buf.old) }
         ensures bytes { ReadConsumes (R.remaining self.old.device) (R.remaining self.new.device) result buf.new }
@@ -78,7 +79,7 @@ impl<R: Read> Tried<R> {
         }
     }
 
-    // One read that is not interrupted. Of a reader whose bytes are known the clauses say that no failure is told as the end.
+    // A read, tried until it is not interrupted. Where the reader's bytes are known, the clauses say that no failure is answered as the end.
     pub(crate) fn read(&mut self, buf: &mut [u8]) -> Result<usize, Failed>
         requires counts { (self.old.faults < 2 ^ 64) × (self.old.interruptions < 2 ^ 64) }
         ensures bound { IfOk result (λ n. n ≤ length buf.old) }

@@ -8,7 +8,7 @@ use crate::{Failed, Source};
 use std::alloc::{AllocError, Global};
 use thiserror::Error;
 
-/// The length of the first buffer. Each later one is longer by that, or by an eighth of what is filled if that is more.
+/// The length of the first buffer. Each later one is longer by as much, or by an eighth of what is filled if that is more.
 const FIRST_LENGTH: usize = 65_536;
 
 /// Why a source was not read to its end.
@@ -41,19 +41,19 @@ impl From<AllocError> for ReadErr {
     }
 }
 
-/// Reads `source` to its end, and answers all its bytes, of which there may be `limit`. It
-/// takes one byte more than that at most.
+/// Reads `source` to its end, and answers all its bytes, which may be up to `limit`. It
+/// takes at most one byte more than that.
 ///
 /// # Errors
 ///
 /// `ReadFault` where the source fails, `TooLong` where it has more than `limit` bytes, and
-/// `Memory` where there is no memory for them. The bytes taken are then lost.
+/// `Memory` where there is no memory for them. The bytes that were taken are then lost.
 pub fn read_all<S: Source>(alloc: Global, source: &mut S, limit: usize) -> Result<Vec<u8>, ReadErr>
     ensures whole { IfOk result (λ all. IfSome (S.left source.old) (λ bytes. all.items ≡ bytes)) }
     ensures ended { OnOk result (IfSome (S.left source.old) (λ _. S.left source.new ≡ Some [])) }
     ensures within { IfOk result (λ all. vec_len all ≤ limit) }
 
-    // A fault has its cause, and no fault goes untold. `TooLong` is answered exactly where one byte above the limit was taken.
+    // `ReadFault` is answered only where the source failed, and no fault is hidden. `TooLong` is answered exactly where one byte above the limit was taken.
     ensures fault { IsErrOf result ReadErr.ReadFault → Rose (S.faults source.old) (S.faults source.new) }
     ensures quiet { ¬ IsErrOf result ReadErr.ReadFault → S.faults source.new ≡ S.faults source.old }
     ensures too_long { IsErrOf result ReadErr.TooLong → Took (S.left source.old) (S.left source.new) (limit + 1) }
@@ -62,7 +62,7 @@ pub fn read_all<S: Source>(alloc: Global, source: &mut S, limit: usize) -> Resul
 
     ensures counted { S.faults source.old ≤ S.faults source.new }
 
-    // An input within the limit is read, but for want of memory, where the source does not fail.
+    // Where the source does not fail, an input within the limit is read, unless memory runs out.
     ensures complete { ¬ Rose (S.faults source.old) (S.faults source.new)
         → IfSome (S.left source.old) (λ bytes. length bytes ≤ limit → IsOkUnless result ReadErr.Memory) }
 {
@@ -80,7 +80,7 @@ pub fn read_all<S: Source>(alloc: Global, source: &mut S, limit: usize) -> Resul
     Err(ReadErr::TooLong)
 }
 
-// Makes the buffer longer than what is filled, if it is not, and at most one longer than the limit.
+// Makes the buffer longer than what is filled, if it is not, and at most one byte longer than the limit.
 fn make_room(bytes: &mut Vec<u8>, filled: usize, limit: usize) -> Result<(), AllocError>
     requires filled { filled ≤ vec_len bytes.old }
     requires within { filled ≤ limit }
@@ -99,7 +99,7 @@ fn make_room(bytes: &mut Vec<u8>, filled: usize, limit: usize) -> Result<(), All
     bytes.resize(limit.min(longer - 1) + 1, 0)
 }
 
-// One read into the buffer, behind what is filled.
+// One read into the buffer, after what is filled.
 fn read_behind<S: Source>(source: &mut S, buffer: &mut [u8], filled: usize) -> Result<usize, Failed>
     requires { filled < length buffer.old }
     ensures front { take filled buffer.new ≡ take filled buffer.old }

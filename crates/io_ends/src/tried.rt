@@ -1,9 +1,9 @@
-// A device of the standard library with what it told so far.
+// A device of the standard library, with counts of what it answered so far.
 //
-// The device and the counts are private to this file: no code but `call_read` and `call_write` calls the device, and each
-// call is counted by what it answers. So the clauses on the counts tell of the calls that try again that they hide no fault
-// behind a later answer, that they take no interruption for a fault and no fault for an interruption, and that they make no
-// call behind one that was answered. That what is answered is the device's own, no clause can say.
+// The device and the counts are private to this file: only `call_read` and `call_write` call the device, and each call is
+// counted by what it answers. So the clauses on the counts show that the loops that try again hide no fault, take no
+// interruption for a fault and no fault for an interruption, and make no call after one that was answered. No clause can
+// say that the answer is the device's own.
 ghost use Rattle.std.specs.Prelude.{◌≡◌, ◌==◌, true, length};
 ghost use Rattle.std.specs.Io.{ReadsAtMost, WritesAtMost};
 ghost use Rattle.std.specs.Io.KnownBytes.{ReadConsumes, WriteAppends};
@@ -12,8 +12,8 @@ ghost use Rattle.io_ends.specs.Tries.{IsCounted, told_of, tries_of};
 use std::io;
 use std::io::{ErrorKind, Read, Write};
 
-// A device, how often it told a fault, how often it told that a call was interrupted, and how often it answered with
-// neither. A count stays at 2^64 - 1, and a device that was interrupted so often is not tried any more.
+// A device, and how often it answered with a fault, with an interruption, and with neither. A count stops at 2^64 - 1, and
+// a device that was interrupted that often is not tried any more.
 #[derive(Drop)]
 pub(crate) struct Tried<D> {
     device: D,
@@ -22,7 +22,7 @@ pub(crate) struct Tried<D> {
     answers: u64,
 }
 
-// What an answer tells. That no bytes went is an error, unless it may be so.
+// What an answer says. That no bytes went through is an error, unless it is allowed.
 pub(crate) fn told_of(may_be_none: bool, answer: io::Result<usize>) -> Result<usize, ErrorKind>
     ensures { result ≡ told_of may_be_none answer }
 {
@@ -56,7 +56,7 @@ impl<D> Tried<D> {
         self.interruptions
     }
 
-    // Counts what the device told.
+    // Counts what the device answered.
     fn count(&mut self, told: Result<usize, ErrorKind>)
         ensures device { self.new.device ≡ self.old.device }
         ensures counted { IsCounted told (tries_of self.old) (tries_of self.new) }
@@ -77,7 +77,7 @@ impl<D> Tried<D> {
 }
 
 impl<R: Read> Tried<R> {
-    // One call of the reader, counted by its answer, which is handed on.
+    // One call of the reader, counted by its answer, which is passed on.
     pub(crate) fn call_read(&mut self, buf: &mut [u8]) -> io::Result<usize>
         ensures bound { ReadsAtMost result buf.new }
         ensures bytes { ReadConsumes (R.remaining self.old.device) (R.remaining self.new.device) result buf.new }
@@ -90,7 +90,7 @@ impl<R: Read> Tried<R> {
 }
 
 impl<W: Write> Tried<W> {
-    // One call of the writer, counted by its answer, which is handed on.
+    // One call of the writer, counted by its answer, which is passed on.
     pub(crate) fn call_write(&mut self, piece: &[u8]) -> io::Result<usize>
         ensures bound { WritesAtMost result piece.now }
         ensures bytes { WriteAppends (W.contents self.old.device) (W.contents self.new.device) result piece.now }

@@ -11,9 +11,9 @@ use std::io::{ErrorKind, Write};
 use std::marker::Model;
 use std::rt::Stdout;
 
-/// A writer as a sink. A call that was interrupted is made again, and to take nothing of a piece that is not empty is a
-/// fault. As a sink it tells no bytes. A contract sees the writer, and how often it told a fault, an interruption, and
-/// neither. Nothing is buffered here: what `write` took was handed to the writer.
+/// A writer as a sink. An interrupted call is made again, and taking nothing of a piece that is not empty is a fault. As a
+/// sink it leaves its bytes unknown. A contract sees the writer, and how often it answered with a fault, with an
+/// interruption, and with neither. Nothing is buffered here: what `write` took was handed to the writer.
 #[derive(Drop)]
 pub struct WriterSink<W: Write> {
     writer: Tried<W>,
@@ -31,7 +31,7 @@ impl<W: Write> Model for WriterSink<W> {
 }
 
 impl<W: Write> WriterSink<W> {
-    /// A writer that told nothing yet.
+    /// A writer that was not called yet.
     pub fn new(writer: W) -> WriterSink<W>
         ensures { result ≡ record { device = writer; tries = untried } }
     {
@@ -53,7 +53,7 @@ impl<W: Write> Sink for WriterSink<W> {
         ensures counted { fault_count self.old.tries ≤ fault_count self.new.tries }
         ensures cause { IsTried (is_err result) self.old.tries self.new.tries }
 
-        // Of a writer whose bytes are known it appended what it answers, and nothing after a failure.
+        // Where the writer's bytes are known: it appended what it answers, and nothing with a failure.
         ensures appended { IfOk result (λ n. Appends (W.contents self.old.device) (W.contents self.new.device) (take n piece.now)) }
         ensures unchanged { OnErr result (Keeps (W.contents self.old.device) (W.contents self.new.device)) }
     {
@@ -65,7 +65,7 @@ impl<W: Write> Sink for WriterSink<W> {
 pub type StdoutSink = WriterSink<Stdout>;
 
 impl<W: Write> Tried<W> {
-    // What one call of the writer told. To take nothing of a piece that is not empty is an error.
+    // One call of the writer, and what it answered. Taking nothing of a piece that is not empty is an error.
     fn write_once(&mut self, piece: &[u8]) -> Result<usize, ErrorKind>
         ensures bound { IfOk result (λ n. n ≤ length piece.now) }
         ensures some { IfOk result (λ n. 0 < length piece.now → 1 ≤ n) }
@@ -77,7 +77,7 @@ impl<W: Write> Tried<W> {
         told_of(piece.is_empty(), self.call_write(piece))
     }
 
-    // One write that is not interrupted.
+    // A write, tried until it is not interrupted.
     pub(crate) fn write(&mut self, piece: &[u8]) -> Result<usize, Failed>
         requires counts { (self.old.faults < 2 ^ 64) × (self.old.interruptions < 2 ^ 64) }
         ensures bound { IfOk result (λ n. n ≤ length piece.now) }

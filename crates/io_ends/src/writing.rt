@@ -17,12 +17,11 @@ impl From<Failed> for WriteFault {
     }
 }
 
-/// Writes all of `bytes`, in as many writes as the sink wants. It takes no memory.
+/// Writes all of `bytes`, in as many writes as the sink needs. It takes no memory.
 ///
 /// # Errors
 ///
-/// `WriteFault` where the sink fails. A front part of `bytes` was then written, and not all of
-/// it.
+/// `WriteFault` where the sink fails. Then a front part of `bytes` was written, but not all.
 pub fn write_all<K: Sink>(sink: &mut K, bytes: &[u8]) -> Result<(), WriteFault>
     ensures whole { OnOk result (Appends (K.written sink.old) (K.written sink.new) bytes.now) }
     ensures quiet { OnOk result (K.faults sink.new ≡ K.faults sink.old) }

@@ -1,4 +1,4 @@
--- What a row tells of all tasks but one.
+-- What a row says about all tasks but one.
 use Rattle.std.proofs.Common.{◌≡◌, ◌<◌, ◌≤◌, ◌+◌, ◌&&◌, ◌||◌, ◌==◌, not, ℕ, zero, suc, Bool, true, false, cond, List, [], ◌∷◌, map, fold, Option, None, refl, sym, ap, ◌∙◌, inl, inr, arith}
 use Rattle.std.specs.List.{list_any, range_with_len, AllByRecursion}
 use Rattle.std.proofs.lemmas.Bool.{eq-eqb, eqb-true, and_parts, and_from}
@@ -13,7 +13,7 @@ use Rattle.rbound.proofs.LongestClaims.{longer_none, longer_assoc, longest_any, 
 
 -- ---- all tasks but one
 
--- what a task has, but for one of them
+-- what a task has, unless it is this one
 abbrev pub unless_me : ℕ → (ℕ → Option ℕ) → ℕ → Option ℕ
 unless_me me f t = cond (t == me) None (f t)
 
@@ -67,7 +67,7 @@ module _ (ns : List Needed) (tasks : ℕ) where
       at true q = sym (longest_never ns)
       at false q = refl
 
-  -- of the tasks but one, that of a claim is among them where it is not that one
+  -- the task of a claim is among the tasks but one, unless it is that one
   pub pick : (me a : ℕ) (b : Bool) → a < tasks → list_any (λ t. not (t == me) && ((a == t) && b)) (range_with_len 0 tasks) ≡ (not (a == me) && b)
   pick me a b some = same_test _ _
       (λ h.
@@ -79,7 +79,7 @@ module _ (ns : List Needed) (tasks : ℕ) where
       let parts = and_parts (not (a == me)) b h in
       any_among (λ t. not (t == me) && ((a == t) && b)) (range_with_len 0 tasks) a (range_has 0 tasks a (omega arith) (omega arith)) (and_from (not (a == me)) ((a == a) && b) parts.0 (and_from (a == a) b (eq-eqb a a refl) parts.1)))
 
-  -- *The longest of all tasks but one*, where of each task it is the longest that passes a test
+  -- *The longest of all tasks but one*, where each task has the longest of its claims that pass a test
   pub beside_all : (seats : AllByRecursion (λ (n : Needed). n.claim.seat < tasks) ns) (me : ℕ) (f : ℕ → Option ℕ) (q : Needed → Bool) → ((t : ℕ) → t < tasks → f t ≡ longest (λ n. (n.claim.seat == t) && q n) ns)
       → beside tasks me f ≡ longest (λ n. not (n.claim.seat == me) && q n) ns
   beside_all seats me f q is =

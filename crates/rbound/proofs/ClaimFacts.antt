@@ -1,4 +1,4 @@
--- Where a claim that is needed comes from, and what is known of it.
+-- Where a needed claim comes from, and what is known of it.
 use Rattle.std.proofs.Common.{◌≡◌, ◌<◌, ◌+◌, ◌==◌, ℕ, zero, suc, Bool, true, false, cond, List, [], ◌∷◌, ◌++◌, map, length, slice_get, Some, None, refl, sym, ap, subst, ◌∙◌, inl, inr, arith}
 use Rattle.std.specs.Prelude.{find}
 use Rattle.std.specs.List.{AllByRecursion}
@@ -31,7 +31,7 @@ among_front (y ∷ xs) ys x (inl same) = inl same
 among_front (y ∷ xs) ys x (inr later) = inr (among_front xs ys x later)
 
 module _ (groups : List Set) where
-  -- it is a claim of a request of its task, by its stamp
+  -- it is a claim of the request of its task that its stamp names
   pub record Made (needs : Needs) (task : ℕ) (n : Needed) : Type 0 where
     pub some : task < length needs
     pub request : RequestNeeds
@@ -153,7 +153,7 @@ module _ (groups : List Set) where
 
   -- ---- what each is
 
-  -- a claim that makes no write writes nothing and has its reads as its places; each claim has some place
+  -- a read claim writes nothing and its places are its reads; each claim has some place
   pub record IsSound (n : Needed) : Type 0 where
     pub writes : n.claim.write_half ≡ false → n.claim.writes ≡ empty
     pub places : n.claim.write_half ≡ false → n.claim.places ≡ n.claim.reads

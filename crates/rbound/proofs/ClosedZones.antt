@@ -1,4 +1,4 @@
--- Zones are closed, and no closed set that has their places leaves any of theirs out.
+-- Zones are closed, and each closed set with the same first places contains the zone.
 use Rattle.std.proofs.Common.{◌≡◌, ◌≤◌, ◌<◌, ℕ, suc, zero, Bool, true, false, not, ◌||◌, cond, List, [], ◌∷◌, length, map, fold, filter, refl, sym, ap, subst, ◌∙◌, inl, inr, arith}
 use Rattle.std.proofs.lemmas.Bool.{or_parts}
 use Rattle.std.specs.FinSet.{union, is_subset}
@@ -45,7 +45,7 @@ rounds_more zero z ps = within_reflexive z
 rounds_more (suc n) z ps =
     within_transitive z (joined z ps) (joined_in_rounds (suc n) z ps) (fold_more z ps z) (rounds_more n (joined z ps) (filter (λ p. not (meets p z)) ps))
 
--- where none passes, all are left; where some does, fewer
+-- where no element passes, all are left; where some element passes, fewer are
 all_left : {X : Type 0} (q : X → Bool) (xs : List X) → list_any q xs ≡ false → filter (λ x. not (q x)) xs ≡ xs
 all_left q [] none = refl
 all_left q (x ∷ xs) none =

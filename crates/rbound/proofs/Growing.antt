@@ -1,4 +1,4 @@
--- The claims that are needed, where a request comes behind the others of its task: those of the tasks up to it, its own, and those of the later tasks.
+-- The needed claims when a request is added after the others of its task: those of the tasks up to it, its own, and those of the later tasks.
 use Rattle.std.proofs.Common.{◌≡◌, ◌≤◌, ◌<◌, ◌+◌, ℕ, zero, suc, List, [], ◌∷◌, ◌++◌, length, map, refl, sym, ap, subst, ◌∙◌, arith}
 use Rattle.std.specs.List.{AllByRecursion}
 use Rattle.rset.specs.Sets.{Set}
@@ -26,7 +26,7 @@ assoc (x ∷ xs) ys zs = ap (λ us. x ∷ us) (assoc xs ys zs)
 abbrev IsOf : ℕ → Needed → Type 0
 IsOf task n = n.claim.seat ≡ task
 
--- no later task than this, or a later one
+-- the task of a claim is not later than this one, or it is later
 abbrev pub IsUpTo : ℕ → Needed → Type 0
 IsUpTo task n = n.claim.seat ≤ task
 
@@ -64,7 +64,7 @@ module _ (groups : List Set) where
       ap (λ xs. needed_of groups task number m.request ++ xs) (pushed task (suc number) ns n ∙ ap (λ k. needed_by_task groups task (suc number) ns ++ needed_of groups task k n.request) same)
       ∙ sym (assoc (needed_of groups task number m.request) (needed_by_task groups task (suc number) ns) (needed_of groups task (number + length (m ∷ ns)) n.request))
 
-  -- where the claims of a new request come among the others
+  -- where the claims of a new request go among the others
   pub record Place (low t task : ℕ) (needs : Needs) (r : RequestFields) : Type 0 where
     pub before : List Needed
     pub behind : List Needed

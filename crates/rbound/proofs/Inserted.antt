@@ -1,4 +1,4 @@
--- What is needed after a request or an ask, and the claims kept beside it.
+-- What is needed after another request or ask, and the claims that are kept beside it.
 use Rattle.std.proofs.Common.{◌≡◌, ◌≤◌, ◌<◌, ℕ, List, [], ◌∷◌, ◌++◌, length, take, drop, Result, Ok, Err, OnOk, OnErr, refl, sym, ap, ◌∙◌, arith}
 use Rattle.std.specs.List.{AllByRecursion}
 use Rattle.rset.specs.Sets.{Set}
@@ -17,7 +17,7 @@ drop_first [] [] = refl
 drop_first [] (y ∷ ys) = refl
 drop_first (x ∷ xs) ys = drop_first xs ys
 
--- the claims of a request stand behind those of its task and of the earlier ones
+-- the claims of a request come after those of its task and of the earlier tasks
 pub inserted : (groups : List Set) (needs : Needs) (task : ℕ) (r : RequestFields) (claims made : List Needed) (at : ℕ) → task < length needs → claims ≡ all_needed groups needs
     → made ≡ needed_of groups task (length (requests_of needs task)) r
     → ((before behind : List Needed) → claims ≡ before ++ behind → AllByRecursion (λ n. n.claim.seat ≤ task) before → AllByRecursion (λ n. task < n.claim.seat) behind → at ≡ length before)

@@ -32,7 +32,7 @@ longer_right a None c = refl
 longer_right a (Some b) None = let same : max a b ≡ max b a = omega arith in ap (λ x. Some x) same
 longer_right a (Some b) (Some c) = let same : max a (max b c) ≡ max b (max a c) = omega arith in ap (λ x. Some x) same
 
--- of the claims that pass one of two tests
+-- the longest of the claims that pass one of two tests
 pub longest_or : (p q : Needed → Bool) (ns : List Needed) → longest (λ n. p n || q n) ns ≡ longer (longest p ns) (longest q ns)
 longest_or p q [] = refl
 longest_or p q (n ∷ ns) = at (p n) (q n) (longest_or p q ns)
@@ -71,7 +71,7 @@ folded_from f (k ∷ ks) most = folded_from f ks (longer most (f k)) ∙ longer_
 pub folded : (f : ℕ → Option ℕ) (ks : List ℕ) → fold (λ most k. longer most (f k)) None ks ≡ longest_of f ks
 folded f ks = folded_from f ks None
 
--- ---- what bounds ask
+-- ---- what bounds are made of
 
 pub longest_is : (p : Needed → Bool) (ns : List Needed) → is_some (longest p ns) ≡ list_any p ns
 longest_is p [] = refl

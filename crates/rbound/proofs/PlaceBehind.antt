@@ -9,7 +9,7 @@ use Rattle.rbound.proofs.Growing.{IsUpTo, IsAfter}
 abbrev pub AreAfter : List Needed → ℕ → ℕ → Type 0
 AreAfter ns task at = (k : ℕ) (d : Needed) → at ≤ k → k < length ns → task < (slice_index_or ns k d).claim.seat
 
--- none of those before a split is of a later task, and each behind it is
+-- no claim before a split is of a later task, and each claim after it is
 at_before : (before behind : List Needed) (task k : ℕ) (d : Needed) → AllByRecursion (IsUpTo task) before → k < length before → (slice_index_or (before ++ behind) k d).claim.seat ≤ task
 at_before [] behind task k d all h = absurd (omega arith)
 at_before (n ∷ ns) behind task zero d all h = all.0
@@ -26,7 +26,7 @@ longer : (before behind : List Needed) → length before ≤ length (before ++ b
 longer [] behind = omega arith
 longer (n ∷ ns) behind = let rest = longer ns behind in omega arith
 
--- the claims from a place on are of later tasks, and the one before it is not: so the split is there
+-- the claims from a place on are of later tasks, and the claim before it is not, so the split is there
 place_with : (d : Needed) (task at : ℕ) (before behind : List Needed) → AllByRecursion (IsUpTo task) before → AllByRecursion (IsAfter task) behind
     → at ≤ length (before ++ behind) → AreAfter (before ++ behind) task at → (0 < at → (slice_index_or (before ++ behind) (at - 1) d).claim.seat ≤ task) → at ≡ length before
 place_with d task at before behind up_to after within late last =

@@ -2,7 +2,7 @@
 use Rattle.std.proofs.Common.{◌≡◌, ◌≤◌, ◌<◌, ℕ, List, length, slice_index}
 use Rattle.rbound.specs.Rows.{with_length}
 
--- a length went into the places of a row from a number on
+-- a length was taken into the places of a row from this one on
 pub record HasGone (len : ℕ) (old new : List ℕ) (at : ℕ) : Type 0 where
   pub some : 0 < at
   pub within : at ≤ length old

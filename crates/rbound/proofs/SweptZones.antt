@@ -25,7 +25,7 @@ take_in_more all n = at (meets n.claim.places all)
 take_in_has : (all : Set) (n : Needed) → meets n.claim.places all ≡ true → is_subset n.claim.places (take_in all n) ≡ true
 take_in_has all n h = subst (λ (b : Bool). is_subset n.claim.places (cond b (union all n.claim.places) all) ≡ true) (sym h) (within_union_right all n.claim.places)
 
--- what is within s stays so, where what is taken in is
+-- what lies within s still does, where what is taken in does
 take_in_within : (all s : Set) (n : Needed) → is_subset all s ≡ true → (meets n.claim.places all ≡ true → is_subset n.claim.places s ≡ true) → is_subset (take_in all n) s ≡ true
 take_in_within all s n h near =
     both_cases (meets n.claim.places all)
@@ -128,7 +128,7 @@ fewer_outside ns z grows =
 
 -- ---- what grows by sweeps
 
--- some places grew: they have those they began with, and lie in each closed set that has these
+-- some places grew: they contain those they began with, and lie in each closed set that has these
 pub record HasGrown (ns : List Needed) (places z : Set) : Type 0 where
   pub has : is_subset places z ≡ true
   pub within : (s : Set) → IsClosed ns s → is_subset places s ≡ true → is_subset z s ≡ true

@@ -1,4 +1,4 @@
--- The rows of a zone tell the numbers that bound a write wait there.
+-- The rows of a zone give the numbers that bound a write wait there.
 use Rattle.std.proofs.Common.{◌≡◌, ◌≢◌, ◌<◌, ◌+◌, ◌*◌, ◌-◌, ◌&&◌, ◌||◌, ◌==◌, ◌⊎◌, not, min, ℕ, Bool, true, false, cond, List, [], ◌∷◌, map, fold, Option, None, is_some, unwrap_or, refl, sym, ap, ◌∙◌, inl, inr, arith}
 use Rattle.std.specs.List.{list_any, list_all, count_by, range_with_len, AllByRecursion}
 use Rattle.std.proofs.lemmas.Bool.{eq-eqb, eqb-true, and_parts, and_from, or_left, or_right}

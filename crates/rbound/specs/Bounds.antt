@@ -15,24 +15,24 @@ pub record Numbers : Type 0 where
   pub writes : ℕ
   pub units : ℕ
 
--- no number is above that of the other
+-- no number is above the corresponding one of the other
 pub record IsWithin (a b : Numbers) : Type 0 where
   pub reads : a.reads ≤ b.reads
   pub writes : a.writes ≤ b.writes
   pub units : a.units ≤ b.units
 
--- the greatest length of the claims that pass a test, 0 of none
+-- the greatest length of the claims that pass a test, 0 if there is none
 abbrev pub greatest : (Needed → Bool) → List Needed → ℕ
 greatest p [] = 0
 greatest p (n ∷ ns) = if p n then max n.len (greatest p ns) else greatest p ns
 
--- the greatest sum of so many of these numbers at most: the sum of the largest
+-- the greatest sum of at most this many of these numbers: the sum of the largest
 abbrev pub largest : ℕ → List ℕ → ℕ
 largest zero xs = 0
 largest (suc k) [] = 0
 largest (suc k) (x ∷ xs) = max (x + largest k xs) (largest (suc k) xs)
 
--- 1 where it is so, else 0
+-- 1 where the test holds, otherwise 0
 abbrev pub one_if : Bool → ℕ
 one_if b = if b then 1 else 0
 
@@ -53,7 +53,7 @@ writes_there task zone n = not (n.claim.seat == task) && n.claim.write_half && i
 abbrev pub upgrades_there : ℕ → Set → Needed → Bool
 upgrades_there task zone n = not (n.claim.seat == task) && is_upgrade n.claim.kind && is_there zone n
 
--- a task, another one, has a write claim in the zone
+-- another task has a write claim in the zone
 abbrev pub is_writer : List Needed → ℕ → Set → ℕ → Bool
 is_writer ns task zone other = list_any (λ n. writes_there task zone n && (n.claim.seat == other)) ns
 
@@ -61,7 +61,7 @@ is_writer ns task zone other = list_any (λ n. writes_there task zone n && (n.cl
 abbrev pub writers : List Needed → ℕ → ℕ → Set → ℕ
 writers ns tasks task zone = count_by (is_writer ns task zone) (tasks_of tasks)
 
--- the writes: each other writer, but no more than may be incomplete beside the request itself
+-- the writes: one for each other writer, but no more than may be incomplete beside the request itself
 abbrev pub writes_of : List Needed → ℕ → ℕ → ℕ → Set → ℕ
 writes_of ns tasks cap task zone = min (writers ns tasks task zone) (cap - 1)
 
@@ -69,12 +69,12 @@ writes_of ns tasks cap task zone = min (writers ns tasks task zone) (cap - 1)
 abbrev pub all_may_write : List Needed → ℕ → Set → Bool
 all_may_write ns task zone = list_all (λ n. not (reads_there task zone n) || is_writer ns task zone n.claim.seat) ns
 
--- no other reader can be incomplete beside all writers that count, and none is an upgrade
+-- no other reader can be incomplete beside all writers that count, and no writer is an upgrade
 abbrev pub none_beside : List Needed → ℕ → ℕ → ℕ → Set → Bool
 none_beside ns tasks cap task zone =
     not (list_any (upgrades_there task zone) ns) && ((writes_of ns tasks cap task zone == (cap - 1)) || all_may_write ns task zone)
 
--- the reads: none where no other task reads there; else one for each write, and one more unless no reader can be beside them
+-- the reads: none where no other task reads there; otherwise one for each write, and one more unless no reader can be beside them
 abbrev pub reads_of : List Needed → ℕ → ℕ → ℕ → Set → ℕ
 reads_of ns tasks cap task zone =
     if list_any (reads_there task zone) ns then (if none_beside ns tasks cap task zone then writes_of ns tasks cap task zone else writes_of ns tasks cap task zone + 1) else 0
@@ -98,7 +98,7 @@ write_bound ns tasks cap c = record {
 
 -- ---- a read wait
 
--- a claim can hold up a write claim: it reads what that writes, and is of another task, or is the read half of its own request
+-- a claim can hold up a write claim: it reads what the write claim writes, and is of another task, or is the read half of the same request
 abbrev pub can_hold_up : Claim → Claim → Bool
 can_hold_up c v = meets c.reads v.writes && (not (c.seat == v.seat) || (is_read_half c && (c.stamp == v.stamp)))
 
@@ -120,7 +120,7 @@ read_bound ns r = record {
 
 -- ---- an ask
 
--- a claim of another task that reads some of what the asker asks to write
+-- a claim of another task that reads some of what the asker wants to write
 abbrev pub may_bar : Claim → Set → Needed → Bool
 may_bar c part n = not (n.claim.seat == c.seat) && meets n.claim.reads (intersection part c.writes)
 
@@ -161,6 +161,6 @@ bound_of_ask ns part (Some n) = ask_bound ns n.claim part
 abbrev pub ask_bound_of : List Needed → ℕ → ℕ → Set → Numbers
 ask_bound_of ns task number part = bound_of_ask ns part (write_need ns task number)
 
--- the numbers that a bound tells
+-- the numbers of a bound
 abbrev pub numbers_in : Bound → Numbers
 numbers_in b = record { reads = b.reads; writes = b.writes; units = b.units }

@@ -1,4 +1,4 @@
--- How needs are kept: for each task a vector of its requests, each with a vector of its asks. Of other crates `rshapes` alone speaks of it, where its laws ask that needs are kept so (`AreFine`).
+-- How needs are kept: for each task a vector of its requests, each with a vector of its asks. Among other crates only `rbound_history` mentions it, where its laws require that needs are kept like this (`AreFine`).
 use Rattle.std.specs.Prelude.{◌≡◌, ◌≤◌, ℕ, List, map, length, slice_get, Option, Some, IsTrue, if◌then◌else◌}
 use Rattle.std.specs.List.{AllByRecursion}
 use Rattle.std.specs.declared.vec.Vec.{Vec}
@@ -14,7 +14,7 @@ use Rattle.rbound.specs.declared.requests.RequestAsks.{RequestAsks}
 abbrev pub needs_in : RequestAsks → RequestNeeds
 needs_in x = record { request = x.request; asks = x.asks.items }
 
--- those of each task
+-- the requests of each task
 abbrev pub tasks_in : List (Vec RequestAsks Global) → Needs
 tasks_in tasks = map (λ v. map needs_in v.items) tasks
 
@@ -24,11 +24,11 @@ pub record IsFine (q : ℕ) (r : RequestFields) : Type 0 where
   pub reads : IsTrue (all_below q r.reads)
   pub writes : IsTrue (all_below q r.writes)
 
--- all requests of tasks are
+-- all requests of tasks are such
 abbrev pub AreFine : ℕ → Needs → Type 0
 AreFine q needs = AllByRecursion (λ (ns : List RequestNeeds). AllByRecursion (λ (n : RequestNeeds). IsFine q n.request) ns) needs
 
--- the claims kept beside are those that are needed, and there are no more tasks than have a number
+-- the claims that are kept are those that are needed, and there are no more tasks than numbers for them
 pub record AreKept (groups : ReadGroups) (tasks : List (Vec RequestAsks Global)) (needed : List Needed) : Type 0 where
   pub few : length tasks ≤ 255
   pub fine : AreFine groups.q (tasks_in tasks)

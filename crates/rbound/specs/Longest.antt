@@ -9,7 +9,7 @@ longer None b = b
 longer (Some a) None = Some a
 longer (Some a) (Some b) = Some (max a b)
 
--- the greatest length of the claims that pass a test, None of none
+-- the greatest length of the claims that pass a test, None if there is none
 abbrev pub longest : (Needed → Bool) → List Needed → Option ℕ
 longest p [] = None
 longest p (n ∷ ns) = if p n then longer (Some n.len) (longest p ns) else longest p ns
@@ -19,6 +19,6 @@ abbrev pub longest_of : (ℕ → Option ℕ) → List ℕ → Option ℕ
 longest_of f [] = None
 longest_of f (x ∷ xs) = longer (f x) (longest_of f xs)
 
--- what waits for one write and for one read at most, the longest of which have these lengths
+-- the numbers of a claim that waits for at most one write and one read, the longest of which have these lengths
 abbrev pub one_of_each : Option ℕ → Option ℕ → Numbers
 one_of_each write read = record { reads = one_if (is_some read); writes = one_if (is_some write); units = unwrap_or write 0 + unwrap_or read 0 }

@@ -6,7 +6,7 @@ use Rattle.rclaim.specs.declared.claim.Claim.{Claim}
 use Rattle.rmodel.specs.Claims.{claims_of, is_upgrade}
 use Rattle.rbound.specs.declared.needed.Needed as needed
 
--- a request that a task needs, and the sets for which it asks, in order
+-- a request that a task needs, and the sets that it asks for, in order
 pub record RequestNeeds : Type 0 where
   pub request : RequestFields
   pub asks : List Set
@@ -15,7 +15,7 @@ pub record RequestNeeds : Type 0 where
 abbrev pub Needs : Type 0
 Needs = List (List RequestNeeds)
 
--- a claim that is needed: its seat is the number of the task, its stamp that of the request in the task, from 0; and the length of its section
+-- a claim that is needed, and the length of its section; its seat is the number of the task, its stamp the number of the request in the task, from 0
 abbrev pub Needed : Type 0
 Needed = needed.Needed
 
@@ -45,7 +45,7 @@ all_needed groups needs = needed_from groups 0 needs
 abbrev pub is_of_request : ℕ → ℕ → Needed → Bool
 is_of_request task number n = (n.claim.seat == task) && (n.claim.stamp == number)
 
--- the claim of a request that waits first: of an upgrade the read half, of another request its one claim
+-- the claim of a request that waits first: the read half of an upgrade, or the only claim
 abbrev pub first_need : List Needed → ℕ → ℕ → Option Needed
 first_need ns task number = find (is_of_request task number) ns
 

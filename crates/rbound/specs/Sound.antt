@@ -1,4 +1,4 @@
--- What is known of all claims that are needed, since they are those of requests in normal form.
+-- What is known of all needed claims, because they are claims of requests in normal form.
 use Rattle.std.specs.Prelude.{◌≡◌, ◌<◌, ℕ, true, false, List}
 use Rattle.std.specs.List.{AllByRecursion}
 use Rattle.std.specs.FinSet.{empty, contains}
@@ -6,8 +6,8 @@ use Rattle.rmodel.specs.Claims.{is_read_half}
 use Rattle.rmodel.specs.WellFormed.{Among}
 use Rattle.rbound.specs.Needs.{Needed}
 
--- each is of one of so many tasks and has a place; a read claim writes nothing, and its places are what it reads; a read half has a write half
--- beside it, which writes what that reads, and so do all write claims of its request
+-- each is of one of the tasks and has a place; a read claim writes nothing, and its places are what it reads; a read half has a write half
+-- beside it, which writes what the read half reads, and so do all write claims of its request
 pub record AreSound (ns : List Needed) (tasks : ℕ) : Type 0 where
   pub seats : AllByRecursion (λ (n : Needed). n.claim.seat < tasks) ns
   pub writes : (n : Needed) → Among n ns → n.claim.write_half ≡ false → n.claim.writes ≡ empty

@@ -22,7 +22,7 @@ abbrev pub request_needs_code : Coded RequestNeeds
 request_needs_code =
     code_by (RequestFields × List Set) (coded× request_code (coded_list set_code)) (λ n. (n.request, n.asks)) (λ p. record { request = p.0; asks = p.1 }) (λ _. refl)
 
--- they are stored as the pair of both
+-- they are coded as the pair of both
 abbrev pub task_needs_code : Coded TaskNeeds
 task_needs_code =
     code_by (ReadGroups × Needs) (coded× groups_code (coded_list (coded_list request_needs_code))) (λ n. (n.groups, n.tasks)) (λ p. record { groups = p.0; tasks = p.1 }) (λ _. refl)
@@ -31,19 +31,19 @@ task_needs_code =
 abbrev pub none_needed : ℕ → Needs
 none_needed tasks = replicate tasks []
 
--- a request without asks, behind the others of a task
+-- a request without asks, after the others of a task
 abbrev pub with_request : Needs → ℕ → RequestFields → Needs
 with_request [] task r = []
 with_request (ns ∷ rest) zero r = (ns ++ record { request = r; asks = [] } ∷ []) ∷ rest
 with_request (ns ∷ rest) (suc task) r = ns ∷ with_request rest task r
 
--- a set for which the last of these requests asks, behind the others
+-- a set that the last of these requests asks for, after its other asks
 abbrev pub with_last_ask : List RequestNeeds → Set → List RequestNeeds
 with_last_ask [] part = []
 with_last_ask (n ∷ []) part = record { request = n.request; asks = n.asks ++ part ∷ [] } ∷ []
 with_last_ask (n ∷ m ∷ ns) part = n ∷ with_last_ask (m ∷ ns) part
 
--- the same of the last request of a task
+-- the same for the last request of a task
 abbrev pub with_ask : Needs → ℕ → Set → Needs
 with_ask [] task part = []
 with_ask (ns ∷ rest) zero part = with_last_ask ns part ∷ rest
@@ -59,7 +59,7 @@ last_is_nested (n ∷ m ∷ ns) = last_is_nested (m ∷ ns)
 abbrev pub requests_of : Needs → ℕ → List RequestNeeds
 requests_of needs task = slice_index_or needs task []
 
--- the sets for which a request asks, none where there is no such request
+-- the sets that a request asks for, none where there is no such request
 abbrev pub asks_of : Option RequestNeeds → List Set
 asks_of None = []
 asks_of (Some n) = n.asks

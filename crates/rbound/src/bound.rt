@@ -1,4 +1,4 @@
-// What a wait is at most, by the claims that are needed.
+// The greatest length of a wait, by the claims that are needed.
 ghost use Rattle.std.specs.Prelude.{◌≡◌, ◌≤◌, ◌<◌, ◌*◌, ◌^◌, IfOk};
 ghost use Rattle.std.specs.List.{AllByRecursion};
 ghost use Rattle.rbound.specs.Bounds.{numbers_in, no_wait, write_bound, read_bound, ask_bound, bound_by, bound_of_rise, bound_of_ask};
@@ -15,8 +15,8 @@ use rclaim::Claim;
 use rset::ResourceSet;
 use std::alloc::{AllocError, Global};
 
-/// What covers a wait at most: sections of which one goes on at each moment of it, no more of them than this and of no greater
-/// length in all. Others may hold the claim up beside these, but none of them alone.
+/// The most that covers a wait. At each moment of the wait one of the covering sections goes on; there are no more of them
+/// than this, and their lengths add up to no more. Other sections may hold the claim up too, but never on their own.
 #[derive(Clone, Copy, Debug, PartialEq, Eq)]
 pub struct Bound {
     /// The number of sections that count as reads.
@@ -28,7 +28,7 @@ pub struct Bound {
 }
 
 impl Bound {
-    /// The bound of what does not wait.
+    /// The bound of a claim that does not wait.
     pub fn no_wait() -> Bound
         ensures { numbers_in result ≡ no_wait }
     {
@@ -39,8 +39,8 @@ impl Bound {
         }
     }
 
-    /// The bound of what waits for one write and for one read at most, the longest of which have these lengths; for none, where
-    /// there is none.
+    /// The bound of a claim that waits for at most one write and one read, the longest of which have these lengths; None means
+    /// that there is no such write or read.
     pub fn one_of_each(write: Option<u32>, read: Option<u32>) -> Bound
         ensures { numbers_in result ≡ one_of_each write read }
     {
@@ -56,7 +56,7 @@ impl Bound {
 ///
 /// # Errors
 ///
-/// Want of memory.
+/// Out of memory.
 pub fn write_bound(
     alloc: Global,
     rows: &ZoneRows,

@@ -2,7 +2,7 @@
 ghost use Rattle.rbound.specs.Zones.{ZonesAreClosed};
 
 /// *Zones are closed*: the zone of some places has them all, and any claim that is needed and has a place in the zone has all
-/// its places there. It is the least such set: each other one has all places of the zone.
+/// its places there. It is the least such set: every other such set contains the zone.
 pub fn zones_are_closed()
     ensures { ZonesAreClosed }
 {}

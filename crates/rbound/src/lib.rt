@@ -1,4 +1,7 @@
 //! What tasks need, the zones of these needs, and the bounds of their waits.
+//!
+//! [`Needs`] are the requests and asks of each task, with the claims that they make. [`zone_of`] finds the zone of some
+//! places, and [`bound_of`] the [`Bound`] of a wait. Both look through all claims; `rbound_table` has tables for many bounds.
 #![tactic(auto)]
 
 mod bound;

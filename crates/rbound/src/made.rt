@@ -1,4 +1,4 @@
-// The claims that a request makes, and where they stand among those of all tasks.
+// The claims that a request makes, and their places among the claims of all tasks.
 ghost use Rattle.std.specs.Prelude.{◌≡◌, ◌≤◌, ◌<◌, ◌+◌, ◌-◌, ◌∷◌, ◌++◌, ℕ, List, IsTrue, length, take, drop, slice_index_or, option_to_list, vec_capacity};
 ghost use Rattle.std.specs.List.{insert, AllByRecursion};
 ghost use Rattle.rset.specs.Sets.{all_below};
@@ -11,7 +11,7 @@ use rclaim::{Claim, Kind, Request};
 use rmodel::Groups;
 use rset::ResourceSet;
 
-/// A read claim, or a write claim, of a request with this number of the task.
+/// A read claim, or a write claim, of the request with this number of a task.
 fn claim_of(
     groups: &Groups,
     write_half: bool,
@@ -40,7 +40,7 @@ fn claim_of(
     }
 }
 
-/// The claims of a request with this number of the task: one, or the two halves of an upgrade.
+/// The claims of the request with this number of a task: one, or the two halves of an upgrade.
 pub(crate) fn needed_of(
     groups: &Groups,
     task: u8,
@@ -100,7 +100,7 @@ pub(crate) fn place_behind(claims: &[Needed], task: u8) -> usize
     at
 }
 
-/// Puts a claim between the others, where there is room.
+/// Inserts a claim among the others, where there is room.
 fn insert_reserved(claims: &mut Vec<Needed>, at: usize, need: Needed)
     requires within { at ≤ length claims.old.items }
     requires room { length claims.old.items < vec_capacity claims.old }
@@ -110,7 +110,7 @@ fn insert_reserved(claims: &mut Vec<Needed>, at: usize, need: Needed)
     let _inserted = claims.insert(at, need);
 }
 
-/// Puts the claims of a request between the others, where there is room for two.
+/// Inserts the claims of a request among the others, where there is room for two.
 pub(crate) fn insert_needed(
     claims: &mut Vec<Needed>,
     at: usize,

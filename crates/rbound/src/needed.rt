@@ -1,7 +1,7 @@
 // A claim that is needed.
 use rclaim::Claim;
 
-/// A claim that a request of a task makes: its seat is the number of the task, its stamp that of the request in the task,
+/// A claim that a request of a task makes. Its seat is the number of the task, its stamp the number of the request in the task,
 /// counted from 0.
 #[derive(Clone, Copy)]
 pub struct Needed {

@@ -1,4 +1,4 @@
-// What tasks need, with the claims that this makes kept beside it.
+// What tasks need, and beside it the claims that this makes.
 ghost use Rattle.std.specs.Prelude.{◌≡◌, ◌≤◌, ◌<◌, ◌==◌, ◌&&◌, ◌∷◌, ℕ, Some, IfOk, IsOk, OnOk, OnErr, IsTrue, true, length, slice_get, option_to_list};
 ghost use Rattle.rset.specs.Sets.{all_below};
 ghost use Rattle.rbound.specs.Needs.{first_need, write_need};
@@ -22,7 +22,7 @@ use rset::ResourceSet;
 use std::alloc::{AllocError, Global};
 use std::marker::Model;
 
-/// What tasks need: for each task its requests in order, with the sets for which they ask.
+/// What tasks need: for each task its requests in order, with the sets that they ask for.
 #[derive(Drop)]
 pub struct Needs {
     groups: Groups,
@@ -44,11 +44,11 @@ impl Model for Needs {
 }
 
 impl Needs {
-    /// So many tasks that need nothing yet. Requests are over these groups.
+    /// This many tasks, which need nothing yet. Requests are over these groups.
     ///
     /// # Errors
     ///
-    /// Want of memory.
+    /// Out of memory.
     pub fn new(alloc: Global, groups: Groups, tasks: u8) -> Result<Needs, AllocError>
         ensures { IfOk result (λ needs. needs ≡ record { groups = groups; tasks = none_needed tasks }) }
     {
@@ -60,11 +60,11 @@ impl Needs {
         })
     }
 
-    /// Puts a request without asks behind the others of a task.
+    /// Adds a request without asks after the others of a task.
     ///
     /// # Errors
     ///
-    /// Want of memory. Nothing changes then.
+    /// Out of memory. Then nothing changes.
     pub fn push(&mut self, task: u8, request: Request) -> Result<(), AllocError>
         requires task { task < length self.old.tasks }
         requires reads { IsTrue (all_below self.old.groups.q request.reads) }
@@ -83,11 +83,11 @@ impl Needs {
         Ok(())
     }
 
-    /// Puts a set for which the last request of a task asks, which is nested, behind the others.
+    /// Adds a set that the last request of a task asks for, after its other asks. That request is nested.
     ///
     /// # Errors
     ///
-    /// Want of memory. Nothing changes then.
+    /// Out of memory. Then nothing changes.
     pub fn push_ask(&mut self, task: u8, set: ResourceSet) -> Result<(), AllocError>
         requires task { task < length self.old.tasks }
         requires nested { last_is_nested (requests_of self.old.tasks task) ≡ true }
@@ -139,7 +139,7 @@ impl Needs {
         &self.claims
     }
 
-    /// The claim of the request number `k` of a task that waits first: of an upgrade its read half, of others their one claim.
+    /// The claim of the request number `k` of a task that waits first: the read half of an upgrade, or the only claim.
     pub fn first_claim(&self, task: u8, k: usize) -> Needed
         requires task { task < length self.now.tasks }
         requires number { k < length (requests_of self.now.tasks task) }
@@ -159,7 +159,7 @@ impl Needs {
         write_among(first, second)
     }
 
-    /// The set for which the request number `k` of a task asks in its ask number `i`, where there is such an ask.
+    /// The set that the request number `k` of a task asks for in its ask number `i`, where there is such an ask.
     pub fn ask(&self, task: u8, k: usize, i: usize) -> Option<ResourceSet>
         requires task { task < length self.now.tasks }
         requires number { k < length (requests_of self.now.tasks task) }
@@ -169,7 +169,7 @@ impl Needs {
     }
 }
 
-/// The zone of some places: they and the places of all claims that are needed, joined as long as two of them share one. It
+/// The zone of some places: these and the places of all needed claims, joined as long as two of them share a place. It
 /// takes no memory.
 pub fn zone_of(needs: &Needs, claim_places: ResourceSet) -> ResourceSet
     ensures { result ≡ zone_of (needed_in needs.now) claim_places }
@@ -205,12 +205,12 @@ fn write_among(first: Needed, second: Option<Needed>) -> Option<Needed>
 }
 
 /// The bound of a wait of the request number `k` of a task, both counted from 0, where no more than `cap` requests may be
-/// incomplete. All claims are looked through for it. That of a rise is the bound of the request's write claim, of whatever kind
-/// the request is; where it has no write claim, or no ask of that number, all numbers are 0.
+/// incomplete. It looks through all claims. For a rise it is the bound of the request's write claim, whatever the kind of
+/// the request; where there is no write claim, or no ask of that number, all numbers are 0.
 ///
 /// # Errors
 ///
-/// Want of memory; never for an ask.
+/// Out of memory; never for an ask.
 pub fn bound_of(
     alloc: Global,
     needs: &Needs,

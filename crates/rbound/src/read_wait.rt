@@ -56,7 +56,7 @@ fn may_delay(needs: &[Needed], read: &Claim, need: &Needed) -> bool
     need.claim.seat != read.seat && holds_up_keeper(needs, read, &need.claim)
 }
 
-/// Whether it is a claim of another task that reads some of what the asker asks to write.
+/// Whether it is a claim of another task that reads some of what the asker wants to write.
 fn may_bar(claim: &Claim, part: ResourceSet, need: &Needed) -> bool
     ensures { result ≡ may_bar claim.now part need.now }
 {

@@ -7,14 +7,14 @@ use rclaim::{Kind, Request};
 use rset::ResourceSet;
 use std::alloc::{AllocError, Global};
 
-/// A request with the sets for which it asks, in order.
+/// A request with the sets that it asks for, in order.
 #[derive(Drop)]
 pub(crate) struct RequestAsks {
     pub(crate) request: Request,
     pub(crate) asks: Vec<ResourceSet>,
 }
 
-/// So many tasks without requests.
+/// This many tasks without requests.
 pub(crate) fn no_requests(alloc: Global, tasks: u8) -> Result<Vec<Vec<RequestAsks>>, AllocError>
     ensures made { IfOk result (λ made. tasks_in made.items ≡ none_needed tasks) }
     ensures len { IfOk result (λ made. length made.items ≡ tasks) }
@@ -26,7 +26,7 @@ pub(crate) fn no_requests(alloc: Global, tasks: u8) -> Result<Vec<Vec<RequestAsk
     Ok(made)
 }
 
-/// Puts a request without asks behind the others of a task.
+/// Adds a request without asks after the others of a task.
 pub(crate) fn push_request(
     alloc: Global,
     tasks: &mut Vec<Vec<RequestAsks>>,
@@ -45,7 +45,7 @@ pub(crate) fn push_request(
     Ok(())
 }
 
-/// Puts a set for which the last of these requests asks behind the others.
+/// Adds a set that the last of these requests asks for, after its other asks.
 fn push_last(requests: &mut Vec<RequestAsks>, part: ResourceSet) -> Result<(), AllocError>
     requires { 0 < length requests.old.items }
     ensures ok { OnOk result (map needs_in requests.new.items ≡ with_last_ask (map needs_in requests.old.items) part) }
@@ -57,7 +57,7 @@ fn push_last(requests: &mut Vec<RequestAsks>, part: ResourceSet) -> Result<(), A
     Ok(())
 }
 
-/// Puts a set for which the last request of a task asks behind the others.
+/// Adds a set that the last request of a task asks for, after its other asks.
 pub(crate) fn push_ask(
     tasks: &mut Vec<Vec<RequestAsks>>,
     task: usize,
@@ -98,7 +98,7 @@ pub(crate) fn kind_at(tasks: &[Vec<RequestAsks>], task: usize, number: usize) ->
     tasks[task][number].request.kind()
 }
 
-/// The sets for which a request asks.
+/// The sets that a request asks for.
 pub(crate) fn asks_at(tasks: &[Vec<RequestAsks>], task: usize, number: usize) -> &[ResourceSet]
     requires task { task < length tasks.now }
     requires number { number < length (requests_of (tasks_in tasks.now) task) }

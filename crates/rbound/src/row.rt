@@ -1,4 +1,4 @@
-// The greatest sum of so many of the write lengths of tasks, by a row of the greatest sums of fewer.
+// The greatest sum of at most a given number of the write lengths of tasks, from a row of the greatest sums of fewer.
 ghost use Rattle.std.specs.Prelude.{◌≡◌, ◌≤◌, ◌<◌, ◌*◌, ◌^◌, ℕ, IfOk, length, map, slice_index};
 ghost use Rattle.rbound.specs.Bounds.{largest, tasks_of};
 ghost use Rattle.rbound.specs.ZoneRows.{write_length_in};
@@ -7,7 +7,7 @@ ghost use Rattle.rbound.specs.Rows.{with_length, IsSmallRow};
 use crate::write_wait::write_length;
 use std::alloc::{AllocError, Global};
 
-/// Takes one more length into a row, from its last place down, so that each place still sees the old one before it.
+/// Takes one more length into a row, from its last place down, so that each place still sees the old value before it.
 fn take_length(row: &mut [u64], len: u32)
     requires some { 0 < length row.old }
     requires short { length row.old ≤ 256 }
@@ -23,7 +23,7 @@ fn take_length(row: &mut [u64], len: u32)
     }
 }
 
-/// The greatest sum of so many at most of the write lengths of all tasks.
+/// The greatest sum of at most this many of the write lengths of all tasks.
 pub(crate) fn largest_writes(
     alloc: Global,
     writes: &[Option<u32>],

@@ -1,4 +1,4 @@
-// What the claims of each task come to in a zone.
+// The longest claims of each task in a zone.
 ghost use Rattle.std.specs.Prelude.{◌≡◌, IfOk, None, fold, map, if◌then◌else◌};
 ghost use Rattle.std.specs.List.{range_with_len};
 ghost use Rattle.rbound.specs.Longest.{longer, longest};
@@ -10,14 +10,14 @@ use rmodel::is_upgrade;
 use rset::ResourceSet;
 use std::alloc::{AllocError, Global};
 
-/// Of each task, the longest of its claims in a zone.
+/// For each task, the longest of its claims in a zone.
 #[derive(Drop)]
 pub struct ZoneRows {
-    /// Of its write claims.
+    /// The longest of its write claims.
     pub writes: Vec<Option<u32>>,
-    /// Of its read claims.
+    /// The longest of its read claims.
     pub reads: Vec<Option<u32>>,
-    /// Of the claims of its upgrades.
+    /// The longest of the claims of its upgrades.
     pub upgrades: Vec<Option<u32>>,
 }
 
@@ -28,7 +28,7 @@ pub(crate) enum Sort {
     Writes,
     /// Read claims.
     Reads,
-    /// Those of upgrades.
+    /// Claims of upgrades.
     Upgrades,
 }
 
@@ -43,14 +43,14 @@ fn is_sort(sort: Sort, need: &Needed) -> bool
     }
 }
 
-/// Whether it is a claim of the task of this sort, in the zone.
+/// Whether it is a claim of the task, of this sort, in the zone.
 fn is_there_of(sort: Sort, zone: ResourceSet, task: u8, need: &Needed) -> bool
     ensures { result ≡ is_there_of sort zone task need.now }
 {
     need.claim.seat == task && (is_sort(sort, need) && need.claim.places.within(zone))
 }
 
-/// The longest of these.
+/// The longest of the task's claims of this sort in the zone.
 fn longest_there(needs: &[Needed], sort: Sort, zone: ResourceSet, task: u8) -> Option<u32>
     ensures { result ≡ longest (is_there_of sort zone task) needs.now }
 {
@@ -63,7 +63,7 @@ fn longest_there(needs: &[Needed], sort: Sort, zone: ResourceSet, task: u8) -> O
     })
 }
 
-/// The longest of these of each task.
+/// The same for each task.
 fn row_of(
     alloc: Global,
     needs: &[Needed],
@@ -94,7 +94,7 @@ pub(crate) fn rows_of(
     })
 }
 
-/// The length that a row has of a task.
+/// The length that a row has for a task.
 pub(crate) fn row_at(row: &[Option<u32>], task: u8) -> Option<u32>
     ensures { result ≡ row_at row.now task }
 {
@@ -104,7 +104,7 @@ pub(crate) fn row_at(row: &[Option<u32>], task: u8) -> Option<u32>
     }
 }
 
-/// The longest of a row but for that of one task.
+/// The longest of a row, leaving one task out.
 pub(crate) fn row_beside(row: &[Option<u32>], tasks: u8, me: u8) -> Option<u32>
     ensures { result ≡ beside tasks me (row_at row.now) }
 {

@@ -5,8 +5,8 @@
 pub enum Which {
     /// The wait that begins with its issue.
     First,
-    /// That of an upgrade that rises.
+    /// The wait of an upgrade that rises.
     Rise,
-    /// That of the ask with this number, counted from 0.
+    /// The wait of the ask with this number, counted from 0.
     Ask(usize),
 }

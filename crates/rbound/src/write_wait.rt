@@ -1,10 +1,10 @@
-// The numbers that bound the wait of a write claim of a task, by what the claims of each task come to in its zone.
+// The numbers that bound the wait of a write claim of a task, from the longest claims of each task in its zone.
 ghost use Rattle.std.specs.Prelude.{◌≡◌, ◌≤◌, ◌<◌, unwrap_or};
 ghost use Rattle.rbound.specs.ZoneRows.{beside, row_at, other_at, writers_in, writes_in, all_may_write_in, none_beside_in, reads_in, write_length_in};
 
 use crate::rows::{ZoneRows, row_at, row_beside};
 
-/// What another task than this one has in a row.
+/// The length of the task `other` in a row, unless it is this task.
 fn other_at(row: &[Option<u32>], task: u8, other: u8) -> Option<u32>
     ensures { result ≡ other_at row.now task other }
 {
@@ -24,7 +24,7 @@ fn writers(writes: &[Option<u32>], tasks: u8, task: u8) -> usize
         .count()
 }
 
-/// The writes: each other writer, but no more than may be incomplete beside the request itself.
+/// The writes: one for each other writer, but no more than may be incomplete beside the request itself.
 pub(crate) fn writes_of(rows: &ZoneRows, tasks: u8, cap: u8, task: u8) -> usize
     requires { 1 ≤ cap }
     ensures value { result ≡ writes_in rows.now.writes.items tasks cap task }
@@ -42,7 +42,7 @@ fn all_may_write(rows: &ZoneRows, tasks: u8, task: u8) -> bool
     })
 }
 
-/// Whether no other reader can be incomplete beside all writers that count, of which there are `writes`, and none is an
+/// Whether no other reader can be incomplete beside all writers that count, of which there are `writes`, and no writer is an
 /// upgrade.
 fn none_beside(rows: &ZoneRows, tasks: u8, cap: u8, task: u8, writes: usize) -> bool
     requires cap { 1 ≤ cap }
@@ -53,7 +53,7 @@ fn none_beside(rows: &ZoneRows, tasks: u8, cap: u8, task: u8, writes: usize) -> 
         && (writes == usize::from(cap - 1) || all_may_write(rows, tasks, task))
 }
 
-/// The reads, beside so many writes: none where no other task reads there; else one for each write, and one more unless no
+/// The reads beside this many writes: none where no other task reads there; otherwise one for each write, and one more unless no
 /// reader can be beside them.
 pub(crate) fn reads_of(rows: &ZoneRows, tasks: u8, cap: u8, task: u8, writes: usize) -> usize
     requires cap { 1 ≤ cap }
@@ -71,14 +71,14 @@ pub(crate) fn reads_of(rows: &ZoneRows, tasks: u8, cap: u8, task: u8, writes: us
     }
 }
 
-/// The longest length of another task's read claim there, 0 of none.
+/// The longest length of another task's read claim there, 0 if there is none.
 pub(crate) fn read_length(rows: &ZoneRows, tasks: u8, task: u8) -> u32
     ensures { result ≡ unwrap_or (beside tasks task (row_at rows.now.reads.items)) 0 }
 {
     row_beside(&rows.reads, tasks, task).unwrap_or(0)
 }
 
-/// The write length of another task than this one, 0 where it does not write there.
+/// The write length of the task `other`, 0 where it is this task or does not write there.
 pub(crate) fn write_length(writes: &[Option<u32>], task: u8, other: u8) -> u32
     ensures { result ≡ write_length_in writes.now task other }
 {

@@ -1,4 +1,4 @@
-// The zone of some places, found with no memory.
+// The zone of some places, found without memory.
 ghost use Rattle.std.specs.Prelude.{◌≡◌};
 ghost use Rattle.rbound.specs.Zones.{zone_of};
 ghost use Rattle.rbound.specs.Sweeps.{swept};
@@ -6,7 +6,7 @@ ghost use Rattle.rbound.specs.Sweeps.{swept};
 use crate::Needed;
 use rset::ResourceSet;
 
-/// The places, and those of each claim that shares one of them or of the claims taken before it.
+/// The places, with those of each claim that shares one of them or one of the claims taken before it.
 #[tactic(auto, unfolding(crate::specs::Sweeps::swept))]
 fn swept(needs: &[Needed], zone: ResourceSet) -> ResourceSet
     ensures { result ≡ swept needs.now zone }
@@ -20,7 +20,7 @@ fn swept(needs: &[Needed], zone: ResourceSet) -> ResourceSet
     })
 }
 
-/// The zone of some places among these needs: each sweep but the last takes a claim at least.
+/// The zone of some places among these needs. Each sweep but the last takes at least one claim.
 pub(crate) fn zone_among(needs: &[Needed], places: ResourceSet) -> ResourceSet
     ensures { result ≡ zone_of needs.now places }
 {

@@ -1,5 +1,5 @@
--- Claims that are alike: of each of one list the other has one that differs in no more than its stamp and is as long at least, and the other way round.
--- All that bounds tell is the same of both.
+-- Claims that are alike: for each claim of one list the other has one that differs only in its stamp and is at least as long, and the other way round.
+-- All bounds are the same for both.
 use Rattle.std.proofs.Common.{◌≡◌, ◌≤◌, ◌+◌, ◌*◌, ◌-◌, ◌&&◌, ◌||◌, ◌==◌, not, ℕ, Bool, true, false, cond, max, min, List, [], ◌∷◌, map, refl, sym, ap, subst, ◌∙◌, inl, inr, arith, le_antisymm}
 use Rattle.std.specs.List.{list_any, list_all, count_by}
 use Rattle.std.specs.FinSet.{empty, is_subset, intersection}
@@ -17,7 +17,7 @@ use Rattle.rbound.specs.Bounds.{greatest, largest, one_if, tasks_of, reads_there
 use Rattle.rbound.specs.Sound.{AreSound}
 use Rattle.rbound.proofs.ClosedZones.{zone_within, zones_are_closed}
 
--- they differ in no more than their stamps and lengths
+-- they differ only in their stamps and lengths
 pub record SameClaim (a b : Claim) : Type 0 where
   pub seat : a.seat ≡ b.seat
   pub kind : a.kind ≡ b.kind
@@ -29,14 +29,14 @@ pub record SameClaim (a b : Claim) : Type 0 where
 pub back : (a b : Claim) → SameClaim a b → SameClaim b a
 back a b s = record { seat = sym s.seat; kind = sym s.kind; half = sym s.half; reads = sym s.reads; writes = sym s.writes; places = sym s.places }
 
--- the list has such a claim, as long at least
+-- the list has such a claim, at least as long
 pub record HasLike (ms : List Needed) (n : Needed) : Type 0 where
   pub like : Needed
   pub there : Among like ms
   pub same : SameClaim n.claim like.claim
   pub long : n.len ≤ like.len
 
--- it has one of each of another list
+-- it has one for each claim of another list
 abbrev pub HasAll : List Needed → List Needed → Type 0
 HasAll ms ns = (n : Needed) → Among n ns → HasLike ms n
 
@@ -78,7 +78,7 @@ greatest_carried ns ms p q has carries =
     let most = not_above q ms h.like h.there (carries n h.like there h.there h.same pass) in
     omega (arith, h.long, most))
 
--- a test of the claim alone, but for its stamp
+-- a test that depends on the claim alone, without its stamp
 abbrev pub IsOfClaim : (Needed → Bool) → Type 0
 IsOfClaim p = (n m : Needed) → SameClaim n.claim m.claim → p n ≡ p m
 
@@ -146,7 +146,7 @@ module _ (ns ms : List Needed) (there : HasAll ms ns) (here : HasAll ns ms) wher
       bars : (e : Claim) → IsOfClaim (may_bar e part)
       bars e n m s = (λ i. not (s.seat i == e.seat) && meets (s.reads i) (intersection part e.writes))
 
--- ---- what each list carries to the other
+-- ---- from each list to the other
 
 -- all pass where each does
 all_passing : (p : Needed → Bool) (xs : List Needed) → ((x : Needed) → Among x xs → p x ≡ true) → list_all p xs ≡ true
@@ -190,7 +190,7 @@ keeps : (r : Claim) → IsOfClaim (may_keep r)
 keeps r n m s =
     (λ i. s.half i && not (s.seat i == r.seat) && ((meets r.reads (s.writes i) || meets r.writes (s.writes i)) || (meets (s.reads i) r.writes || meets (s.writes i) r.writes)))
 
--- what a claim reads that conflicts with a read claim is what it writes
+-- a claim conflicts with a read claim by what it writes
 conflict_by_writes : (r v w : Claim) → r.writes ≡ empty → w.writes ≡ v.writes → conflicts v r ≡ true → conflicts w r ≡ true
 conflict_by_writes r v w none same h =
     or_left (touches r w.writes) (touches w r.writes)
@@ -201,7 +201,7 @@ conflict_by_writes r v w none same h =
     by false g = g
 
 module _ (tasks : ℕ) (ns ms : List Needed) (there : HasAll ms ns) (here_sound : AreSound ns tasks) (there_sound : AreSound ms tasks) (r : Claim) (none : r.writes ≡ empty) where
-  -- a write that the claim of one list holds up has one in the other that the claim there holds up
+  -- for a write that the claim of one list holds up, the other list has a write that the claim there holds up
   held_up : (n m v : Needed) → Among n ns → Among m ms → SameClaim n.claim m.claim → not (n.claim.seat == r.seat) ≡ true → Among v ns → may_keep r v ≡ true → can_hold_up n.claim v.claim ≡ true
       → list_any (λ w. may_keep r w && can_hold_up m.claim w.claim) ms ≡ true
   held_up n m v in_ns in_ms same apart beside keep hold =

@@ -1,4 +1,4 @@
--- What is known of each seat's last request, once one event more came.
+-- What is known of each seat's last request after one more event.
 use Rattle.std.proofs.Common.{◌≡◌, ◌<◌, ◌⊎◌, inl, inr, ℕ, zero, suc, ◌==◌, Bool, true, false, cond, List, [], ◌∷◌, ◌++◌, length, slice_get, slice_set, Option, Some, None, refl, sym, ap, subst, ◌∙◌, arith, length-set}
 use Rattle.std.specs.List.{position_or_len}
 use Rattle.std.proofs.lemmas.Bool.{eq-eqb, eqb-true}
@@ -43,16 +43,16 @@ set_push t es e = fold_push (later_set t) None es e
 abbrev pub last_by : List Event → ℕ → Last
 last_by es seat = record { place = place_of es seat; ask = ask_of es seat }
 
--- the same by shapes, a request and a set
+-- the same from shapes, a request and a set
 abbrev last_in : List Shape → ℕ → Option RequestFields → Option Set → Last
 last_in shapes seat r part = record { place = place_among shapes seat r; ask = ask_among shapes seat r part }
 
 last_parts : (ds : List Event) (seat : ℕ) (shapes : List Shape) (r : Option RequestFields) (part : Option Set) → shapes_told ds ≡ shapes → last_issue seat ds ≡ r → last_set seat ds ≡ part → last_by ds seat ≡ last_in shapes seat r part
 last_parts ds seat shapes r part told issue set i = last_in (told i) seat (issue i) (set i)
 
--- ---- one request more
+-- ---- one more request
 
--- of its seat
+-- at its seat
 issue_here : (es : List Event) (seat : ℕ) (r : RequestFields) → last_by (es ++ Issue seat r ∷ []) seat ≡ record { place = shape_index (shapes_told es) seat r; ask = 0 }
 issue_here es seat r =
     let ds = es ++ Issue seat r ∷ [] in
@@ -61,7 +61,7 @@ issue_here es seat r =
     (set_push seat es (Issue seat r) ∙ ap (λ b. cond b None (last_set seat es)) here)
     ∙ ap (λ p. let l : Last = record { place = p; ask = 0 } in l) (place_now (shapes_told es) seat (record { request = r; asks = [] }))
 
--- shapes with one request more keep what is known of a seat
+-- shapes with one more request keep what is known of a seat
 issue_keeps : (shapes : List Shape) (seat : ℕ) (q : RequestFields) (t : ℕ) (r : Option RequestFields) (part : Option Set) → ((p : RequestFields) → r ≡ Some p → is_known shapes t p ≡ true) → last_in (with_shape shapes seat q) t r part ≡ last_in shapes t r part
 issue_keeps shapes seat q t None part known = refl
 issue_keeps shapes seat q t (Some p) None known = ap (λ k. let l : Last = record { place = k; ask = 0 } in l) (place_still shapes t p seat (record { request = q; asks = [] }) (known p refl))
@@ -70,7 +70,7 @@ issue_keeps shapes seat q t (Some p) (Some part) known =
     let asks = (λ i. position_or_len (equals part) (parts_of (with_shape shapes seat q) (place i))) ∙ ap (position_or_len (equals part)) (parts_still shapes seat q (shape_index shapes t p)) in
     λ i. record { place = place i; ask = asks i }
 
--- of another seat
+-- at another seat
 issue_elsewhere : (es : List Event) (seat : ℕ) (r : RequestFields) (t : ℕ) → (seat == t) ≡ false → last_by (es ++ Issue seat r ∷ []) t ≡ last_by es t
 issue_elsewhere es seat r t other =
     last_parts (es ++ Issue seat r ∷ []) t (with_shape (shapes_told es) seat r) (last_issue t es) (last_set t es) (shapes_issue es seat r)
@@ -96,7 +96,7 @@ knows_issue old new seats es seat r below known shapes last = record {
         ∙ ap (λ k. Some (last_by (es ++ Issue seat r ∷ []) k)) same
     at t there false other = set_elsewhere old.last.items seat t _ other ∙ known.last t there ∙ ap (λ l. Some l) (sym (issue_elsewhere es seat r t other))
 
--- ---- one ask more
+-- ---- one more ask
 
 ask_here : (es : List Event) (seat : ℕ) (part : Set) (r : RequestFields) → last_issue seat es ≡ Some r
     → last_by (es ++ Ask seat part ∷ []) seat ≡ record { place = shape_index (shapes_told es) seat r; ask = ask_index (shapes_told es) (shape_index (shapes_told es) seat r) part }
@@ -158,7 +158,7 @@ knows_ask old new seats es seat part r below is known with_shapes with_last =
         ∙ ap (λ k. Some (last_by (es ++ Ask seat part ∷ []) k)) same
     at t there false other = set_elsewhere old.last.items seat t _ other ∙ known.last t there ∙ ap (λ l. Some l) (sym (ask_elsewhere es seat part r t is other))
 
--- ---- nothing more
+-- ---- events that change nothing
 
 knows_finish : (needs : GrowingNeeds) (seats : ℕ) (es : List Event) (seat : ℕ) → Knows needs seats es → Knows needs seats (es ++ Finish seat ∷ [])
 knows_finish needs seats es seat known = record {

@@ -1,4 +1,4 @@
--- What tasks need, as shapes are put there one after another.
+-- What tasks need, as shapes are added one after another.
 use Rattle.std.proofs.Common.{◌≡◌, ◌<◌, ◌≤◌, ◌+◌, ◌-◌, ◌||◌, ℕ, zero, suc, true, false, cond, List, [], ◌∷◌, ◌++◌, map, length, take, replicate, get_or, IsTrue, refl, sym, ap, subst, ◌∙◌, arith, append_assoc, length-append, eq-eqb, slice_get, Some, Result, Ok, Err, OnOk}
 use Rattle.std.specs.List.{AllByRecursion}
 use Rattle.std.proofs.lemmas.List.{append-nil, take_more, take_all, length-replicate}
@@ -130,7 +130,7 @@ asks_none s may plain = at s.asks (ap (λ b. b || is_none s.asks) (sym plain) �
     at [] h = refl
     at (x ∷ xs) h = contrary false h refl
 
--- what is put of a shape, where it is nested and where not
+-- what is added for a shape, whether or not it is nested
 pub nested_put : (first : TaskNeeds) (s : Shape) (parts : List Set) → parts ≡ s.asks
     → record first { tasks = with_asks (with_request first.tasks s.task s.request) s.task parts } ≡ record first { tasks = with_requests first.tasks s.task (requests_of_shapes (s ∷ []) s.task) }
 nested_put first s parts is =
@@ -157,7 +157,7 @@ put_long [] task xs = refl
 put_long (ns ∷ rest) zero xs = refl
 put_long (ns ∷ rest) (suc task) xs = ap suc (put_long rest task xs)
 
--- the first of these requests are put behind what a task needs
+-- the first of these requests were added to what a task needs
 pub record HasPut (first now : TaskNeeds) (task : ℕ) (rs : List RequestNeeds) (i : ℕ) : Type 0 where
   pub is : now ≡ record first { tasks = with_requests first.tasks task (take i rs) }
 
@@ -179,7 +179,7 @@ puts_more first now then task rs i x less at so is = record {
       ∙ ap (with_requests first.tasks task) (ap (λ y. take i rs ++ y ∷ []) (sym (get_or_from_slice_get rs i x x at)) ∙ sym (take_more rs i x less)));
 }
 
--- what is put of an entry is what is put of its shape
+-- what is added for an entry is what is added for its shape
 pub shape_is : (now : TaskNeeds) (task : ℕ) (x s : Shape) → x ≡ s → s.task ≡ task
     → record now { tasks = with_requests now.tasks x.task (requests_of_shapes (x ∷ []) x.task) } ≡ record now { tasks = with_requests now.tasks task (request_of s ∷ []) }
 shape_is now task x s is of =
@@ -192,7 +192,7 @@ puts_all first now task rs i all so = so.is ∙ ap (λ xs. record first { tasks 
 pub puts_within : (first now : TaskNeeds) (task : ℕ) (rs : List RequestNeeds) (i : ℕ) → task < length first.tasks → HasPut first now task rs i → task < length now.tasks
 puts_within first now task rs i within so = subst (λ (n : TaskNeeds). task < length n.tasks) (sym so.is) (omega (arith, within, put_long first.tasks task (take i rs)))
 
--- what holds of each shape holds of that of an entry
+-- what holds for each shape holds for the shape of an entry
 pub of_entry : (P : Shape → Type 0) (es : List Entry) (i : ℕ) (x : Entry) → AllByRecursion P (shapes_in es) → i < length es → x ≡ get_or es i x → P (shape_in x)
 of_entry P [] i x all less at = absurd (omega arith)
 of_entry P (e ∷ es) zero x all less at = subst (λ (y : Entry). P (shape_in y)) (sym at) all.0

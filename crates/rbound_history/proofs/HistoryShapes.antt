@@ -20,7 +20,7 @@ use Rattle.rbound_history.proofs.ShapeRequests.{task_there}
 use Rattle.rbound_history.proofs.ShapesGrow.{WithOne, told_alike, told_more}
 use Rattle.rbound_history.specs.History.{Issued, issued_in, with_issued, shapes_told}
 
--- a request of a seat is one of these
+-- a request of a seat is among these
 abbrev IsAmong : List Issued → ℕ → RequestNeeds → Type 0
 IsAmong xs t m = Among (record { seat = t; needs = m }) xs
 
@@ -85,7 +85,7 @@ as_many seats es = length-map-range_with_len (λ task. history.requests_of task 
 
 -- ---- accepted events
 
--- a request is of a seat that there is, in normal form and within the resources
+-- a request is of an existing seat, in normal form and within the resources
 record IsGoodIssue (q seats : ℕ) (one : Issued) : Type 0 where
   seated : one.seat < seats
   fine : IsFine q one.needs.request
@@ -152,6 +152,6 @@ seated_over : (q seats : ℕ) (xs : List Issued) (shapes : List Shape) → AllBy
 seated_over q seats [] shapes seated good = seated
 seated_over q seats (x ∷ xs) shapes seated good = seated_over q seats xs (with_issued shapes x) (seated_with seats shapes x.seat x.needs seated good.0.seated) good.1
 
--- each is of a seat that there is
+-- each is of an existing seat
 pub shapes_seated : (s : LockState) (es : List Event) → AreAccepted s es → AllByRecursion (λ (x : Shape). x.task < s.seats) (shapes_told es)
 shapes_seated s es accepted = seated_over s.groups.q s.seats (issued_in es) [] tt (good_issues s es accepted)

@@ -1,4 +1,4 @@
--- What the events so far tell of each claim: its request is the last one of its seat, and its asks.
+-- What the events so far say about each claim: its request, which is the last one of its seat, and its asks.
 use Rattle.std.proofs.Common.{◌≡◌, ℕ, ◌==◌, Bool, true, false, not, ◌&&◌, cond, List, [], ◌∷◌, ◌++◌, map, Some, refl, sym, ap, subst, ◌∙◌, inl, inr, arith, append_assoc}
 use Rattle.std.proofs.lemmas.Bool.{eq-eqb}
 use Rattle.std.proofs.lemmas.List.{append-nil}
@@ -33,14 +33,14 @@ pub record IsOfLast (past : List Event) (c : Claim) (r : RequestFields) : Type 0
   pub at : (rest : List Event) → IsIssueAt (past ++ rest) c.stamp c.seat r
   pub kind : c.kind ≡ r.kind
 
--- they tell its request, and the asks of it so far
+-- they give its request, and the asks of it so far
 pub record IsKnown (past : List Event) (x : Claimed) : Type 0 where
   pub request : (r : RequestFields) × IsOfLast past x.claim r
   pub asks : asks.IsKnown past x
 
 -- ---- from one event to the next
 
--- a claim that was there, once an event comes that is no issue of its seat
+-- a claim that was there, after an event that is not an issue of its seat
 pub of_last_on : (past : List Event) (e : Event) (c : Claim) (r : RequestFields) → is_issue_of c.seat e ≡ false → IsOfLast past c r → IsOfLast (past ++ e ∷ []) c r
 of_last_on past e c r off was = record {
   last = issue_push c.seat past e ∙ same e off ∙ was.last;
@@ -54,7 +54,7 @@ of_last_on past e c r off was = record {
     same (Rise seat) off = refl
     same (Ask seat part) off = refl
 
--- and that asks for what it asked for
+-- and that asks for what it asked for before
 pub known_on : (past : List Event) (e : Event) (x : Claimed) → IsKnown past x → is_issue_of x.claim.seat e ≡ false → more_asked x.claim.seat (asked_since x.claim.seat past) e ≡ asked_since x.claim.seat past → IsKnown (past ++ e ∷ []) x
 known_on past e x known off same = record {
   request = (known.request.0, of_last_on past e x.claim known.request.0 off known.request.1);
@@ -86,7 +86,7 @@ of_new past s seat r x counted new kind = record {
 
 -- ---- from the first event on
 
--- they tell the request of a claim
+-- they give the request of a claim
 abbrev HasRequest : List Event → Claim → Type 0
 HasRequest past c = (r : RequestFields) × IsOfLast past c r
 
@@ -133,7 +133,7 @@ have_after past s (e ∷ es) reached accepted have =
     subst (λ (ds : List Event). HaveRequests ds (after (next s e) es)) (append_assoc past (e ∷ []) es)
     (have_after (past ++ e ∷ []) (next s e) es (reached_next s e reached accepted.0) accepted.1 (have_next past s e reached accepted.0 have))
 
--- *Of each claim the events so far tell its request and its asks*
+-- *The events so far give the request and the asks of each claim*
 pub known_claims : (groups : ReadGroups) (seats cap : ℕ) (es : List Event) → AreAccepted (opening groups seats cap) es → (x : Claimed) → Among x (after (opening groups seats cap) es).claims → IsKnown es x
 known_claims groups seats cap es accepted x there = record {
   request = (have_after [] (opening groups seats cap) es (reached_opening groups seats cap) accepted (record { counted = refl; each = λ y none. absurd none })).each x there;

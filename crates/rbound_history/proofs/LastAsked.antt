@@ -1,4 +1,4 @@
--- The last set for which a seat asked, by a list of events.
+-- The last set that a seat asked for, in a list of events.
 use Rattle.std.proofs.Common.{◌≡◌, ℕ, ◌==◌, Bool, true, false, cond, List, [], ◌∷◌, ◌++◌, fold, Option, Some, None, refl, sym, ap, ◌∙◌}
 use Rattle.rset.specs.Sets.{Set}
 use Rattle.rclaim.specs.declared.event.Event.{Event}
@@ -12,7 +12,7 @@ last_of [] = None
 last_of (x ∷ []) = Some x
 last_of (x ∷ y ∷ xs) = last_of (y ∷ xs)
 
--- the last of the sets for which a seat asked since its last issue
+-- the last of the sets that a seat asked for since its last issue
 pub last_asked : (task : ℕ) (before : List Set) (part : Set) (es : List Event) → asked_since task es ≡ before ++ part ∷ [] → last_set task es ≡ Some part
 last_asked task before part es is = sym (as_last task [] None es refl) ∙ ap last_of is ∙ last_behind before part
   where

@@ -18,7 +18,7 @@ use Rattle.rbound_history.proofs.RequestPlaces.{is_known}
 
 -- ---- a shape
 
--- a shape became another: it is that of the same requests, and asks for more sets behind the others
+-- a shape became another: it is that of the same requests, and may ask for more sets after the others
 pub record HasBecome (s x : Shape) : Type 0 where
   pub task : x.task ≡ s.task
   pub has : (t : ℕ) (r : RequestFields) → has_shape t r x ≡ has_shape t r s

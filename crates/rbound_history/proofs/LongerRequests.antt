@@ -7,7 +7,7 @@ use Rattle.std.specs.FinSet.{union}
 use Rattle.rclaim.specs.declared.request.Kind.{Kind}
 use Rattle.rclaim.specs.declared.request.Kind.TheVariants.{Read, Write, Mixed, Upgrade, Nested}
 
--- what is in normal form stays so, whatever its lengths are
+-- a request in normal form stays in normal form, whatever its lengths are
 pub longer_made : (k : Kind) (reads writes first : Set) (len later other : ℕ) → FitsKind k reads writes → FitsFirst k (union reads writes) first → FitsLater k later → FitsLater k other
     → normalised k reads writes first len (max later other) ≡ record { kind = k; reads = reads; writes = writes; first = first; len = len; later = max later other }
 longer_made Read reads writes first len later other sets fits a b =

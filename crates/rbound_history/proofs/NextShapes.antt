@@ -1,4 +1,4 @@
--- What a caller knows of shapes once they have grown.
+-- What a caller knows of shapes after they have grown.
 use Rattle.std.proofs.Common.{◌≡◌, ◌<◌, ◌≤◌, ◌+◌, not, ℕ, zero, suc, Bool, true, false, cond, List, [], ◌∷◌, length, IsTrue, refl, sym, ap, ◌∙◌, arith}
 use Rattle.rset.specs.Sets.{Set, all_below}
 use Rattle.rmodel.specs.Claims.{is_nested}
@@ -8,9 +8,9 @@ use Rattle.rbound_history.specs.Shapes.{Shape, has_shape, joined, with_needed, s
 use Rattle.rbound_history.specs.ShapeNeeds.{AreBelow}
 use Rattle.rbound_history.proofs.SameShapes.{is_of}
 
--- ---- sets that lie below
+-- ---- sets that are below q
 
--- with a request whose sets lie below
+-- with one more request whose sets are below q
 pub below_more : (q : ℕ) (shapes : List Shape) (t : ℕ) (n : RequestNeeds) → AreBelow q shapes → IsTrue (all_below q n.request.reads) → IsTrue (all_below q n.request.writes) → AreBelow q (with_needed shapes t n)
 below_more q [] t n below reads writes = ((reads, writes), tt)
 below_more q (s ∷ ss) t n below reads writes = at (has_shape t n.request s) (below_more q ss t n below.1 reads writes)
@@ -19,7 +19,7 @@ below_more q (s ∷ ss) t n below reads writes = at (has_shape t n.request s) (b
     at true rest = (below.0, below.1)
     at false rest = (below.0, rest)
 
--- with one ask more
+-- with one more ask
 pub below_asked : (q : ℕ) (shapes : List Shape) (place : ℕ) (part : Set) → AreBelow q shapes → AreBelow q (with_shape_ask shapes place part)
 below_asked q [] place part below = tt
 below_asked q (s ∷ ss) zero part below = (below.0, below.1)
@@ -27,7 +27,7 @@ below_asked q (s ∷ ss) (suc place) part below = (below.0, below_asked q ss pla
 
 -- ---- nested requests
 
--- the shape of a request is of nested requests where the request is
+-- the shape of a request is nested where the request is
 pub nested_new : (shapes : List Shape) (t : ℕ) (n : RequestNeeds) → is_nested_at (with_needed shapes t n) (shape_index shapes t n.request) ≡ is_nested n.request.kind
 nested_new [] t n = refl
 nested_new (s ∷ ss) t n = at (has_shape t n.request s) refl (nested_new ss t n)
@@ -40,7 +40,7 @@ nested_new (s ∷ ss) t n = at (has_shape t n.request s) refl (nested_new ss t n
     at true has rest = ap is_nested (sym (is_of t n.request s has).alike.kind)
     at false apart rest = ap (is_nested_at (s ∷ with_needed ss t n)) (next (shape_index ss t n.request)) ∙ rest
 
--- and it stays so
+-- and it stays nested
 pub nested_stays : (shapes : List Shape) (t : ℕ) (n : RequestNeeds) (place : ℕ) → is_nested_at shapes place ≡ true → is_nested_at (with_needed shapes t n) place ≡ true
 nested_stays [] t n place nested = contrary false nested refl
 nested_stays (s ∷ ss) t n zero nested = at (has_shape t n.request s)

@@ -1,4 +1,4 @@
--- The requests that a history issues, and their shapes, once one event more came.
+-- The requests that a history issues, and their shapes, after one more event.
 use Rattle.std.proofs.Common.{◌≡◌, ℕ, ◌==◌, Bool, true, false, cond, ◌⊎◌, inl, inr, List, [], ◌∷◌, ◌++◌, fold, Option, Some, None, refl, sym, ap, subst, ◌∙◌}
 use Rattle.std.proofs.lemmas.Bool.{eq-eqb, eqb-true}
 use Rattle.std.proofs.lemmas.List.{append-nil}
@@ -57,7 +57,7 @@ asks_same t es ds none = asks_append t es ds ∙ at (has_issue t es)
     at true = refl
     at false = ap (λ (parts : List Set). asks_of t es ++ parts) none ∙ append-nil (asks_of t es)
 
--- ---- an event that is no ask
+-- ---- an event that is not an ask
 
 issued_append : (es ds : List Event) → ((t : ℕ) → asks_of t ds ≡ []) → issued_in (es ++ ds) ≡ issued_in es ++ issued_in ds
 issued_append [] ds none = refl
@@ -136,7 +136,7 @@ last_known t es r is = known_from t es [] None r (some_issue t es r is) is
 
 -- ---- an ask
 
--- of a seat that issued nothing
+-- an ask of a seat that issued nothing
 ask_none : (es : List Event) (seat : ℕ) (part : Set) → has_issue seat es ≡ false → issued_in (es ++ Ask seat part ∷ []) ≡ issued_in es
 ask_none [] seat part none = refl
 ask_none (Issue t q ∷ es) seat part none = at (t == seat) refl none (ask_none es seat part)
@@ -151,7 +151,7 @@ ask_none (Finish t ∷ es) seat part none = ask_none es seat part none
 ask_none (Rise t ∷ es) seat part none = ask_none es seat part none
 ask_none (Ask t p ∷ es) seat part none = ask_none es seat part none
 
--- an ask goes through requests of others
+-- an ask does not depend on requests of others
 ask_through : (es : List Event) (shapes : List Shape) (t : ℕ) (r : RequestFields) (part : Set) → has_issue t es ≡ false → is_known shapes t r ≡ true
     → fold with_issued (with_shape_ask shapes (shape_index shapes t r) part) (issued_in es) ≡ with_shape_ask (fold with_issued shapes (issued_in es)) (shape_index shapes t r) part
 ask_through [] shapes t r part none known = refl
@@ -170,7 +170,7 @@ ask_through (Finish u ∷ es) shapes t r part none known = ask_through es shapes
 ask_through (Rise u ∷ es) shapes t r part none known = ask_through es shapes t r part none known
 ask_through (Ask u p ∷ es) shapes t r part none known = ask_through es shapes t r part none known
 
--- what an ask behind some events makes of any shapes
+-- what an ask after some events does to any shapes
 abbrev AskRest : List Event → ℕ → RequestFields → Set → Type 0
 AskRest es t r part =
     (ss : List Shape) (l : Option RequestFields) → has_issue t es ≡ true → fold (later_issue t) l es ≡ Some r
@@ -187,7 +187,7 @@ ask_last (Issue u q ∷ es) shapes t last r part some is = at (u == t) refl some
         → fold with_issued (with_needed shapes u (record { request = q; asks = asks_of u (es ++ Ask t part ∷ []) })) (issued_in (es ++ Ask t part ∷ [])) ≡ with_shape_ask (fold with_issued (request_came shapes u q es) (issued_in es)) (shape_index (fold with_issued (request_came shapes u q es) (issued_in es)) t r) part
     kept same l some is rest = ap (λ (asks : List Set). fold with_issued (with_needed shapes u (record { request = q; asks = asks })) (issued_in (es ++ Ask t part ∷ []))) same ∙ rest (request_came shapes u q es) l some is
 
-    -- the request asks for one set (es ++ Ask t part ∷ []), since its seat issues no other
+    -- the request asks for one more set, because its seat issues no other request
     longer : (u == t) ≡ true → has_issue t es ≡ false → q ≡ r
         → fold with_issued (with_needed shapes u (record { request = q; asks = asks_of u (es ++ Ask t part ∷ []) })) (issued_in (es ++ Ask t part ∷ [])) ≡ with_shape_ask (fold with_issued (request_came shapes u q es) (issued_in es)) (shape_index (fold with_issued (request_came shapes u q es) (issued_in es)) t r) part
     longer here none same =
@@ -225,7 +225,7 @@ shapes_ask es seat part r is = ask_last es [] seat None r part (some_issue seat 
 pub shapes_ask_none : (es : List Event) (seat : ℕ) (part : Set) → has_issue seat es ≡ false → shapes_told (es ++ Ask seat part ∷ []) ≡ shapes_told es
 shapes_ask_none es seat part none = ap (λ xs. fold with_issued [] xs) (ask_none es seat part none)
 
--- a seat has a last request, or it issued none
+-- a seat has a last request, or it issued no request
 pub issue_or_none : (t : ℕ) (es : List Event) → ((r : RequestFields) × (last_issue t es ≡ Some r)) ⊎ (has_issue t es ≡ false)
 issue_or_none t es = both_cases (has_issue t es) (λ some. inl (found es None some)) (λ none. inr none)
   where

@@ -1,4 +1,4 @@
--- What bounds of a whole history find by the key of a wait.
+-- What the bounds of a whole history find by the key of a wait.
 use Rattle.std.proofs.Common.{◌≡◌, ◌<◌, ℕ, List, ◌++◌, length, slice_index_or, sym, ap, subst, ◌∙◌, arith}
 use Rattle.std.proofs.lemmas.List.FromFn.{get_or-map-range_with_len, length-map-range_with_len}
 use Rattle.rexpand.specs.Groups.{ReadGroups}

@@ -1,4 +1,4 @@
--- Where the shape of a request stands, and the sets for which it asks, once one request or one ask more came.
+-- The place of the shape of a request, and the sets that it asks for, after one more request or ask.
 use Rattle.std.proofs.Common.{◌≡◌, ◌+◌, ◌==◌, ◌&&◌, ◌||◌, ℕ, zero, suc, Bool, true, false, cond, not, eqb, List, [], ◌∷◌, ◌++◌, length, refl, sym, ap, subst, ◌∙◌, arith}
 use Rattle.std.specs.List.{list_any, position_or_len}
 use Rattle.std.proofs.lemmas.Bool.{eq-eqb, eqb-true}
@@ -12,19 +12,19 @@ use Rattle.rbound.specs.Needs.{RequestNeeds}
 use Rattle.rbound_history.specs.Shapes.{Shape, same_shape, has_shape, with_part, shape_of, joined, with_needed, with_shape, with_shape_ask, shape_index, parts_of}
 use Rattle.rbound_history.proofs.SameShapes.{is_of, of_shape}
 
--- some shape has this request of a task
+-- some shape is that of this request of a task
 abbrev pub is_known : List Shape → ℕ → RequestFields → Bool
 is_known shapes t r = list_any (has_shape t r) shapes
 
 next : (p : ℕ) → 1 + p ≡ suc p
 next p = omega arith
 
--- ---- one request more
+-- ---- one more request
 
 itself : (t : ℕ) (n : RequestNeeds) → has_shape t n.request (shape_of t n) ≡ true
 itself t n = of_shape t n.request (shape_of t n) (record { task = refl; alike = record { kind = refl; reads = refl; writes = refl; first = refl } })
 
--- it is known then
+-- then it is known
 pub known_now : (shapes : List Shape) (t : ℕ) (n : RequestNeeds) → is_known (with_needed shapes t n) t n.request ≡ true
 known_now [] t n = ap (λ b. b || false) (itself t n)
 known_now (y ∷ ss) t n = at (has_shape t n.request y) refl (known_now ss t n)
@@ -33,7 +33,7 @@ known_now (y ∷ ss) t n = at (has_shape t n.request y) refl (known_now ss t n)
     at true has rest = ap (λ b. b || is_known ss t n.request) has
     at false apart rest = ap (λ b. b || is_known (with_needed ss t n) t n.request) apart ∙ rest
 
--- what was known stays so
+-- what was known stays known
 pub known_still : (shapes : List Shape) (t : ℕ) (r : RequestFields) (u : ℕ) (m : RequestNeeds) → is_known shapes t r ≡ true → is_known (with_needed shapes u m) t r ≡ true
 known_still [] t r u m known = contrary false known refl
 known_still (y ∷ ss) t r u m known = at (has_shape u m.request y) (known_still ss t r u m)
@@ -81,7 +81,7 @@ parts_still (y ∷ ss) u r place = at (has_shape u r y) place (parts_still ss u 
     at false zero rest = refl
     at false (suc place) rest = rest place
 
--- ---- one ask more
+-- ---- one more ask
 
 pub ask_place : (shapes : List Shape) (place : ℕ) (part : Set) (t : ℕ) (r : RequestFields) → shape_index (with_shape_ask shapes place part) t r ≡ shape_index shapes t r
 ask_place [] place part t r = refl
@@ -111,13 +111,13 @@ number_now asks part = at (list_any (equals part) asks)
         ∙ behind (eqb (position_or_len (equals part) asks) (length asks))
         ∙ seam (position_or_len (equals part) asks) (length asks)
 
--- a shape is at a place, and what it is for others
+-- there is a shape at this place, and it is not that of this request
 abbrev pub IsApartAt : List Shape → ℕ → ℕ → RequestFields → Type 0
 IsApartAt [] place u r = ⊥
 IsApartAt (s ∷ ss) zero u r = has_shape u r s ≡ false
 IsApartAt (s ∷ ss) (suc place) u r = IsApartAt ss place u r
 
--- at the place of one task's shape there is none of another
+-- at the place of one task's shape there is no shape of another task
 pub apart_at : (shapes : List Shape) (t : ℕ) (r : RequestFields) (u : ℕ) (q : RequestFields) → (u == t) ≡ false → is_known shapes t r ≡ true → IsApartAt shapes (shape_index shapes t r) u q
 apart_at [] t r u q other known = contrary false known refl
 apart_at (y ∷ ss) t r u q other known = at (has_shape t r y) refl known (apart_at ss t r u q other)
@@ -126,7 +126,7 @@ apart_at (y ∷ ss) t r u q other known = at (has_shape t r y) refl known (apart
     at true has is rest = ap (λ s. (u == s) && same_shape q y.request) (sym (is_of t r y has).task) ∙ ap (λ b. b && same_shape q y.request) other
     at false apart is rest = subst (λ p. IsApartAt (y ∷ ss) p u q) (sym (next (shape_index ss t r))) (rest is)
 
--- the ask of a shape and a request of another one may be taken in any order
+-- an ask of one shape and a request of another may be taken in any order
 pub ask_apart : (shapes : List Shape) (place : ℕ) (part : Set) (u : ℕ) (m : RequestNeeds) → IsApartAt shapes place u m.request → with_needed (with_shape_ask shapes place part) u m ≡ with_shape_ask (with_needed shapes u m) place part
 ask_apart [] place part u m apart = absurd apart
 ask_apart (y ∷ ss) zero part u m apart =
@@ -138,7 +138,7 @@ ask_apart (y ∷ ss) (suc place) part u m apart = at (has_shape u m.request y) (
     at true rest = refl
     at false rest = ap (λ xs. y ∷ xs) rest
 
--- a request with one ask more is the request, and then the ask of its shape
+-- a request with one more ask is the same as the request, and then the ask of its shape
 pub ask_behind : (shapes : List Shape) (t : ℕ) (r : RequestFields) (asks : List Set) (part : Set)
     → with_needed shapes t (record { request = r; asks = asks ++ part ∷ [] }) ≡ with_shape_ask (with_needed shapes t (record { request = r; asks = asks })) (shape_index shapes t r) part
 ask_behind [] t r asks part = ap (λ (parts : List Set). record { task = t; request = r; asks = parts } ∷ []) (fold_push with_part [] asks part)
@@ -152,7 +152,7 @@ ask_behind (y ∷ ss) t r asks part = at (has_shape t r y) (ask_behind ss t r as
         ap (λ (xs : List Shape). y ∷ xs) rest
         ∙ ap (λ p. with_shape_ask (y ∷ with_needed ss t (record { request = r; asks = asks })) p part) (sym (next (shape_index ss t r)))
 
--- the sets for which a known shape asks, once it asked for one more
+-- the sets that a known shape asks for, after it asked for one more
 pub parts_asked : (shapes : List Shape) (t : ℕ) (r : RequestFields) (part : Set) → is_known shapes t r ≡ true
     → parts_of (with_shape_ask shapes (shape_index shapes t r) part) (shape_index shapes t r) ≡ with_part (parts_of shapes (shape_index shapes t r)) part
 parts_asked [] t r part known = contrary false known refl
@@ -165,7 +165,7 @@ parts_asked (y ∷ ss) t r part known = at (has_shape t r y) known (parts_asked 
     at false is rest =
         subst (λ p. parts_of (with_shape_ask (y ∷ ss) p part) p ≡ with_part (parts_of (y ∷ ss) p) part) (sym (next (shape_index ss t r))) (rest is)
 
--- those of the shape of another task stay
+-- the sets of another task's shape stay
 pub parts_apart : (shapes : List Shape) (t : ℕ) (r : RequestFields) (u : ℕ) (q : RequestFields) (part : Set) → (t == u) ≡ false → is_known shapes t r ≡ true → is_known shapes u q ≡ true
     → parts_of (with_shape_ask shapes (shape_index shapes t r) part) (shape_index shapes u q) ≡ parts_of shapes (shape_index shapes u q)
 parts_apart [] t r u q part other known there = contrary false known refl

@@ -51,7 +51,7 @@ shaped a b s =
     (ap (equals a.writes) (sym s.writes) ∙ equals_itself a.writes))
     (ap (equals a.first) (sym s.first) ∙ equals_itself a.first)
 
--- of a task
+-- a request of a task, and its shape
 pub record IsOf (t : ℕ) (r : RequestFields) (s : Shape) : Type 0 where
   pub task : t ≡ s.task
   pub alike : Alike r s.request
@@ -66,7 +66,7 @@ of_shape task r s is = and_from _ _ (eq-eqb task s.task is.task) (shaped r s.req
 
 -- ---- their claims
 
--- the claim of a request that is like one of another
+-- the claim of a request that is like a claim of another request
 pub record Counterpart (a b : RequestFields) (ms : List Needed) (n : Needed) : Type 0 where
   pub like : Needed
   pub there : Among like ms

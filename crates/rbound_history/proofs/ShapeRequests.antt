@@ -1,4 +1,4 @@
--- The requests of tasks by number, and where those of shapes stand among them.
+-- The requests of tasks by number, and the places of those of shapes among them.
 use Rattle.std.proofs.Common.{◌≡◌, ◌<◌, ◌==◌, ℕ, zero, suc, Bool, true, false, cond, List, [], ◌∷◌, length, slice_get, Some, None, refl, sym, ap, subst, inl, inr, arith}
 use Rattle.std.specs.List.{AllByRecursion}
 use Rattle.std.proofs.lemmas.Bool.{eq-eqb, eqb-true}
@@ -41,7 +41,7 @@ fine_of q [] task n fine there = absurd there
 fine_of q (ns ∷ rest) zero n fine there = all_at (λ (m : RequestNeeds). IsFine q m.request) ns n fine.0 there
 fine_of q (ns ∷ rest) (suc task) n fine there = fine_of q rest task n fine.1 there
 
--- ---- those of shapes
+-- ---- requests of shapes
 
 -- the request of a shape
 abbrev pub request_of : Shape → RequestNeeds
@@ -76,7 +76,7 @@ of_shapes (x ∷ ss) s (inr later) = at (x.task == s.task) (of_shapes ss s later
     at true there = inr there
     at false there = there
 
--- *Where the request of a shape stands* among those of its task
+-- *The place of the request of a shape* among those of its task
 pub placed : (shapes : List Shape) (place : ℕ) (s : Shape) → slice_get shapes place ≡ Some s → slice_get (requests_of_shapes shapes s.task) (number_before shapes s.task place) ≡ Some (request_of s)
 placed [] place s at = some_none (sym at)
 placed (x ∷ ss) zero s at =
@@ -89,7 +89,7 @@ placed (x ∷ ss) (suc place) s at = by (x.task == s.task) (placed ss place s at
     by true h = h
     by false h = h
 
--- what is fine of each shape is fine of what tasks need by them
+-- where the request of each shape is fine, so is everything that tasks need by the shapes
 pub fine_shapes : (q tasks : ℕ) (shapes : List Shape) → ((s : Shape) → Among s shapes → IsFine q s.request) → AreFine q (needs_of_shapes tasks shapes)
 fine_shapes q tasks shapes each =
     all_map (requests_of_shapes shapes) (λ (ns : List RequestNeeds). AllByRecursion (λ (n : RequestNeeds). IsFine q n.request) ns) (tasks_of tasks)

@@ -1,4 +1,4 @@
--- How shapes grow with one ask more.
+-- How shapes grow with one more ask.
 use Rattle.std.proofs.Common.{◌≡◌, ◌||◌, ◌⊎◌, ℕ, zero, suc, true, List, [], ◌∷◌, ◌++◌, slice_get, Some, refl, sym, ap, subst, ◌∙◌, inl, inr, arith}
 use Rattle.std.specs.List.{list_any}
 use Rattle.rset.specs.Sets.{Set}
@@ -13,7 +13,7 @@ use Rattle.rbound_history.proofs.SameShapes.{is_of}
 use Rattle.rbound_history.proofs.ShapeRequests.{some_none, at_among}
 use Rattle.rbound_history.proofs.ShapesGrow.{one_only, HasGrown, grown_itself, still_has, still_told, part_kept, part_taken, part_from}
 
--- a shape with one ask more
+-- a shape with one more ask
 abbrev pub asked : Shape → Set → Shape
 asked s part = record s { asks = with_part s.asks part }
 
@@ -26,7 +26,7 @@ grown_asked s part = record {
   asks = λ x there. part_kept s.asks part x there;
 }
 
--- *A shape stays*, but for the ask that it takes
+-- *A shape stays*, except for the ask that it takes
 pub ask_stays : (shapes : List Shape) (place : ℕ) (part : Set) (i : ℕ) (s : Shape) → slice_get shapes i ≡ Some s → (x : Shape) × (slice_get (with_shape_ask shapes place part) i ≡ Some x) × HasGrown s x
 ask_stays [] place part i s at = some_none (sym at)
 ask_stays (y ∷ ss) zero part zero s at = (asked y part, refl, subst (λ (z : Shape). HasGrown z (asked y part)) (some_is at) (grown_asked y part))
@@ -63,11 +63,11 @@ ask_different [] place part different = tt
 ask_different (x ∷ ss) zero part different = (different.0, different.1)
 ask_different (x ∷ ss) (suc place) part different = (same_tests ss place part x ∙ different.0, ask_different ss place part different.1)
 
--- a request with one ask more
+-- a request with one more ask
 abbrev pub with_one_ask : RequestNeeds → Set → RequestNeeds
 with_one_ask n part = record { request = n.request; asks = n.asks ++ part ∷ [] }
 
--- what is meant before and after one ask more of a request
+-- the requests in question before and after one more ask of a request
 pub record OneAsk (is_one other : ℕ → RequestNeeds → Type 0) (task : ℕ) (n : RequestNeeds) (part : Set) : Type 0 where
   pub old : is_one task n
   pub new : other task (with_one_ask n part)
@@ -75,7 +75,7 @@ pub record OneAsk (is_one other : ℕ → RequestNeeds → Type 0) (task : ℕ) 
   pub came : (t : ℕ) (m : RequestNeeds) → other t m → is_one t m ⊎ ((t ≡ task) × (m ≡ with_one_ask n part))
 
 module _ (is_one other : ℕ → RequestNeeds → Type 0) (task : ℕ) (n : RequestNeeds) (part : Set) (one_more : OneAsk is_one other task n part) where
-  -- a request that is meant before is so after, with the ask or without
+  -- a request that is in question before is so after, with or without the ask
   ask_carried : (s x : Shape) (is_so is_such : RequestNeeds → Type 0) → HasGrown s x → ((m : RequestNeeds) → is_so m → is_such m) → (is_so n → is_such (with_one_ask n part)) → SomeRequest is_one s is_so → SomeRequest other x is_such
   ask_carried s x is_so is_such grown gives with_ask some =
       elim (one_more.kept s.task some.request some.there) [
@@ -107,7 +107,7 @@ module _ (is_one other : ℕ → RequestNeeds → Type 0) (task : ℕ) (n : Requ
     ];
   }
 
-  -- *One ask more is told by the shapes with it*
+  -- *The shapes with one more ask represent it*
   pub told_asked : (shapes : List Shape) (place : ℕ) (s : Shape) → slice_get shapes place ≡ Some s → has_shape task n.request s ≡ true → TellAll is_one shapes → TellAll other (with_shape_ask shapes place part)
   told_asked shapes place s at has tell = record {
     told = λ t m one. told t m (one_more.came t m one);

@@ -1,4 +1,4 @@
--- How shapes grow with the requests and asks that they tell.
+-- How shapes grow with the requests and asks that they represent.
 use Rattle.std.proofs.Common.{◌≡◌, ◌≤◌, ◌+◌, ◌||◌, ◌⊎◌, not, ltb, ℕ, zero, suc, Bool, true, false, cond, max, List, [], ◌∷◌, ◌++◌, slice_get, Some, refl, sym, ap, subst, ◌∙◌, inl, inr, arith, ltb-true, ltb-false}
 use Rattle.std.specs.List.{list_any}
 use Rattle.rset.specs.Sets.{Set, equals}
@@ -17,7 +17,7 @@ use Rattle.rbound_history.proofs.ShapeRequests.{some_none, at_among}
 
 -- ---- one shape
 
--- two shapes that have one request are of one task and alike
+-- two shapes of one request are of one task and alike
 pub both_of : (t : ℕ) (r : RequestFields) (s x : Shape) → has_shape t r s ≡ true → has_shape t r x ≡ true → has_shape s.task s.request x ≡ true
 both_of t r s x a b =
     let of_s = is_of t r s a in
@@ -110,7 +110,7 @@ parts_from (p ∷ ps) asks x there =
     first : Among x (with_part asks p) → Among x asks ⊎ Among x (p ∷ ps)
     first before = elim (part_from asks p x before) [ inl old ↦ inl old | inr same ↦ inr (inl same) ]
 
--- ---- a request more
+-- ---- one more request
 
 grown_joined : (s : Shape) (n : RequestNeeds) → HasGrown s (joined s n)
 grown_joined s n = record {
@@ -121,7 +121,7 @@ grown_joined s n = record {
   asks = λ part there. parts_kept n.asks s.asks part there;
 }
 
--- a shape stays, but for what it takes over
+-- a shape stays, except for what it takes over
 pub stays : (shapes : List Shape) (t : ℕ) (n : RequestNeeds) (place : ℕ) (s : Shape) → slice_get shapes place ≡ Some s → (x : Shape) × (slice_get (with_needed shapes t n) place ≡ Some x) × HasGrown s x
 stays [] t n place s at = some_none (sym at)
 stays (y ∷ ss) t n zero s at = by (has_shape t n.request y)
@@ -157,7 +157,7 @@ told_new t n = record { same = itself t n; len = omega arith; later = omega arit
 told_joined : (t : ℕ) (n : RequestNeeds) (s : Shape) → has_shape t n.request s ≡ true → IsTold t n (joined s n)
 told_joined t n s has = record { same = has; len = omega arith; later = omega arith; asks = λ part there. parts_taken n.asks s.asks part there }
 
--- *The request is told at the place of its shape*
+-- *The shape at the place of a request represents it*
 pub told_there : (shapes : List Shape) (t : ℕ) (n : RequestNeeds) → (s : Shape) × (slice_get (with_needed shapes t n) (shape_index shapes t n.request) ≡ Some s) × IsTold t n s
 told_there [] t n = (shape_of t n, refl, told_new t n)
 told_there (y ∷ ss) t n = by (has_shape t n.request y) refl (told_there ss t n)
@@ -170,7 +170,7 @@ told_there (y ∷ ss) t n = by (has_shape t n.request y) refl (told_there ss t n
     by true has rest = (joined y n, refl, told_joined t n y has)
     by false apart rest = (rest.0, ap (slice_get (y ∷ with_needed ss t n)) (next (shape_index ss t n.request)) ∙ rest.1, rest.2)
 
--- where a shape comes from: it was there, or it is new, or it took the request over
+-- where a shape comes from: it was there, or it is new, or it took over the request
 abbrev pub ComesFrom : List Shape → ℕ → RequestNeeds → Shape → Type 0
 ComesFrom shapes t n x = Among x shapes ⊎ (((list_any (has_shape t n.request) shapes ≡ false) × (x ≡ shape_of t n)) ⊎ ((s : Shape) × Among s shapes × (has_shape t n.request s ≡ true) × (x ≡ joined s n)))
 
@@ -190,7 +190,7 @@ from (y ∷ ss) t n x there = by (has_shape t n.request y) refl there (from ss t
     by false apart (inl same) rest = inl (inl same)
     by false apart (inr later) rest = onward apart (rest later)
 
--- shapes of others stay others
+-- shapes of other requests stay so
 still_apart : (shapes : List Shape) (t : ℕ) (n : RequestNeeds) (y : Shape) → has_shape t n.request y ≡ false → list_any (has_shape y.task y.request) shapes ≡ false → list_any (has_shape y.task y.request) (with_needed shapes t n) ≡ false
 still_apart shapes t n y apart none =
     none_from (has_shape y.task y.request) (with_needed shapes t n) (λ x there. by x (from shapes t n x there))
@@ -212,10 +212,10 @@ still_different (y ∷ ss) t n different = by (has_shape t n.request y) refl (st
     by true has rest = (different.0, different.1)
     by false apart rest = (still_apart ss t n y apart different.0, rest)
 
--- ---- what they tell
+-- ---- what they represent
 
 module _ (is_one other : ℕ → RequestNeeds → Type 0) where
-  -- a request of the one kind is one of the other
+  -- a request of the one sort is one of the other
   request_carried : (s x : Shape) (is_so is_such : RequestNeeds → Type 0) → HasGrown s x → ((n : RequestNeeds) → is_one s.task n → other s.task n) → ((n : RequestNeeds) → is_so n → is_such n) → SomeRequest is_one s is_so → SomeRequest other x is_such
   request_carried s x is_so is_such grown carry gives some = record {
     request = some.request;
@@ -231,7 +231,7 @@ module _ (is_one other : ℕ → RequestNeeds → Type 0) where
     asks = λ part there. request_carried s s _ _ (grown_itself s) carry (λ n h. h) (made.asks part there);
   }
 
-  -- the same requests, told in other words
+  -- the same requests, described in another way
   pub told_alike : (shapes : List Shape) → ((t : ℕ) (n : RequestNeeds) → is_one t n → other t n) → ((t : ℕ) (n : RequestNeeds) → other t n → is_one t n) → TellAll is_one shapes → TellAll other shapes
   told_alike shapes carry back tell = record {
     told = λ t n one. tell.told t n (back t n one);
@@ -245,12 +245,12 @@ max_one a b =
     (λ less. let lt = ltb-true a b less in inr (omega (arith, lt)))
     (λ more. let ge = ltb-false a b more in inl (omega (arith, ge), omega (arith, ge)))
 
--- one of those that are meant, or this one
+-- one of the requests in question, or this one
 abbrev pub WithOne : (ℕ → RequestNeeds → Type 0) → ℕ → RequestNeeds → ℕ → RequestNeeds → Type 0
 WithOne is_one task n t m = is_one t m ⊎ ((t ≡ task) × (m ≡ n))
 
 module _ (is_one : ℕ → RequestNeeds → Type 0) (task : ℕ) (n : RequestNeeds) where
-  -- the new request of its own shape
+  -- the new request, for its own shape
   own : (x : Shape) (is_so : RequestNeeds → Type 0) → has_shape task n.request x ≡ true → is_so n → SomeRequest (WithOne is_one task n) x is_so
   own x is_so has so =
       let of = is_of task n.request x has in
@@ -294,7 +294,7 @@ module _ (is_one : ℕ → RequestNeeds → Type 0) (task : ℕ) (n : RequestNee
       asks part (inl old) = of_old (λ m. Among part m.asks) (λ m. Among part m.asks) (λ m there. there) (made.asks part old)
       asks part (inr new) = own (joined s n) (λ m. Among part m.asks) has new
 
-  -- *One request more is told by the shapes with it*
+  -- *The shapes with one more request represent it*
   pub told_more : (shapes : List Shape) → TellAll is_one shapes → TellAll (WithOne is_one task n) (with_needed shapes task n)
   told_more shapes tell = record {
     told = λ t m one. told t m one;

@@ -1,4 +1,4 @@
--- The shapes of needs, as they grow by a request or an ask, and of needs as a whole.
+-- The shapes of needs, as the needs grow by a request or an ask, and of needs as a whole.
 use Rattle.std.proofs.Common.{◌≡◌, ◌<◌, ◌+◌, ◌⊎◌, ℕ, zero, suc, List, [], ◌∷◌, length, slice_get, Some, refl, sym, ap, subst, ◌∙◌, inl, inr, arith, true}
 use Rattle.rset.specs.Sets.{Set}
 use Rattle.rclaim.specs.Requests.{RequestFields}
@@ -28,7 +28,7 @@ none_there (suc tasks) (suc t) m there = none_there tasks t m there
 pub no_shapes : (tasks : ℕ) → HaveShapes (none_needed tasks) []
 no_shapes tasks = record { told = λ t m there. absurd (none_there tasks t m there); made = λ s there. absurd there; different = tt }
 
--- ---- one request more
+-- ---- one more request
 
 -- a request that asks for nothing yet
 abbrev new_request : RequestFields → RequestNeeds
@@ -57,7 +57,7 @@ request_new [] task r some = absurd (omega arith)
 request_new (ns ∷ rest) zero r some = among_behind ns (new_request r ∷ []) (new_request r) (inl refl)
 request_new (ns ∷ rest) (suc task) r some = request_new rest task r (omega arith)
 
--- *The shapes of needs with one request more*
+-- *The shapes of needs with one more request*
 pub shapes_with_request : (needs : Needs) (shapes : List Shape) (task : ℕ) (r : RequestFields) → task < length needs → HaveShapes needs shapes → HaveShapes (with_request needs task r) (with_shape shapes task r)
 shapes_with_request needs shapes task r some have =
     told_alike (WithOne (IsNeededBy needs) task (new_request r)) (IsNeededBy (with_request needs task r)) (with_shape shapes task r)
@@ -67,7 +67,7 @@ shapes_with_request needs shapes task r some have =
     by t m (inl old) = request_kept needs task r t m old
     by t m (inr new) = subst (λ (k : ℕ). Among m (requests_of (with_request needs task r) k)) (sym new.0) (subst (λ (x : RequestNeeds). Among x (requests_of (with_request needs task r) task)) (sym new.1) (request_new needs task r some))
 
--- ---- one ask more
+-- ---- one more ask
 
 last_there : (ns : List RequestNeeds) (n : RequestNeeds) → last_request ns ≡ Some n → Among n ns
 last_there [] n last = some_none (sym last)
@@ -122,7 +122,7 @@ ask_is_more (ns ∷ rest) (suc task) n part last = next (ask_is_more rest task n
         came zero m there = inl there
         came (suc t) m there = elim (one.came t m there) [ inl old ↦ inl old | inr new ↦ inr (ap suc new.0, new.1) ]
 
--- *The shapes of needs with one ask more*
+-- *The shapes of needs with one more ask*
 pub shapes_with_ask : (needs : Needs) (shapes : List Shape) (task place : ℕ) (part : Set) (n : RequestNeeds) (s : Shape)
     → last_request (requests_of needs task) ≡ Some n → slice_get shapes place ≡ Some s → has_shape task n.request s ≡ true → HaveShapes needs shapes → HaveShapes (with_ask needs task part) (with_shape_ask shapes place part)
 shapes_with_ask needs shapes task place part n s last at has have =
@@ -130,7 +130,7 @@ shapes_with_ask needs shapes task place part n s last at has have =
 
 -- ---- all needs
 
--- those that are meant, or one of these of a task
+-- the requests in question, or one of these of a task
 abbrev WithTask : (ℕ → RequestNeeds → Type 0) → ℕ → List RequestNeeds → ℕ → RequestNeeds → Type 0
 WithTask is_one task ns t m = is_one t m ⊎ ((t ≡ task) × Among m ns)
 
@@ -153,7 +153,7 @@ told_task (n ∷ ns) task is_one shapes tell =
     back t m (inl one) = inl (inl one)
     back t m (inr is) = elim is.1 [ inl this ↦ inl (inr (is.0, this)) | inr later ↦ inr (is.0, later) ]
 
--- those that are meant, or one of these needs, whose tasks are numbered from a number on
+-- the requests in question, or one of these needs, whose tasks are numbered from this number on
 abbrev WithNeeds : (ℕ → RequestNeeds → Type 0) → ℕ → Needs → ℕ → RequestNeeds → Type 0
 WithNeeds is_one low needs t m = is_one t m ⊎ ((j : ℕ) × (t ≡ low + j) × Among m (requests_of needs j))
 
@@ -180,7 +180,7 @@ told_from (ns ∷ rest) low is_one shapes tell =
     back t m (inl one) = inl (inl one)
     back t m (inr is) = split t m is.0 is.1 is.2
 
--- *Needs have the shapes that are found of them*
+-- *Needs have the shapes that are found for them*
 pub shapes_of_needs : (needs : Needs) → HaveShapes needs (shapes_of needs)
 shapes_of_needs needs =
     told_alike (WithNeeds (λ t m. ⊥) 0 needs) (IsNeededBy needs) (shapes_of needs) (λ t m one. to t m one) (λ t m there. inr (t, same t, there))

@@ -1,4 +1,4 @@
--- What a table of shapes becomes, as its parts change.
+-- What a table of shapes becomes when its parts change.
 use Rattle.std.proofs.Common.{◌≡◌, ◌<◌, ◌+◌, ◌||◌, ◌==◌, not, ℕ, zero, suc, Bool, true, false, cond, List, [], ◌∷◌, ◌++◌, map, length, slice_get, slice_index, slice_index_or, slice_set, refl, sym, ap, ◌∙◌, inl, inr, arith}
 use Rattle.std.specs.Prelude.{option_map}
 use Rattle.std.specs.List.{list_any, position_or_len}
@@ -116,7 +116,7 @@ hint_place (s ∷ ss) (suc p) t r different is = at (has_shape t r s) refl (hint
         contrary (has_shape s.task s.request x.0) (both_of t r s x.0 has x.2) (none_among (has_shape s.task s.request) ss x.0 different.0 x.1)
     at false apart rest = omega (arith, rest)
 
--- ---- by keys
+-- ---- looked up by keys
 
 pub known_by_keys : (shapes : List Shape) (keys : List ShapeKey) (t : ℕ) (r : RequestFields) → keys ≡ map key_of shapes → list_any (same_key (key_of (new_shape t r))) keys ≡ list_any (has_shape t r) shapes
 known_by_keys shapes keys t r is = ap (list_any (same_key (key_of (new_shape t r)))) is ∙ any_map key_of (same_key (key_of (new_shape t r))) shapes
@@ -124,7 +124,7 @@ known_by_keys shapes keys t r is = ap (list_any (same_key (key_of (new_shape t r
 pub place_by_keys : (shapes : List Shape) (keys : List ShapeKey) (t : ℕ) (r : RequestFields) → keys ≡ map key_of shapes → position_or_len (same_key (key_of (new_shape t r))) keys ≡ shape_index shapes t r
 place_by_keys shapes keys t r is = ap (position_or_len (same_key (key_of (new_shape t r)))) is ∙ place_map key_of (same_key (key_of (new_shape t r))) shapes
 
--- what the set of keys answers of a request
+-- what the set of keys answers for a request
 module _ (shapes : List Shape) (keys : List ShapeKey) (t : ℕ) (r : RequestFields) (k : ShapeKey) (of : k ≡ key_of (new_shape t r)) (is : keys ≡ map key_of shapes) where
   known_is : list_any (same_key k) keys ≡ list_any (has_shape t r) shapes
   known_is = ap (λ x. list_any (same_key x) keys) of ∙ known_by_keys shapes keys t r is
@@ -187,7 +187,7 @@ number_asked [] i x part h is = absurd (omega arith)
 number_asked (e ∷ es) zero x part h is = ap (λ (z : Entry). position_or_len (same_asked (record { set = part })) z.asks.keys) is ∙ sym (place_map (λ (a : AskedSet). a.set) (equals part) e.asks.keys)
 number_asked (e ∷ es) (suc i) x part h is = number_asked es i x part (omega arith) is
 
--- ---- numbers go by keys alone
+-- ---- numbers depend on keys alone
 
 abbrev pub number_by : List ShapeKey → ℕ → ℕ → ℕ
 number_by [] task place = 0

@@ -40,7 +40,7 @@ module _ (t u : Table) where
   abbrev before : List Shape
   before = shapes_in t.entries.items
 
-  -- *A table whose shapes change in no more than their lengths and asks*
+  -- *A table whose shapes change only in their lengths and asks*
   pub still_table : IsTable t → u.keys.keys ≡ t.keys.keys → u.numbers.items ≡ t.numbers.items → u.counts.items ≡ t.counts.items → map key_of after ≡ map key_of before
       → AreDifferent after → AllByRecursion (λ (s : Shape). IsTrue (may_ask s)) after → IsTable u
   still_table is keys numbers counts same different asks = record {
@@ -79,7 +79,7 @@ taken_asks [] place r all = tt
 taken_asks (s ∷ ss) zero r all = (all.0, all.1)
 taken_asks (s ∷ ss) (suc place) r all = (all.0, taken_asks ss place r all.1)
 
--- a known shape took a request over
+-- a known shape took over a request
 pub table_taken : (t u : Table) (task place : ℕ) (r : RequestFields) → IsTable t → u.keys.keys ≡ t.keys.keys → u.numbers.items ≡ t.numbers.items → u.counts.items ≡ t.counts.items
     → shapes_in u.entries.items ≡ taken_over (shapes_in t.entries.items) place r → taken_over (shapes_in t.entries.items) place r ≡ with_shape (shapes_in t.entries.items) task r → IsTable u
 table_taken t u task place r is keys numbers counts shapes taken =
@@ -190,7 +190,7 @@ module _ (t u : Table) (task : ℕ) (r : RequestFields) (is : IsTable t) (there 
           set_elsewhere t.counts.items task k (slice_index t.counts.items task + 1) (λ e. other.1 (sym e)) ∙ old (omega (arith, some, as_many))
           ∙ ap (λ b. cond b (suc (number_before ts k (length ts))) (number_before ts k (length ts))) (sym other.0)
 
-  -- *A table with a new shape behind the others*
+  -- *A table with a new shape after the others*
   pub table_pushed : IsTable u
   table_pushed = record {
     keys = keys ∙ ap (λ ks. ks ++ key_of s ∷ []) is.keys ∙ sym (map_push key_of ts s) ∙ ap (map key_of) (sym shapes);
@@ -204,7 +204,7 @@ module _ (t u : Table) (task : ℕ) (r : RequestFields) (is : IsTable t) (there 
     counts = counted;
   }
 
--- ---- one ask more
+-- ---- one more ask
 
 asked_keys : (ss : List Shape) (place : ℕ) (part : Set) → map key_of (with_shape_ask ss place part) ≡ map key_of ss
 asked_keys [] place part = refl
@@ -221,7 +221,7 @@ nested_there [] place nested = contrary false nested refl
 nested_there (s ∷ ss) zero nested = omega arith
 nested_there (s ∷ ss) (suc place) nested = let rest = nested_there ss place nested in omega (arith, rest)
 
--- a shape asked for one set more, or nothing changed
+-- a shape asked for one more set, or nothing changed
 pub table_asked : {T E : Type 0} (result : Result T E) (t u : Table) (place : ℕ) (part : Set) → IsTable t → is_nested_at (shapes_in t.entries.items) place ≡ true
     → u.keys.keys ≡ t.keys.keys → u.numbers.items ≡ t.numbers.items → u.counts.items ≡ t.counts.items
     → OnOk result (shapes_in u.entries.items ≡ with_shape_ask (shapes_in t.entries.items) place part) → OnErr result (shapes_in u.entries.items ≡ shapes_in t.entries.items) → IsTable u

@@ -1,4 +1,4 @@
--- Where the shapes of each task stand: as they are noted one after another, and what is found there.
+-- The places of the shapes of each task: how they are recorded one after another, and what is found there.
 use Rattle.std.proofs.Common.{◌≡◌, ◌⊎◌, ◌<◌, ◌+◌, ◌==◌, ℕ, zero, suc, Bool, true, false, cond, List, [], ◌∷◌, ◌++◌, length, take, get_or, slice_get, slice_index_or, slice_set, Some, refl, sym, ap, subst, ◌∙◌, inl, inr, arith, get_or-set_same, get_or-set_other}
 use Rattle.std.specs.declared.vec.Vec.{Vec}
 use Rattle.std.specs.declared.alloc.Global.{Global}
@@ -14,7 +14,7 @@ use Rattle.rbound_history.specs.declared.table.Entry.{Entry}
 use Rattle.rbound.proofs.ClaimFacts.{some_is}
 use Rattle.rbound_history.proofs.ShapeRequests.{request_of, some_none}
 
--- ---- places are noted
+-- ---- places are recorded
 
 one_behind : (b : Bool) (n : ℕ) (xs ys zs : List ℕ) → xs ≡ ys ++ zs → cond b (n ∷ xs) xs ≡ cond b (n ∷ ys) ys ++ zs
 one_behind true n xs ys zs h = ap (λ us. n ∷ us) h
@@ -56,7 +56,7 @@ module _ (es : List Entry) (tasks i : ℕ) (x : Entry) (old new : List (Vec ℕ 
       get_or-set_other (lists_in old) x.task k (list_at old x.task ++ i ∷ []) [] (λ e. other.1 (sym e)) ∙ are.each k some ∙ sym (append-nil (places_of ss k))
       ∙ ap (λ b. places_of ss k ++ cond b ((0 + length ss) ∷ []) []) (sym other.0)
 
-  -- *The places of one shape more*
+  -- *The places with one more shape*
   pub places_more : ArePlaces (shapes_in (take (i + 1) es)) tasks new
   places_more = record {
     long = sym (places_long new) ∙ ap length is ∙ length-set (lists_in old) x.task (list_at old x.task ++ i ∷ []) ∙ places_long old ∙ are.long;

@@ -1,4 +1,4 @@
--- What an accepted event tells of the events before it, and how needs that know those come to know it too.
+-- What an accepted event says about the events before it, and how needs that know those get to know it too.
 use Rattle.std.proofs.Common.{◌≡◌, ◌<◌, ◌==◌, ◌&&◌, ℕ, zero, suc, true, List, [], ◌∷◌, ◌++◌, slice_get, Some, Result, Ok, Err, OnOk, sym, ap, subst, ◌∙◌}
 use Rattle.std.proofs.lemmas.Bool.{eqb-true, and_parts}
 use Rattle.rset.specs.Sets.{Set}
@@ -30,7 +30,7 @@ module _ (groups : ReadGroups) (seats cap : ℕ) (es : List Event) where
   pub seat_there : (seat : ℕ) (r : RequestFields) → AreAccepted (opening groups seats cap) (es ++ Issue seat r ∷ []) → seat < seats
   seat_there seat r accepted = subst (λ n. seat < n) (sizes_after (opening groups seats cap) es).seats (comes_last (Issue seat r) accepted).fits.seat_there
 
-  -- an ask is one of a nested request, which is the last one of its seat
+  -- an ask is that of a nested request, which is the last one of its seat
   pub record IsAskOfLast (seat : ℕ) : Type 0 where
     pub seated : seat < seats
     pub request : RequestFields
@@ -65,7 +65,7 @@ nested_at groups seats cap es seat ask =
     ∙ ap is_nested (sym kind)
     ∙ ask.nested
 
--- what follows of what is so where a call succeeds
+-- what follows from what holds where a call succeeds
 pub on_ok_both : {T E P Q R : Type 0} (r : Result T E) → (P → Q → R) → OnOk r P → OnOk r Q → OnOk r R
 on_ok_both (Ok v) gives p q = gives p q
 on_ok_both (Err e) gives p q = cc

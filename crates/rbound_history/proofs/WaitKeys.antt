@@ -125,7 +125,7 @@ module _ (groups : ReadGroups) (seats cap : ℕ) (before : List Event) (e : Even
     known : IsKnown before x
     known = known_claims groups seats cap before accepted x there
 
-    -- the event is no issue of the seat
+    -- the event is not an issue of the seat
     no_issue : is_issue_of seat e ≡ false
     no_issue = at e comes
       where
@@ -135,7 +135,7 @@ module _ (groups : ReadGroups) (seats cap : ℕ) (before : List Event) (e : Even
         at (event.Rise s) comes = refl
         at (event.Ask s part) comes = refl
 
-    -- and where an ask of the seat is pending, no ask of it
+    -- and where an ask of the seat is pending, the event is not an ask of it
     no_ask : nat_lt 0 (len x.asked) ≡ true → (parts : List Set) → more_asked seat parts e ≡ parts
     no_ask pending parts = at e comes no_issue
       where
@@ -237,7 +237,7 @@ module _ (groups : ReadGroups) (seats cap : ℕ) (before : List Event) (e : Even
           let asks : n.asks ≡ (asked.0 ++ x.asked ∷ []) ++ history.asks_of seat rest = still.asks.behind rest ∙ ap (λ (parts : List Set). parts ++ history.asks_of seat rest) asked_now in
           (λ i. slice_get (asks i) (at i)) ∙ last_at asked.0 x.asked (history.asks_of seat rest)
 
-      -- its set is among those for which its shape asks by now
+      -- its set is among those that its shape asks for by now
       part_there : Among x.asked found.0.asks
       part_there =
           let m : RequestNeeds = record { request = r; asks = asks_behind (es ++ []) x.claim.stamp seat } in
@@ -252,7 +252,7 @@ module _ (groups : ReadGroups) (seats cap : ℕ) (before : List Event) (e : Even
           subst (λ (s : Shape). Among x.asked s.asks) same
           (told.2.asks x.asked (subst (Among x.asked) (sym (asks ∙ append-nil (asked.0 ++ x.asked ∷ []))) (among_behind asked.0 (x.asked ∷ []) x.asked (inl refl))))
 
-      -- and has this number among them, now and later
+      -- and it has this number among them, now and later
       numbered : ask_of es seat ≡ ask_index (shapes_told es) place x.asked
       numbered = (λ i. ask_among (shapes_told es) seat (of_last.last i) (last_asked seat asked.0 x.asked es asked_now i))
 
@@ -326,11 +326,11 @@ is_found groups seats cap events rest w whole ended =
 found_now : (groups : ReadGroups) (seats cap : ℕ) (events : List Event) (w : WaitEnd) → IsLastEnded groups seats cap events w → IsFound groups seats cap events (events ++ []) w
 found_now groups seats cap events w ended = is_found groups seats cap events [] w (subst (AreAccepted (opening groups seats cap)) (sym (append-nil events)) ended.accepted) ended
 
--- such a wait is of a seat that there is
+-- such a wait is of an existing seat
 pub ended_seat : (groups : ReadGroups) (seats cap : ℕ) (events : List Event) (w : WaitEnd) → IsLastEnded groups seats cap events w → w.seat < seats
 ended_seat groups seats cap events w ended = (found_now groups seats cap events w ended).seated
 
--- and its key is of a shape that there is
+-- and its key is of an existing shape
 pub ended_shape : (groups : ReadGroups) (seats cap : ℕ) (events : List Event) (w : WaitEnd) → IsLastEnded groups seats cap events w → place_of events w.seat < length (shapes_told events)
 ended_shape groups seats cap events w ended =
     subst (λ (ds : List Event). place_of events w.seat < length (shapes_told ds)) (append-nil events) (found_now groups seats cap events w ended).within

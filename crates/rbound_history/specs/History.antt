@@ -1,4 +1,4 @@
--- What a history tells of requests: those that it issues with their shapes, and of each seat the last one.
+-- What a history says about requests: those that it issues, with their shapes, and the last one of each seat.
 use Rattle.std.specs.Prelude.{ℕ, ◌==◌, Option, Some, None, List, [], ◌∷◌, fold, if◌then◌else◌}
 use Rattle.rset.specs.Sets.{Set}
 use Rattle.rclaim.specs.Requests.{RequestFields}
@@ -21,7 +21,7 @@ issued_in (Finish seat ∷ es) = issued_in es
 issued_in (Rise seat ∷ es) = issued_in es
 issued_in (Ask seat part ∷ es) = issued_in es
 
--- the shapes, with that of one request more
+-- the shapes, with that of one more request
 abbrev pub with_issued : List Shape → Issued → List Shape
 with_issued shapes one = with_needed shapes one.seat one.needs
 
@@ -29,7 +29,7 @@ with_issued shapes one = with_needed shapes one.seat one.needs
 abbrev pub shapes_told : List Event → List Shape
 shapes_told es = fold with_issued [] (issued_in es)
 
--- the last request of a seat, once an event came
+-- the last request of a seat after an event
 abbrev pub later_issue : ℕ → Option RequestFields → Event → Option RequestFields
 later_issue task last (Issue seat r) = if seat == task then Some r else last
 later_issue task last (Finish seat) = last
@@ -40,13 +40,13 @@ later_issue task last (Ask seat part) = last
 abbrev pub last_issue : ℕ → List Event → Option RequestFields
 last_issue task es = fold (later_issue task) None es
 
--- the set for which a seat asked last, once an event came
+-- the set that a seat last asked for, after an event
 abbrev pub later_set : ℕ → Option Set → Event → Option Set
 later_set task last (Issue seat r) = if seat == task then None else last
 later_set task last (Finish seat) = last
 later_set task last (Rise seat) = last
 later_set task last (Ask seat part) = if seat == task then Some part else last
 
--- the set for which the last request of a seat asked last, if it asked for one
+-- the set that the last request of a seat last asked for, if it asked for one
 abbrev pub last_set : ℕ → List Event → Option Set
 last_set task es = fold (later_set task) None es

@@ -1,4 +1,4 @@
--- How shapes are kept: each with its key, and its number among those of its task. No contract of another crate speaks of it.
+-- How shapes are kept: each with its key, and its number among those of its task. Contracts of other crates do not mention it.
 use Rattle.std.specs.Prelude.{◌≡◌, ◌<◌, ◌≤◌, ◌-◌, ◌||◌, ◌++◌, take, replicate, ℕ, Bool, true, false, List, [], ◌∷◌, map, length, slice_index, IsTrue}
 use Rattle.std.specs.List.{AllByRecursion}
 use Rattle.rset.specs.Sets.{Set}
@@ -15,11 +15,11 @@ use Rattle.rbound_history.specs.declared.table.Table.{Table}
 abbrev pub shape_in : Entry → Shape
 shape_in e = record { task = e.task; request = e.request; asks = map (λ a. a.set) e.asks.keys }
 
--- those of a table
+-- the shapes of a table
 abbrev pub shapes_in : List Entry → List Shape
 shapes_in entries = map shape_in entries
 
--- there is none
+-- the list is empty
 abbrev pub is_none : List Set → Bool
 is_none [] = true
 is_none (x ∷ xs) = false
@@ -38,11 +38,11 @@ pub record IsTable (t : Table) : Type 0 where
   pub numbers : (place : ℕ) → place < length t.entries.items → slice_index t.numbers.items place ≡ number_before (shapes_in t.entries.items) (task_at (shapes_in t.entries.items) place) place
   pub counts : (task : ℕ) → task < length t.counts.items → slice_index t.counts.items task ≡ number_before (shapes_in t.entries.items) task (length t.entries.items)
 
--- and there are no more tasks than have a number
+-- and there are no more tasks than numbers for them
 pub record IsKept (t : Table) : Type 0 where
   pub table : IsTable t
   pub few : length t.counts.items ≤ 255
 
--- what is needed once the shapes of the tasks before a number are: the others need nothing yet
+-- what is needed when the shapes of the tasks before this number were added: the other tasks need nothing yet
 abbrev pub gathered : List Shape → ℕ → ℕ → Needs
 gathered shapes tasks task = take task (needs_of_shapes tasks shapes) ++ replicate (tasks - task) []

@@ -1,4 +1,4 @@
--- The tests of keys say whether two are one, so each is an equivalence, and equal keys hash alike.
+-- The tests of keys say whether two keys are equal, so each test is an equivalence, and equal keys have equal hashes.
 use Rattle.std.proofs.Common.{◌≡◌, ◌&&◌, ◌==◌, true, refl, ap, subst}
 use Rattle.std.specs.Bool.{Decides}
 use Rattle.std.specs.Cmp.{IsEquivalence, decided}

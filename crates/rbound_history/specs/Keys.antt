@@ -1,4 +1,4 @@
--- The keys by which the bounds of waits are found once a history is told whole.
+-- The keys by which the bounds of waits are found once a history is complete.
 use Rattle.std.specs.Prelude.{◌≡◌, ℕ, Option, Some, None, List, [], ◌∷◌, ◌++◌}
 use Rattle.rset.specs.Sets.{Set}
 use Rattle.rexpand.specs.Groups.{ReadGroups}
@@ -15,12 +15,12 @@ use Rattle.rbound_history.specs.Shapes.{Shape, shape_index, ask_index}
 use Rattle.rbound_history.specs.History.{shapes_told, last_issue, last_set}
 use Rattle.rbound_history.specs.declared.key.BoundKey.{BoundKey}
 
--- the place of the shape of a request of a task, 0 of no request
+-- the place of the shape of a request of a task, 0 without a request
 abbrev pub place_among : List Shape → ℕ → Option RequestFields → ℕ
 place_among shapes task None = 0
 place_among shapes task (Some r) = shape_index shapes task r
 
--- the number of a set among the different ones for which the shape of a request asks, 0 of no request and of no set
+-- the number of a set among the different sets that the shape of a request asks for, 0 without a request or a set
 abbrev pub ask_among : List Shape → ℕ → Option RequestFields → Option Set → ℕ
 ask_among shapes task None part = 0
 ask_among shapes task (Some r) None = 0
@@ -30,7 +30,7 @@ ask_among shapes task (Some r) (Some part) = ask_index shapes (shape_index shape
 abbrev pub place_of : List Event → ℕ → ℕ
 place_of es seat = place_among (shapes_told es) seat (last_issue seat es)
 
--- the number of a seat's last ask among the different ones of its shape
+-- the number of a seat's last ask among the different asks of its shape
 abbrev pub ask_of : List Event → ℕ → ℕ
 ask_of es seat = ask_among (shapes_told es) seat (last_issue seat es) (last_set seat es)
 
@@ -40,7 +40,7 @@ with_ask_number First number = First
 with_ask_number Rise number = Rise
 with_ask_number (Ask i) number = Ask number
 
--- the key of a wait of a seat's last request, of an ask that of the last one
+-- the key of a wait of a seat's last request; for an ask, the last one is meant
 abbrev pub key_of : List Event → WaitEnd → BoundKey
 key_of es w = record { shape = place_of es w.seat; which = with_ask_number w.which (ask_of es w.seat) }
 

@@ -1,4 +1,4 @@
--- What is known of a history that was told event by event, and of the bounds of its waits.
+-- What is known of a history that was given event by event, and of the bounds of its waits.
 use Rattle.std.specs.Prelude.{◌≡◌, ◌<◌, ℕ, List, length, map, slice_get, Some}
 use Rattle.std.specs.List.{range_with_len}
 use Rattle.rexpand.specs.Groups.{ReadGroups}
@@ -17,13 +17,13 @@ use Rattle.rbound_history.specs.declared.growing.GrowingNeeds.{GrowingNeeds}
 use Rattle.rbound_history.specs.declared.bounds.WaitBounds.{WaitBounds}
 use Rattle.rbound_history.specs.declared.bounds.Place.{Place}
 
--- needs were told these events: their shapes are those of the requests, and of each seat they know where the last request has its shape, and its last ask
+-- needs were given these events: their shapes are those of the requests, and for each seat they know the place of the last request's shape, and its last ask
 pub record Knows (needs : GrowingNeeds) (seats : ℕ) (es : List Event) : Type 0 where
   pub shapes : needs.shapes ≡ record { tasks = seats; shapes = shapes_told es }
   pub seated : length needs.last.items ≡ seats
   pub last : (seat : ℕ) → seat < seats → slice_get needs.last.items seat ≡ Some (record { place = place_of es seat; ask = ask_of es seat })
 
--- where a shape stands among those of all tasks: its task, and its number there
+-- the place of a shape among those of all tasks: its task, and its number there
 abbrev pub place_in : List Shape → ℕ → Place
 place_in shapes place = record { task = task_at shapes place; number = number_before shapes (task_at shapes place) place }
 

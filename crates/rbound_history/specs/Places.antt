@@ -1,10 +1,10 @@
--- Where the shapes of each task stand. No contract of another crate speaks of it.
+-- The places of the shapes of each task. Contracts of other crates do not mention them.
 use Rattle.std.specs.Prelude.{◌≡◌, ◌<◌, ◌==◌, ℕ, suc, List, [], ◌∷◌, map, length, slice_index_or, if◌then◌else◌}
 use Rattle.std.specs.declared.vec.Vec.{Vec}
 use Rattle.std.specs.declared.alloc.Global.{Global}
 use Rattle.rbound_history.specs.Shapes.{Shape}
 
--- the places of the shapes of a task, where the first of all shapes stands at this one
+-- the places of the shapes of a task, where the first of all shapes is at this place
 abbrev pub places_from : ℕ → List Shape → ℕ → List ℕ
 places_from place [] task = []
 places_from place (s ∷ ss) task = if s.task == task then place ∷ places_from (suc place) ss task else places_from (suc place) ss task
@@ -21,7 +21,7 @@ lists_in vectors = map (λ v. v.items) vectors
 abbrev pub list_at : List (Vec ℕ Global) → ℕ → List ℕ
 list_at vectors task = slice_index_or (lists_in vectors) task []
 
--- of each task the places of its shapes
+-- for each task the places of its shapes
 pub record ArePlaces (shapes : List Shape) (tasks : ℕ) (places : List (Vec ℕ Global)) : Type 0 where
   pub long : length places ≡ tasks
   pub each : (task : ℕ) → task < tasks → list_at places task ≡ places_of shapes task

@@ -17,7 +17,7 @@ IsSameWait asks First parts which = which ≡ First
 IsSameWait asks Rise parts which = which ≡ Rise
 IsSameWait asks (Ask n) parts which = (j : ℕ) × (part : Set) × (which ≡ Ask j) × (slice_get asks n ≡ Some part) × (slice_get parts j ≡ Some part)
 
--- the bounds of all waits of the requests of a task are those of the waits of their shapes, by the needs that issue the shapes
+-- the bounds of all waits of the requests are those of the waits of their shapes, by the needs that issue the shapes
 abbrev pub AreBoundsOfShapes : ReadGroups → Needs → List Shape → Needs → Type 0
 AreBoundsOfShapes groups needs shapes issued =
     (cap task k place : ℕ) (n : RequestNeeds) (s : Shape) (which other : Which)
@@ -29,7 +29,7 @@ AreBoundsOfShapes groups needs shapes issued =
 abbrev pub BoundsAreOfShapes : Type 0
 BoundsAreOfShapes = (groups : ReadGroups) (needs : Needs) (shapes : List Shape) → AreFine groups.q needs → HaveShapes needs shapes → AreBoundsOfShapes groups needs shapes (needs_of_shapes (length needs) shapes)
 
--- compact needs: of the requests of one shape one is left, with the greatest lengths, and of its asks for one set one
+-- compact needs: one request of each shape, with the greatest lengths, and one ask for each set
 abbrev pub compact : Needs → Needs
 compact needs = needs_of_shapes (length needs) (shapes_of needs)
 

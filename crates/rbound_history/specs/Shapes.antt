@@ -7,7 +7,7 @@ use Rattle.rclaim.specs.Requests.{RequestFields}
 use Rattle.rmodel.specs.Claims.{is_nested}
 use Rattle.rbound.specs.Needs.{RequestNeeds}
 
--- a shape: its task, a request with the greatest lengths, and the different sets for which it asks, in the order in which they first came
+-- a shape: its task, a request with the greatest lengths, and the different sets that it asks for, in the order in which they first came
 pub record Shape : Type 0 where
   pub task : ℕ
   pub request : RequestFields
@@ -25,7 +25,7 @@ has_shape task r s = (task == s.task) && same_shape r s.request
 abbrev pub lengthened : RequestFields → RequestFields → RequestFields
 lengthened a b = record a { len = max a.len b.len; later = max a.later b.later }
 
--- one more set behind the others, unless it is among them
+-- one more set after the others, unless it is among them
 abbrev pub with_part : List Set → Set → List Set
 with_part asks part = if list_any (equals part) asks then asks else asks ++ part ∷ []
 
@@ -37,36 +37,36 @@ with_parts asks parts = fold with_part asks parts
 abbrev pub shape_of : ℕ → RequestNeeds → Shape
 shape_of task n = record { task = task; request = n.request; asks = with_parts [] n.asks }
 
--- a shape, once one more request of it came with its asks
+-- a shape after one more request of it, with its asks
 abbrev pub joined : Shape → RequestNeeds → Shape
 joined s n = record { task = s.task; request = lengthened s.request n.request; asks = with_parts s.asks n.asks }
 
--- the shapes, once a request of a task came with its asks: a new shape goes behind the others, a known one keeps its place
+-- the shapes after one more request of a task, with its asks: a new shape goes after the others, a known one keeps its place
 abbrev pub with_needed : List Shape → ℕ → RequestNeeds → List Shape
 with_needed [] task n = shape_of task n ∷ []
 with_needed (s ∷ ss) task n = if has_shape task n.request s then joined s n ∷ ss else s ∷ with_needed ss task n
 
--- the shapes, once a request of a task came that asks for nothing yet
+-- the shapes after one more request of a task that asks for nothing yet
 abbrev pub with_shape : List Shape → ℕ → RequestFields → List Shape
 with_shape shapes task r = with_needed shapes task (record { request = r; asks = [] })
 
--- the place of the shape of a request of a task: behind all others, where it is new
+-- the place of the shape of a request of a task: after all others where it is new
 abbrev pub shape_index : List Shape → ℕ → RequestFields → ℕ
 shape_index shapes task r = position_or_len (has_shape task r) shapes
 
--- the shapes, once a request of this shape asked for one more set
+-- the shapes after a request of this shape asked for one more set
 abbrev pub with_shape_ask : List Shape → ℕ → Set → List Shape
 with_shape_ask [] place part = []
 with_shape_ask (s ∷ ss) zero part = record s { asks = with_part s.asks part } ∷ ss
 with_shape_ask (s ∷ ss) (suc place) part = s ∷ with_shape_ask ss place part
 
--- the different sets for which a shape asks
+-- the different sets that a shape asks for
 abbrev pub parts_of : List Shape → ℕ → List Set
 parts_of [] place = []
 parts_of (s ∷ ss) zero = s.asks
 parts_of (s ∷ ss) (suc place) = parts_of ss place
 
--- the number of a set among those for which a shape asks: behind all others, where it is new
+-- the number of a set among those that a shape asks for: after all others where it is new
 abbrev pub ask_index : List Shape → ℕ → Set → ℕ
 ask_index shapes place part = position_or_len (equals part) (parts_of shapes place)
 
@@ -81,7 +81,7 @@ task_at [] place = 0
 task_at (s ∷ ss) zero = s.task
 task_at (s ∷ ss) (suc place) = task_at ss place
 
--- the shape at a place takes a request over
+-- the shape at a place takes the lengths of a request over
 abbrev pub taken_over : List Shape → ℕ → RequestFields → List Shape
 taken_over [] place r = []
 taken_over (s ∷ ss) zero r = joined s (record { request = r; asks = [] }) ∷ ss

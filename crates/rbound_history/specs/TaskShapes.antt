@@ -1,4 +1,4 @@
--- The shapes of the requests of so many tasks, as contracts see them.
+-- The shapes of the requests of some tasks, as contracts see them.
 use Rattle.std.specs.Prelude.{ℕ, List, refl}
 use Rattle.std.specs.Coded.{Coded, code_by, coded×, coded_ℕ, coded_list}
 use Rattle.rset.specs.Sets.{Set}

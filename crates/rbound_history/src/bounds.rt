@@ -13,14 +13,14 @@ use rbound::Bound;
 use rbound_table::Bounds;
 use std::alloc::{AllocError, Global};
 
-/// Where a shape stands among those of all tasks.
+/// The place of a shape among those of all tasks.
 #[derive(Clone, Copy)]
 pub(crate) struct Place {
     pub(crate) task: u8,
     pub(crate) number: usize,
 }
 
-/// The bounds of all waits of a history that was told whole.
+/// The bounds of all waits of a history that is complete.
 #[derive(Drop)]
 pub struct WaitBounds {
     pub(crate) bounds: Bounds,
@@ -38,7 +38,7 @@ impl WaitBounds {
     }
 }
 
-/// Where each of these shapes stands.
+/// The place of each of these shapes.
 pub(crate) fn places_of(alloc: Global, shapes: &Shapes) -> Result<Vec<Place>, AllocError>
     ensures { IfOk result (λ places. ArePlaces shapes.now.shapes places.items) }
 {

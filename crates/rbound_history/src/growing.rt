@@ -22,7 +22,7 @@ use rexpand::Groups;
 use rset::ResourceSet;
 use std::alloc::{AllocError, Global};
 
-/// Of the last request of a seat, the place of its shape, and the number of its last ask among the shape's different ones.
+/// For the last request of a seat, the place of its shape, and the number of its last ask among the different asks of the shape.
 #[derive(Clone, Copy)]
 pub(crate) struct Last {
     pub(crate) place: usize,
@@ -33,16 +33,16 @@ pub(crate) struct Last {
 #[derive(Drop)]
 pub struct GrowingNeeds {
     shapes: Shapes,
-    /// Of each seat.
+    /// For each seat.
     last: Vec<Last>,
 }
 
 impl GrowingNeeds {
-    /// Those of a history without events, of so many tasks: one at each seat.
+    /// The needs of a history without events, for this many tasks: one at each seat.
     ///
     /// # Errors
     ///
-    /// Want of memory.
+    /// Out of memory.
     pub fn new(alloc: Global, tasks: u8) -> Result<GrowingNeeds, AllocError>
         ensures { IfOk result (λ made. Knows made tasks []) }
     {
@@ -53,13 +53,13 @@ impl GrowingNeeds {
         })
     }
 
-    /// Tells it an event, which is accepted behind those that it was told before. Memory is taken for shapes and for the sets
-    /// that they ask for, not for events: none for a finish or a rise, over which nothing changes. For a request that has the shape
-    /// of its seat's last one none is taken either, which is not proved.
+    /// Takes an event, which is accepted after those that were given before. Memory is taken for shapes and for the sets that
+    /// they ask for, not for events. A finish or a rise changes nothing. A request with the shape of its seat's last request
+    /// takes no memory either, but this is not proved.
     ///
     /// # Errors
     ///
-    /// Want of memory, and never for a finish or a rise. Nothing changes then.
+    /// Out of memory; never for a finish or a rise. Then nothing changes.
     pub fn told(&mut self, event: &Event) -> Result<(), AllocError>
         requires { (groups : ReadGroups) × (seats : ℕ) × (cap : ℕ) × (events : List Event) × Knows self.old seats events × AreAccepted (opening groups seats cap) (events ++ event.now ∷ []) }
         ensures ok { OnOk result ((groups : ReadGroups) (seats cap : ℕ) (events : List Event) → Knows self.old seats events → AreAccepted (opening groups seats cap) (events ++ event.now ∷ []) → Knows self.new seats (events ++ event.now ∷ [])) }
@@ -74,7 +74,7 @@ impl GrowingNeeds {
         }
     }
 
-    /// Takes a request of a seat, which is its last one from now on. Nothing changes on want of memory.
+    /// Takes a request of a seat, which is its last one from now on. If memory runs out, nothing changes.
     fn take_request(&mut self, seat: u8, request: Request) -> Result<(), AllocError>
         requires task { seat < self.old.shapes.tasks }
         requires seat { seat < length self.old.last.items }
@@ -87,7 +87,7 @@ impl GrowingNeeds {
         Ok(())
     }
 
-    /// Takes a set for which the last request of a seat asks. Nothing changes on want of memory.
+    /// Takes a set that the last request of a seat asks for. If memory runs out, nothing changes.
     fn take_ask(&mut self, seat: u8, set: ResourceSet) -> Result<(), AllocError>
         requires { (last : Last) × (slice_get self.old.last.items seat ≡ Some last) × (is_nested_at self.old.shapes.shapes last.place ≡ true) }
         ensures shapes { OnOk result ((last : Last) → slice_get self.old.last.items seat ≡ Some last → self.new.shapes ≡ record self.old.shapes { shapes = with_shape_ask self.old.shapes.shapes last.place set }) }
@@ -100,7 +100,7 @@ impl GrowingNeeds {
         Ok(())
     }
 
-    /// By what the bound of a wait is found that the last event ended. It takes no memory, and stays right whatever comes.
+    /// The key of a wait that the last event ended; its bound is found by it. Takes no memory. The key stays right whatever comes.
     pub fn key(&self, wait: &WaitEnd) -> BoundKey
         requires { (groups : ReadGroups) × (seats : ℕ) × (cap : ℕ) × (events : List Event) × Knows self.now seats events × IsLastEnded groups seats cap events wait.now }
         ensures key { (groups : ReadGroups) (seats cap : ℕ) (events : List Event) → Knows self.now seats events → IsLastEnded groups seats cap events wait.now → IsKeyOf groups seats cap events wait.now result }
@@ -118,18 +118,18 @@ impl GrowingNeeds {
         }
     }
 
-    /// The number of different shapes so far: the shape of each key lies below it.
+    /// The number of different shapes so far: the shape of each key is below it.
     pub fn len(&self) -> usize
         ensures { (seats : ℕ) (events : List Event) → Knows self.now seats events → result ≡ length (shapes_told events) }
     {
         self.shapes.len()
     }
 
-    /// The bounds of all waits of a history that was told whole, over its groups and under its cap.
+    /// The bounds of all waits of the history, which is now complete, over its groups and under its cap.
     ///
     /// # Errors
     ///
-    /// Want of memory.
+    /// Out of memory.
     pub fn bounds(&self, alloc: Global, groups: Groups, cap: u8) -> Result<WaitBounds, AllocError>
         requires cap { 1 ≤ cap }
         requires told { (seats : ℕ) × (events : List Event) × Knows self.now seats events × AreAccepted (opening groups seats cap) events }

@@ -6,7 +6,7 @@ pub fn bounds_are_of_shapes()
     ensures { BoundsAreOfShapes }
 {}
 
-/// *A bound is the same from needs and from compact needs*, in which of the requests of one shape one is left.
+/// *A bound is the same from needs and from compact needs*, which keep one request of each shape.
 pub fn bounds_are_of_compact_needs()
     ensures { BoundsAreOfCompactNeeds }
 {}

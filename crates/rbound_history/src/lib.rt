@@ -1,4 +1,8 @@
-//! The bounds of waits, by what the requests of a whole history need.
+//! The bounds of waits, by what a whole history needs, gathered event by event.
+//!
+//! [`GrowingNeeds`] takes each event and keeps only the shapes of the requests: requests of one task that differ in nothing
+//! but their lengths and asks have one shape. A wait gets a [`BoundKey`] when it ends, and at the end [`WaitBounds`] finds its
+//! bound by that key. The module [`laws`] says that shapes give the same bounds.
 #![tactic(auto)]
 
 mod bounds;

@@ -1,4 +1,4 @@
-// What tasks would need that issued each shape once.
+// What tasks would need if they issued each shape once.
 ghost use Rattle.std.specs.Prelude.{◌≡◌, ◌<◌, [], ◌∷◌, true, IfOk, OnOk, IsTrue, length, map};
 ghost use Rattle.std.specs.List.{AllByRecursion};
 ghost use Rattle.rset.specs.Sets.{all_below};
@@ -33,8 +33,8 @@ pub(crate) fn needs_of(
     Ok(needs)
 }
 
-/// Puts the shapes of all tasks, of which none needs anything yet. Each task's places are gone through on their own, since
-/// needs that come in the order of the tasks are put behind all others.
+/// Adds the shapes of all tasks, which need nothing yet. The places of each task are gone through on their own, because
+/// needs that come in the order of the tasks go after all others.
 fn push_tasks(
     needs: &mut Needs,
     entries: &[Entry],
@@ -53,7 +53,7 @@ fn push_tasks(
     Ok(())
 }
 
-/// Puts the shapes of a task, which stand at these places, behind what it needs.
+/// Adds the shapes of a task, which are at these places, to what it needs.
 fn push_task(
     needs: &mut Needs,
     task: u8,
@@ -73,7 +73,7 @@ fn push_task(
     Ok(())
 }
 
-/// Puts a shape behind what its task needs, as one request with its asks.
+/// Adds a shape to what its task needs, as one request with its asks.
 fn push_shape(needs: &mut Needs, entry: &Entry) -> Result<(), AllocError>
     requires task { entry.now.task < length needs.old.tasks }
     requires reads { IsTrue (all_below needs.old.groups.q entry.now.request.reads) }

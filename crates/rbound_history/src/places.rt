@@ -1,4 +1,4 @@
-// Where the shapes of each task stand.
+// The places of the shapes of each task.
 ghost use Rattle.std.specs.Prelude.{◌≡◌, ◌<◌, ◌∷◌, ◌++◌, [], IfOk, OnOk, length, replicate, slice_set};
 ghost use Rattle.std.specs.List.{AllByRecursion};
 ghost use Rattle.rbound_history.specs.Kept.{shapes_in};
@@ -7,7 +7,7 @@ ghost use Rattle.rbound_history.specs.Places.{lists_in, list_at, ArePlaces};
 use crate::table::Entry;
 use std::alloc::{AllocError, Global};
 
-/// Of each task, the places of its shapes in order.
+/// For each task, the places of its shapes in order.
 pub(crate) fn places_of(
     alloc: Global,
     entries: &[Entry],
@@ -21,7 +21,7 @@ pub(crate) fn places_of(
     Ok(places)
 }
 
-/// Of so many tasks, no places.
+/// No places yet, for this many tasks.
 fn no_places(alloc: Global, tasks: u8) -> Result<Vec<Vec<usize>>, AllocError>
     ensures none { IfOk result (λ places. lists_in places.items ≡ replicate tasks []) }
     ensures len { IfOk result (λ places. length places.items ≡ tasks) }
@@ -33,7 +33,7 @@ fn no_places(alloc: Global, tasks: u8) -> Result<Vec<Vec<usize>>, AllocError>
     Ok(places)
 }
 
-/// Notes the places of all shapes, each with those of its task.
+/// Adds the places of all shapes, each to those of its task.
 fn note_all(places: &mut Vec<Vec<usize>>, entries: &[Entry], tasks: u8) -> Result<(), AllocError>
     requires none { ArePlaces [] tasks places.old.items }
     requires tasks { AllByRecursion (λ s. s.task < tasks) (shapes_in entries.now) }
@@ -45,7 +45,7 @@ fn note_all(places: &mut Vec<Vec<usize>>, entries: &[Entry], tasks: u8) -> Resul
     Ok(())
 }
 
-/// Puts a place behind the others of a task.
+/// Adds a place after the others of a task.
 fn note(places: &mut Vec<Vec<usize>>, task: u8, place: usize) -> Result<(), AllocError>
     requires { task < length places.old.items }
     ensures { OnOk result (lists_in places.new.items

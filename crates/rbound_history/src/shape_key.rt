@@ -1,4 +1,4 @@
-// What shapes and asks are looked up by, with their hashes.
+// The keys by which shapes and asks are looked up, with their hashes.
 ghost use Rattle.std.specs.Prelude.{◌≡◌, []};
 ghost use Rattle.rbound_history.specs.ShapeKeys.{mask_of, with_word, word_of, key_of};
 ghost use Rattle.rclaim.specs.Codes.{kind_number};
@@ -120,7 +120,7 @@ impl Hash for AskedSet {
     }
 }
 
-/// A number in which each member of a set has its bit.
+/// A number in which each member of a set has a bit.
 #[tactic(auto, unfolding(crate::specs::ShapeKeys::mask_of))]
 fn mask_of(set: ResourceSet) -> u64
     ensures { result ≡ mask_of set }
@@ -128,7 +128,7 @@ fn mask_of(set: ResourceSet) -> u64
     set.iter().fold(0u64, |mask, l| mask | 1 << (l % 64))
 }
 
-/// A word with another behind it, in one word.
+/// Two words, one after the other, in one word.
 fn with_word(word: u64, behind: u64) -> u64
     ensures { result ≡ with_word word behind }
 {
@@ -136,7 +136,7 @@ fn with_word(word: u64, behind: u64) -> u64
         .wrapping_add(behind)
 }
 
-/// All that a key says, in one word: one is hashed sooner than five, and keys that differ may share it.
+/// All parts of a key in one word. One word is hashed faster than five, and different keys may share it.
 fn word_of(key: &ShapeKey) -> u64
     ensures { result ≡ word_of key.now }
 {

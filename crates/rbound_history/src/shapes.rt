@@ -15,12 +15,12 @@ use rset::ResourceSet;
 use std::alloc::{AllocError, Global};
 use std::marker::Model;
 
-/// The shapes of the requests of so many tasks, in the order in which they first came. Requests of one task that differ in
-/// nothing but their lengths and their asks have one shape, which has the greatest of their lengths and their different asks.
+/// The shapes of the requests of some tasks, in the order in which they first came. Requests of one task that differ in
+/// nothing but their lengths and asks have one shape, with the greatest of their lengths and their different asks.
 #[derive(Drop)]
 pub struct Shapes {
     table: Table,
-    /// Of each task, where its last request has its shape; looked at first, and it promises nothing.
+    /// For each task, the place of the shape of its last request. It is tried first, and is only a hint.
     last: Vec<usize>,
 }
 
@@ -39,11 +39,11 @@ impl Model for Shapes {
 }
 
 impl Shapes {
-    /// No shapes yet, of so many tasks.
+    /// No shapes yet, for this many tasks.
     ///
     /// # Errors
     ///
-    /// Want of memory.
+    /// Out of memory.
     pub fn new(alloc: Global, tasks: u8) -> Result<Shapes, AllocError>
         ensures { IfOk result (λ shapes. shapes ≡ record { tasks = tasks; shapes = [] }) }
     {
@@ -60,12 +60,12 @@ impl Shapes {
         })
     }
 
-    /// Takes a request of a task, and answers the place of its shape, from 0: a new shape goes behind the others, a known one
+    /// Takes a request of a task, and answers the place of its shape, from 0: a new shape goes after the others, a known one
     /// keeps its place and gets the greater length and the greater later length.
     ///
     /// # Errors
     ///
-    /// Want of memory. Nothing changes then.
+    /// Out of memory. Then nothing changes.
     pub fn add(&mut self, task: u8, request: Request) -> Result<usize, AllocError>
         requires { task < self.old.tasks }
         ensures ok { OnOk result (self.new ≡ record self.old { shapes = with_shape self.old.shapes task request }) }
@@ -82,12 +82,12 @@ impl Shapes {
         Ok(place)
     }
 
-    /// Takes a set for which a request of a shape asks, and answers its number among the different ones for which the shape
-    /// asks, from 0: a new one goes behind the others.
+    /// Takes a set that a request of a shape asks for, and answers its number among the different sets that the shape asks
+    /// for, from 0: a new set goes after the others.
     ///
     /// # Errors
     ///
-    /// Want of memory. Nothing changes then.
+    /// Out of memory. Then nothing changes.
     pub fn add_ask(&mut self, shape: usize, set: ResourceSet) -> Result<usize, AllocError>
         requires { is_nested_at self.old.shapes shape ≡ true }
         ensures ok { OnOk result (self.new ≡ record self.old { shapes = with_shape_ask self.old.shapes shape set }) }
@@ -111,8 +111,8 @@ impl Shapes {
         self.table.entries.len()
     }
 
-    /// The task of a shape, and its number among the shapes of that task, from 0: with both, the needs and the bounds of all
-    /// shapes are asked for the shape's waits.
+    /// The task of a shape, and its number among the shapes of that task, from 0. With these the needs and the bounds of all
+    /// shapes can be asked about the shape's waits.
     pub fn place(&self, shape: usize) -> (u8, usize)
         requires { shape < length self.now.shapes }
         ensures task { result.0 ≡ task_at self.now.shapes shape }
@@ -123,11 +123,11 @@ impl Shapes {
         (self.table.entries[shape].task, self.table.numbers[shape])
     }
 
-    /// What tasks would need over these groups that issued each shape once, in the order of the shapes.
+    /// What tasks would need over these groups if they issued each shape once, in the order of the shapes.
     ///
     /// # Errors
     ///
-    /// Want of memory.
+    /// Out of memory.
     pub fn needs(&self, alloc: Global, groups: Groups) -> Result<Needs, AllocError>
         requires { AreBelow groups.q self.now.shapes }
         ensures { IfOk result (λ needs. needs ≡ record { groups = groups; tasks = needs_of_shapes self.now.tasks self.now.shapes }) }
@@ -135,12 +135,12 @@ impl Shapes {
         needs_of(alloc, groups, &self.table.entries, self.tasks())
     }
 
-    /// The bound of a wait of the requests of a shape, where no more than `cap` requests may be incomplete. All claims that the
-    /// shapes make are looked through for it: where many bounds are wanted, make a table of what `needs` gives.
+    /// The bound of a wait of the requests of a shape, where no more than `cap` requests may be incomplete. It looks through all
+    /// claims of the shapes: where many bounds are wanted, make a table of what `needs` gives.
     ///
     /// # Errors
     ///
-    /// Want of memory.
+    /// Out of memory.
     pub fn bound(
         &self,
         alloc: Global,
@@ -161,7 +161,7 @@ impl Shapes {
     }
 }
 
-/// What was noted of a task last; 0 where nothing was.
+/// The place that was last recorded for a task; 0 where there was none.
 fn place_in(last: &[usize], task: u8) -> usize
     ensures { result ≡ slice_index_or last.now task 0 }
 {
@@ -171,7 +171,7 @@ fn place_in(last: &[usize], task: u8) -> usize
     }
 }
 
-/// Notes a place of a task. Where there is no such task, nothing is noted.
+/// Records a place for a task. Where there is no such task, nothing is recorded.
 fn note(last: &mut [usize], task: u8, place: usize)
     ensures { last.new ≡ slice_set last.old task place }
 {

@@ -10,7 +10,7 @@ use rclaim::Request;
 use rset::ResourceSet;
 use std::alloc::AllocError;
 
-/// A shape, with the different sets for which it asks.
+/// A shape, with the different sets that it asks for.
 #[derive(Drop)]
 pub(crate) struct Entry {
     pub(crate) task: u8,
@@ -49,7 +49,7 @@ pub(crate) fn take_over(entries: &mut Vec<Entry>, place: usize, task: u8, reques
     }
 }
 
-/// One ask more of the shape at a place, and its number among the different ones of the shape.
+/// Adds an ask to the shape at a place, and answers its number among the different asks of the shape.
 pub(crate) fn push_ask(
     entries: &mut Vec<Entry>,
     place: usize,
@@ -65,7 +65,7 @@ pub(crate) fn push_ask(
     Ok(number)
 }
 
-/// Puts a new shape behind the others, for which there is room.
+/// Adds a new shape after the others, where there is room.
 fn push_new(table: &mut Table, task: u8, request: &Request)
     requires entries { length table.old.entries.items < vec_capacity table.old.entries }
     requires numbers { length table.old.numbers.items < vec_capacity table.old.numbers }
@@ -89,7 +89,7 @@ fn push_new(table: &mut Table, task: u8, request: &Request)
     });
 }
 
-/// The place of the shape of a request of a task, which takes its lengths over; a new shape goes behind the others.
+/// The place of the shape of a request of a task, which takes its lengths over; a new shape goes after the others.
 pub(crate) fn enter(table: &mut Table, task: u8, request: &Request) -> Result<usize, AllocError>
     requires task { task < length table.old.counts.items }
     requires table { IsTable table.old }

@@ -1,4 +1,4 @@
--- What is kept answers the bounds that are defined.
+-- The tables answer the bounds that are defined.
 use Rattle.std.proofs.Common.{◌≡◌, ◌<◌, ◌≤◌, ◌+◌, ◌==◌, ◌⊎◌, ℕ, zero, suc, true, false, cond, List, [], ◌∷◌, ◌++◌, map, length, get_or, slice_get, Some, None, Result, Ok, Err, IfOk, IsTrue, refl, sym, ap, subst, ◌∙◌, inl, inr, arith}
 use Rattle.std.specs.List.{list_any, range_with_len}
 use Rattle.std.specs.FinSet.{empty, contains, intersection}
@@ -31,7 +31,7 @@ use Rattle.rbound_table.proofs.PlaceZoneFacts.{zone_has, zone_closed, same_zone,
 use Rattle.rbound_table.proofs.WaitFacts.{keepers, delayers, barrer_is}
 use Rattle.rbound_table.proofs.ZoneFacts.{rows_are}
 
--- ---- while it is made
+-- ---- while they are made
 
 pub record HasWriteBounds (tables : Tables) (tasks cap : ℕ) (zones : List Set) (writes : List (Vec Bound Global)) (n : ℕ) : Type 0 where
   pub long : length writes ≡ n
@@ -88,7 +88,7 @@ no_vec [] i h = refl
 no_vec (w ∷ writes) zero h = absurd (omega arith)
 no_vec (w ∷ writes) (suc i) h = no_vec writes i (omega arith)
 
--- ---- what it answers
+-- ---- what they answer
 
 -- the first of a list
 head_is : {X : Type 0} (xs : List X) (x : X) → slice_get xs 0 ≡ Some x → (rest : List X) × (xs ≡ x ∷ rest)

@@ -16,7 +16,7 @@ use Rattle.rbound_table.specs.Answers.{AreAnswers, write_answer, read_answer, fi
 use Rattle.rbound_table.specs.declared.answers.Answers.{Answers}
 use Rattle.rbound_table.proofs.AnswerFacts.{writes_answered, reads_answered, asks_answered}
 
--- what is found is there, and passes
+-- what is found is in the list, and passes
 found : (p : Needed → Bool) (ns : List Needed) (n : Needed) → find p ns ≡ Some n → Among n ns × (p n ≡ true)
 found p [] n is = absurd cc
 found p (m ∷ ns) n is = at (p m) refl is (found p ns n)
@@ -57,7 +57,7 @@ module _ (ns : List Needed) (tasks : ℕ) (a : Answers) (so : AreAnswers ns task
   ask_is part None is below = refl
   ask_is part (Some n) is below = let w = write_found n is in asks_answered ns tasks a so n.claim part (seat_is n w.1) below
 
--- ---- by the needs
+-- ---- from the needs
 
 module _ (needs : TaskNeeds) (a : Answers) (so : AreAnswers (needed_in needs) (length needs.tasks) a) (task k : ℕ) (some : task < length needs.tasks) (which : Which) where
   pub first_bounds : (n : Needed) → which ≡ First → first_need (needed_in needs) task k ≡ Some n → IsTrue (all_below RESOURCES n.claim.reads) → first_answer a n.claim ≡ bound_of needs a.cap task k which

@@ -32,7 +32,7 @@ use Rattle.rbound_table.proofs.QueryFacts.{among_any, any_and, meets_rising}
 use Rattle.rbound_table.proofs.TwoFacts.{IsFair, only_fair, joined_at}
 use Rattle.rbound_table.proofs.LeaderFacts.{led_beside_at, led_beside_fair}
 
--- a set meets what some claims have together where it meets the key of one
+-- a set meets what some claims have together exactly where it meets the key of one of them
 meets_together : (s : Set) (key : Needed → Set) (p : Needed → Bool) (ns : List Needed) → meets s (together key p ns) ≡ list_any (λ v. p v && meets s (key v)) ns
 meets_together s key p [] = meets_empty_right s
 meets_together s key p (n ∷ ns) = at (p n) (meets_together s key p ns)
@@ -94,7 +94,7 @@ module _ (ns : List Needed) (tasks : ℕ) (are : AreSound ns tasks) where
   abbrev pub holds : ℕ → ℕ → Needed → Needed → Bool
   holds l s n v = v.claim.write_half && ((v.claim.seat == s) && (contains v.claim.writes l && can_hold_up n.claim v.claim))
 
-  -- the same of another task than one
+  -- the same, leaving one task out
   abbrev pub holds_beside : ℕ → ℕ → Needed → Needed → Bool
   holds_beside l me n v = v.claim.write_half && (not (v.claim.seat == me) && (contains v.claim.writes l && can_hold_up n.claim v.claim))
 

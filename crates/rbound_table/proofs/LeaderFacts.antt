@@ -1,4 +1,4 @@
--- The leaders tell the two longest of all tasks but any one.
+-- The leaders give the two longest of all tasks but any one.
 use Rattle.std.proofs.Common.{◌≡◌, ◌==◌, ◌⊎◌, ℕ, Bool, true, false, cond, Option, Some, None, refl, sym, ap, ◌∙◌, inl, inr}
 use Rattle.std.specs.List.{range_with_len}
 use Rattle.std.proofs.lemmas.Bool.Decides.{eqb_tells}
@@ -23,14 +23,14 @@ nothing_longer None x none h = h
 nothing_longer (Some a) x none h = absurd cc
 
 module _ (tasks but me : ℕ) (f : ℕ → Option ℕ) where
-  -- the longest of all tasks but one and another, whichever of them is left out first
+  -- the longest of all tasks but two is the same, whichever of the two is left out first
   exchanged : beside tasks but (λ t. cond (t == me) None (f t)) ≡ beside tasks me (λ t. cond (t == but) None (f t))
   exchanged =
       beside_is tasks but (λ t. cond (t == me) None (f t))
       ∙ longest_of_same (unless_me but (λ t. cond (t == me) None (f t))) (unless_me me (λ t. cond (t == but) None (f t))) (range_with_len 0 tasks) (λ t there. crossed (t == but) (t == me) (f t))
       ∙ sym (beside_is tasks me (λ t. cond (t == but) None (f t)))
 
-  -- where it is of neither, the longest of all is the longest of the others
+  -- where the longest of all is of neither task, it is the longest of the others
   of_neither : ((two_of tasks f).task == but) ≡ false → ((two_of tasks f).task == me) ≡ false → (two_of tasks f).longest ≡ beside tasks me (λ t. cond (t == but) None (f t))
   of_neither first second = sym (beside_is tasks me (λ t. cond (t == but) None (f t)) ∙ at (two_of_leads tasks f))
     where
@@ -51,7 +51,7 @@ module _ (tasks but me : ℕ) (f : ℕ → Option ℕ) where
           top_is rest (range_with_len 0 tasks) top over (two_of tasks f).task some.0
           (ap (λ c. cond c None (cond ((two_of tasks f).task == but) None (f (two_of tasks f).task))) second ∙ ap (λ c. cond c None (f (two_of tasks f).task)) first ∙ some.1)
 
-  -- *The leaders tell the longest of all tasks but two*
+  -- *The leaders give the longest of all tasks but two*
   pub led_beside_at : two_at (led_beside (leaders_of tasks f) but) me ≡ beside tasks me (λ t. cond (t == but) None (f t))
   led_beside_at = elim (eqb_tells (two_of tasks f).task but) [
     | inl same ↦

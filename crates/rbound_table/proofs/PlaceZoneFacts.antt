@@ -32,7 +32,7 @@ places_there (m ∷ ns) s n l (inl same) h =
     places_kept ns (union s m.claim.places) l (contains_union s m.claim.places l ∙ or_right (contains s l) (contains m.claim.places l) (ap (λ (x : Needed). contains x.claim.places l) (sym same) ∙ h))
 places_there (m ∷ ns) s n l (inr later) h = places_there ns (union s m.claim.places) n l later h
 
--- the one member of a set of one
+-- the only member of a set with one member
 one_is : (l m : ℕ) → contains {R = nat_cmp} (insert empty l) m ≡ true → m ≡ l
 one_is l m h = elim (or_cases (m == l) (contains {R = nat_cmp} empty m) (sym (contains_insert empty l m) ∙ h)) [
   | inl same ↦ eqb-true m l same

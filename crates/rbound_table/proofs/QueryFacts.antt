@@ -1,4 +1,4 @@
--- What tables answer: the longest of the claims that a wait asks for.
+-- What tables answer: the longest of the claims that matter for a wait.
 use Rattle.std.proofs.Common.{◌≡◌, ◌<◌, ◌&&◌, ◌==◌, ℕ, Bool, true, false, List, [], ◌∷◌, refl, sym, ap, subst, ◌∙◌}
 use Rattle.std.specs.List.{list_any}
 use Rattle.std.specs.FinSet.{contains}

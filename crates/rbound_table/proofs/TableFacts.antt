@@ -1,4 +1,4 @@
--- A table that has taken all claims has, of each task and resource, what the claims there come to.
+-- A table that has taken all claims has, for each task and resource, the summary of the claims there.
 use Rattle.std.proofs.Common.{◌≡◌, ◌≢◌, ◌<◌, ◌≤◌, ◌+◌, ◌*◌, ◌==◌, ◌&&◌, ◌||◌, ℕ, suc, Bool, true, false, cond, List, [], ◌∷◌, fold, length, get_or, take, drop, max, ◌++◌, ◌-◌, Option, Some, None, IsTrue, refl, sym, ap, subst, ◌∙◌, inl, inr, arith}
 use Rattle.std.specs.Prelude.{replicate, nat_lt}
 use Rattle.std.specs.List.{list_any, list_all, AllByRecursion}
@@ -30,7 +30,7 @@ raised_again : (key : Set) (len : ℕ) (c : Cell) → raised key len (raised key
 raised_again key len c =
     (λ i. record { longest = longer_again len c.longest i; beside = (sym (union_associative key key c.beside) ∙ ap (λ s. union s c.beside) (union_same key)) i })
 
--- under one resource more: just the cell of the task and the resource changes
+-- with one more resource only the cell of the task and that resource changes
 member_at : (t : ℕ) (key : Set) (len : ℕ) (cells : List Cell) (x u l : ℕ) → t * RESOURCES + RESOURCES ≤ length cells → x < RESOURCES → l < RESOURCES
     → cell_at (with_member t key len cells x) u l ≡ cond ((t == u) && (x == l)) (raised key len (cell_at cells u l)) (cell_at cells u l)
 member_at t key len cells x u l long small within =

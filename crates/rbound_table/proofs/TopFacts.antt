@@ -1,4 +1,4 @@
--- The longest of some lengths: one that is as long as all others is it.
+-- The longest of some lengths: a length that is at least as long as all others is the longest.
 use Rattle.std.proofs.Common.{◌≡◌, ◌<◌, ◌≢◌, ◌==◌, ℕ, Bool, true, false, cond, List, [], ◌∷◌, fold, Option, Some, None, refl, sym, ap, ◌∙◌, inl, inr, arith}
 use Rattle.std.specs.List.{range_with_len}
 use Rattle.std.specs.Option.{option_eq}
@@ -31,7 +31,7 @@ over_all g [] top over = longer_none top
 over_all g (x ∷ ks) top over =
     sym (longer_assoc top (g x) (longest_of g ks)) ∙ ap (λ y. longer y (longest_of g ks)) (over x (inl refl)) ∙ over_all g ks top (λ k there. over k (inr there))
 
--- and is their longest, where it is one of them
+-- and it is their longest, where it is one of them
 pub top_is : (g : ℕ → Option ℕ) (ks : List ℕ) (top : Option ℕ) → ((k : ℕ) → Among k ks → longer top (g k) ≡ top) → (k : ℕ) → Among k ks → g k ≡ top → longest_of g ks ≡ top
 top_is g [] top over k there is = absurd there
 top_is g (x ∷ ks) top over k (inl same) is = ap (λ y. longer y (longest_of g ks)) (sym (ap g same) ∙ is) ∙ over_all g ks top (λ m there. over m (inr there))
@@ -43,12 +43,12 @@ pub under_unless : (c : Bool) (t o : Option ℕ) → longer t o ≡ t → longer
 under_unless true t o h = longer_none t
 under_unless false t o h = h
 
--- a length over both of two is over each
+-- a length that is no shorter than the longer of two is no shorter than each
 under_two : (c : Bool) (t a b : Option ℕ) → longer t (longer a b) ≡ t → longer t (cond c b a) ≡ t
 under_two true t a b h = ap (λ x. longer x b) (sym h) ∙ longer_assoc t (longer a b) b ∙ ap (longer t) (again_second a b) ∙ h
 under_two false t a b h = ap (λ x. longer x a) (sym h) ∙ longer_assoc t (longer a b) a ∙ ap (longer t) (again a b) ∙ h
 
--- *The longest of all is the longest beside one task*, where another one than it holds it up for yet another
+-- *The longest of all is the longest beside one task*, where the longest is of another task and holds up a third one
 pub top_beside : (tasks me w : ℕ) (two : ℕ → TwoLongest) (top : Option ℕ) → top ≡ fold (λ most k. longer most (longer (two k).longest (two k).next)) None (range_with_len 0 tasks)
     → w < tasks → (w == me) ≡ false → two_at (two w) me ≡ top → top ≡ beside tasks me (λ k. two_at (two k) me)
 top_beside tasks me w two top are within other is =

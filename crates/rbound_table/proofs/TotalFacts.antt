@@ -1,4 +1,4 @@
--- What the rows of a zone come to tells the numbers of each task.
+-- The totals of a zone give the numbers of each task.
 use Rattle.std.proofs.Common.{◌≡◌, ◌≢◌, ◌≤◌, ◌<◌, ◌+◌, ◌-◌, ◌*◌, ◌&&◌, ◌||◌, ◌==◌, not, min, max, ℕ, zero, suc, Bool, true, false, cond, List, [], ◌∷◌, map, Option, Some, None, is_some, unwrap_or, refl, sym, ap, ◌∙◌, inl, inr, arith}
 use mir.Val.{bool_byte}
 use Rattle.std.specs.List.{list_all, count_by, sum_by, range_with_len}
@@ -45,7 +45,7 @@ sum_other f g me low (suc n) same none least most =
     later : (a b c d e : ℕ) → a ≡ d → b + c ≡ e → (a + b) + c ≡ d + e
     later a b c d e p q = omega arith
 
--- none passes where the count is 0
+-- nothing passes exactly where the count is 0
 none_counted : (r q : ℕ → Bool) (ks : List ℕ) → ((t : ℕ) → r t ≡ not (q t)) → list_all r ks ≡ (count_by q ks == 0)
 none_counted r q [] same = refl
 none_counted r q (k ∷ ks) same =
@@ -65,7 +65,7 @@ largest_most f (suc k) (t ∷ ks) = fits (f t) (largest k (map f ks)) (largest (
     fits : (x l m s t : ℕ) → l ≤ s → m ≤ s → t ≡ x + s → max (x + l) m ≤ t
     fits x l m s t p q r = omega arith
 
--- so many numbers, of which no more count, have their sum
+-- where no more than k numbers count, the largest k have the sum of all
 all_largest : (g : ℕ → Option ℕ) (k : ℕ) (ks : List ℕ) → count_by (λ t. is_some (g t)) ks ≤ k → largest k (map (λ t. unwrap_or (g t) 0) ks) ≡ sum_by (λ t. unwrap_or (g t) 0) ks
 all_largest g zero [] few = refl
 all_largest g (suc k) [] few = refl

@@ -1,4 +1,4 @@
--- The two longest tell the longest of all tasks but any one.
+-- The two longest give the longest of all tasks but any one.
 use Rattle.std.proofs.Common.{◌≡◌, ◌<◌, ◌≤◌, ◌==◌, ℕ, Bool, true, false, cond, List, [], ◌∷◌, fold, max, Option, Some, None, refl, sym, ap, ◌∙◌, ◌⊎◌, inl, inr, arith}
 use Rattle.std.specs.List.{range_with_len}
 use Rattle.std.proofs.lemmas.Bool.{ltb-true, ltb-false}
@@ -62,7 +62,7 @@ led_fair : (a b : TwoLongest) → IsFair a → IsFair b → longer a.longest b.l
 led_fair a b first second most =
     sym (longer_assoc a.longest a.next (two_at b a.task)) ∙ ap (λ x. longer x (two_at b a.task)) first ∙ beyond a b a.task second most
 
--- *Of both, it is the longer of what each tells*
+-- *For both, it is the longer of what each gives*
 pub both_at : (a b : TwoLongest) (me : ℕ) → IsFair a → IsFair b → two_at (two_of_both a b) me ≡ longer (two_at a me) (two_at b me)
 both_at a b me first second = at (is_longer b.longest a.longest) refl
   where
@@ -122,7 +122,7 @@ twos_from writer me f (k ∷ ks) two fair = at (k == writer) (twos_from writer m
               (both_at two (only k (f k)) me fair (only_fair k (f k)) ∙ not_mine (k == me) (two_at two me) (f k)),
         )
 
--- *The two longest of all tasks but one* tell the longest of all but two
+-- *The two longest of all tasks but one* give the longest of all but two
 pub two_beside_at : (tasks writer me : ℕ) (f : ℕ → Option ℕ) → two_at (two_beside tasks writer f) me ≡ beside tasks me (λ t. cond (t == writer) None (f t))
 two_beside_at tasks writer me f =
     (twos_from writer me f (range_with_len 0 tasks) no_length refl).1
@@ -141,7 +141,7 @@ all_from me f (k ∷ ks) two fair =
     ∙ ap (λ m. fold (λ most t. cond (t == me) most (longer most (f t))) m ks)
     (both_at two (only k (f k)) me fair (only_fair k (f k)) ∙ not_mine (k == me) (two_at two me) (f k))
 
--- *The two longest of all tasks* tell the longest of all but one
+-- *The two longest of all tasks* give the longest of all but one
 pub two_of_at : (tasks me : ℕ) (f : ℕ → Option ℕ) → two_at (two_of tasks f) me ≡ beside tasks me f
 two_of_at tasks me f =
     all_from me f (range_with_len 0 tasks) no_length refl

@@ -58,7 +58,7 @@ module _ (ns : List Needed) (tasks : ℕ) (are : AreSound ns tasks) (tables : Ta
       ∙ delays_is ns tasks are tables ts l me within
 
   module _ (r : Claim) (mine : r.seat ≡ me) (none : r.writes ≡ empty) (below : all_below RESOURCES r.reads ≡ true) where
-    -- a write claim of another task keeps the read waiting where it writes some of what that reads
+    -- a write claim of another task keeps the read waiting exactly where it writes something that the read reads
     conflict_is : (v : Claim) → conflicts v r ≡ meets v.writes r.reads
     conflict_is v =
         (λ i. (meets r.reads v.writes || meets (none i) v.writes) || (meets v.reads (none i) || meets v.writes (none i)))

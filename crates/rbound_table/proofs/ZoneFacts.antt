@@ -1,4 +1,4 @@
--- The rows of a zone by the tables are those by the claims.
+-- The rows of a zone from the tables are those from the claims.
 use Rattle.std.proofs.Common.{◌≡◌, ◌+◌, ◌&&◌, ◌==◌, not, ℕ, Bool, true, false, cond, List, [], ◌∷◌, ◌++◌, map, sym, ap, ◌∙◌, arith}
 use Rattle.std.specs.List.{range_with_len}
 use Rattle.std.specs.FinSet.{empty}

@@ -1,4 +1,4 @@
--- The tables of all claims that are needed.
+-- The tables of all needed claims.
 use Rattle.std.specs.Prelude.{ℕ, List}
 use Rattle.rbound.specs.Needs.{Needed}
 use Rattle.rbound_table.specs.Tables.{key_of, IsTable}

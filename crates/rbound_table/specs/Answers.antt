@@ -1,4 +1,4 @@
--- What answers all bounds, made once from the claims that are needed.
+-- The tables that answer all bounds, made once from the needed claims.
 use Rattle.std.specs.Prelude.{◌≡◌, ◌≢◌, ℕ, List, [], map, length, slice_get, slice_index_or, Option, Some, None, IsTrue, if◌then◌else◌}
 use Rattle.std.specs.List.{range_with_len}
 use Rattle.std.specs.FinSet.{empty, intersection}
@@ -31,7 +31,7 @@ pub record AreZoneBounds (tables : Tables) (tasks cap : ℕ) (zone : Set) (bound
   pub below : IsTrue (all_below RESOURCES zone)
   pub numbers : map numbers_in bounds ≡ map (numbers_of rows tasks cap) (range_with_len 0 tasks)
 
--- they stand at the least place of the zone, and none at another
+-- they are at the least place of the zone, and there are none at another place
 pub record StandsAt (tables : Tables) (tasks cap : ℕ) (zone : Set) (l : ℕ) (bounds : List Bound) : Type 0 where
   pub below : IsTrue (all_below RESOURCES zone)
   pub least : slice_get (rising zone) 0 ≡ Some l → AreZoneBounds tables tasks cap zone bounds
@@ -42,7 +42,7 @@ pub record AreWriteBounds (tables : Tables) (tasks cap : ℕ) (zones : List Set)
   pub long : length writes ≡ RESOURCES
   pub each : (l : ℕ) (bounds : Vec Bound Global) → slice_get writes l ≡ Some bounds → StandsAt tables tasks cap (slice_index_or zones l empty) l bounds.items
 
--- all of it, of these claims of so many tasks
+-- all of it, for these claims of this many tasks
 pub record AreAnswers (ns : List Needed) (tasks : ℕ) (a : Answers) : Type 0 where
   pub sound : AreSound ns tasks
   pub tables : Tables
@@ -53,7 +53,7 @@ pub record AreAnswers (ns : List Needed) (tasks : ℕ) (a : Answers) : Type 0 wh
 
 -- ---- what is answered
 
--- of a task in the zone whose least place this is
+-- the bound of a task in the zone whose least place this is
 abbrev pub bound_at : Option (Vec Bound Global) → ℕ → Numbers
 bound_at None t = no_wait
 bound_at (Some bounds) t = slice_index_or (map numbers_in bounds.items) t no_wait
@@ -62,7 +62,7 @@ abbrev pub bound_in_zone : List (Vec Bound Global) → ℕ → Option ℕ → Nu
 bound_in_zone writes t None = no_wait
 bound_in_zone writes t (Some l) = bound_at (slice_get writes l) t
 
--- of a task in the zone of this place
+-- the bound of a task in the zone of this place
 abbrev pub bound_by_place : List Set → List (Vec Bound Global) → ℕ → Option ℕ → Numbers
 bound_by_place zones writes t None = no_wait
 bound_by_place zones writes t (Some l) = bound_in_zone writes t (slice_get (rising (slice_index_or zones l empty)) 0)
@@ -83,7 +83,7 @@ ask_answer a c part = one_of_each None (longest_over (rows_in a.lengths.bars.ite
 abbrev pub first_answer : Answers → Claim → Numbers
 first_answer a c = if c.write_half then write_answer a c.seat c.places else read_answer a c
 
--- the bound of the wait of an upgrade that rises, where there is one
+-- the bound of the wait of an upgrade that rises, where there is a write claim
 abbrev pub rise_answer : Answers → Option Needed → Numbers
 rise_answer a None = no_wait
 rise_answer a (Some n) = write_answer a n.claim.seat n.claim.places

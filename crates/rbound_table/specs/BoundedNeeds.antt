@@ -8,6 +8,6 @@ pub record BoundedNeeds : Type 0 where
   pub needs : TaskNeeds
   pub cap : ℕ
 
--- they are stored as the pair of both
+-- they are coded as the pair of both
 abbrev pub bounded_needs_code : Coded BoundedNeeds
 bounded_needs_code = code_by (TaskNeeds × ℕ) (coded× task_needs_code coded_ℕ) (λ b. (b.needs, b.cap)) (λ p. record { needs = p.0; cap = p.1 }) (λ _. refl)

@@ -1,4 +1,4 @@
--- Of each resource and each task, the longest claim of another task that can hold up a write of the resource by a further one.
+-- For each resource and task, the longest claim of another task that can hold up a write of the resource by a third task.
 use Rattle.std.specs.Prelude.{◌==◌, ℕ, List, [], map, fold, find, slice_index_or, Option, None}
 use Rattle.std.specs.List.{range_with_len}
 use Rattle.std.specs.Option.{option_eq}
@@ -14,16 +14,16 @@ use Rattle.rbound_table.specs.declared.tables.Tables.{Tables}
 use Rattle.rbound_table.specs.declared.two.TwoLongest.{TwoLongest}
 use Rattle.rbound_table.specs.declared.leaders.Leaders.{Leaders}
 
--- of each resource the tasks of which a table has the longest
+-- for each resource, the tasks with the longest lengths in a table
 abbrev pub all_leaders : List Cell → ℕ → List Leaders
 all_leaders cells tasks = map (leaders_at cells tasks) (range_with_len 0 RESOURCES)
 
--- by these, the two longest of other tasks than the writer, of each resource
+-- from these, for each resource the two longest of all tasks but the writer
 abbrev pub readers_of : List Leaders → ℕ → List TwoLongest
 readers_of leaders writer = map (λ l. led_beside l writer) leaders
 
--- by these, the two longest that can hold up what the writer writes with a resource: the read halves of its own upgrades, and what others read of
--- all that it writes with the resource
+-- from these, the two longest claims that can hold up what the writer writes together with a resource: the read halves of its own upgrades, and
+-- the claims by which others read something that it writes together with the resource
 abbrev pub delayed_by : Tables → List TwoLongest → ℕ → ℕ → TwoLongest
 delayed_by tables readers writer l =
     fold (λ two m. two_of_both two (slice_index_or readers m no_length)) (only writer (cell_at tables.halves.items writer l).longest) (rising (cell_at tables.writes.items writer l).beside)
@@ -31,19 +31,19 @@ delayed_by tables readers writer l =
 abbrev pub delayed : Tables → ℕ → ℕ → ℕ → TwoLongest
 delayed tables tasks writer l = delayed_by tables (readers_of (all_leaders tables.reads.items tasks) writer) writer l
 
--- of each writer, at each resource
+-- for each writer, at each resource
 abbrev pub delayers_in : Tables → ℕ → List (List TwoLongest)
 delayers_in tables tasks = map (λ writer. map (delayed tables tasks writer) (range_with_len 0 RESOURCES)) (range_with_len 0 tasks)
 
--- of a writer, at a resource
+-- for a writer, at a resource
 abbrev pub delayers_at : List (List TwoLongest) → ℕ → ℕ → TwoLongest
 delayers_at rows writer l = slice_index_or (slice_index_or rows writer []) l no_length
 
--- the longest of other tasks that can hold up a write of another task
+-- the longest claim of another task that can hold up a write of another task
 abbrev pub delay_at : List (List TwoLongest) → ℕ → ℕ → ℕ → Option ℕ
 delay_at rows tasks l me = beside tasks me (λ writer. two_at (delayers_at rows writer l) me)
 
--- the longest of all that can hold up a write of the resource
+-- the longest of all claims that can hold up a write of the resource
 abbrev pub top_at : List (List TwoLongest) → ℕ → ℕ → Option ℕ
 top_at rows tasks l = fold (λ most writer. longer most (longer (delayers_at rows writer l).longest (delayers_at rows writer l).next)) None (range_with_len 0 tasks)
 

@@ -1,4 +1,4 @@
--- Of each resource and each task a length: rows, one of each resource.
+-- For each resource and task a length: rows, one for each resource.
 use Rattle.std.specs.Prelude.{ℕ, List, [], map, fold, slice_index_or, Option, None}
 use Rattle.std.specs.List.{range_with_len}
 use Rattle.std.specs.declared.vec.Vec.{Vec}
@@ -16,7 +16,7 @@ use Rattle.rbound_table.specs.declared.two.TwoLongest.{TwoLongest}
 abbrev pub rows_in : {X : Type 0} → List (Vec X Global) → List (List X)
 rows_in rows = map (λ v. v.items) rows
 
--- the longest that a table has at a resource of other tasks than one
+-- the longest that a table has at a resource, leaving one task out
 abbrev pub others_at : List Cell → ℕ → ℕ → ℕ → Option ℕ
 others_at cells tasks l me = beside tasks me (λ t. (cell_at cells t l).longest)
 

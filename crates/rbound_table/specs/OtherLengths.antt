@@ -5,7 +5,7 @@ use Rattle.rbound_table.specs.Delays.{delays_in}
 use Rattle.rbound_table.specs.declared.tables.Tables.{Tables}
 use Rattle.rbound_table.specs.declared.other_lengths.OtherLengths.{OtherLengths}
 
--- they are those by these tables
+-- the lengths are those from these tables
 pub record AreOtherLengths (tables : Tables) (tasks : ℕ) (lengths : OtherLengths) : Type 0 where
   pub keeps : rows_in lengths.keeps.items ≡ others_in tables.writes.items tasks
   pub bars : rows_in lengths.bars.items ≡ others_in tables.reads.items tasks

@@ -1,4 +1,4 @@
--- Tables: of each task and each resource, what the claims of the task come to whose key has the resource.
+-- Tables: for each task and resource, a summary of the task's claims whose key has the resource.
 use Rattle.std.specs.Prelude.{◌≡◌, ◌<◌, ◌+◌, ◌*◌, ◌==◌, ℕ, Bool, ◌&&◌, List, [], ◌∷◌, fold, length, slice_index_or, slice_set, Option, Some, None, IsTrue, if◌then◌else◌}
 use Rattle.std.specs.List.{AllByRecursion}
 use Rattle.std.specs.FinSet.{empty, union, contains}
@@ -11,7 +11,7 @@ use Rattle.rbound_table.specs.declared.table.Cell.{Cell}
 use Rattle.rbound_table.specs.declared.table.Key.{Key}
 use Rattle.rbound_table.specs.declared.table.Key.TheVariants.{Reads, Writes, Halves, ReadPlaces, WritePlaces, UpgradePlaces}
 
--- the resources under which a claim is found
+-- the resources under which a claim is entered
 abbrev pub key_of : Key → Needed → Set
 key_of Reads n = n.claim.reads
 key_of Writes n = n.claim.writes
@@ -24,36 +24,36 @@ key_of UpgradePlaces n = if is_upgrade n.claim.kind then n.claim.places else emp
 abbrev pub is_under : (Needed → Set) → ℕ → ℕ → Needed → Bool
 is_under key t l n = (n.claim.seat == t) && contains (key n) l
 
--- what no claims come to
+-- the summary of no claims
 abbrev pub no_claims : Cell
 no_claims = record { longest = None; beside = empty }
 
--- the resources of the claims that pass a test, each with those that it is asked for
+-- the resources that `key` gives for the claims that pass a test
 abbrev pub together : (Needed → Set) → (Needed → Bool) → List Needed → Set
 together key p [] = empty
 together key p (n ∷ ns) = if p n then union (key n) (together key p ns) else together key p ns
 
--- what the claims of a task come to whose key has the resource: the longest of them, and all resources of their keys
+-- the summary of the task's claims whose key has the resource: the longest of them, and all resources of their keys
 abbrev pub cell_of : (Needed → Set) → List Needed → ℕ → ℕ → Cell
 cell_of key ns t l = record { longest = longest (is_under key t l) ns; beside = together key (is_under key t l) ns }
 
--- the same with a claim more, of this key and length
+-- the same with one more claim, of this key and length
 abbrev pub raised : Set → ℕ → Cell → Cell
 raised key len c = record { longest = longer (Some len) c.longest; beside = union key c.beside }
 
--- what a table has of a task and a resource
+-- what a table has for a task and a resource
 abbrev pub cell_at : List Cell → ℕ → ℕ → Cell
 cell_at cells t l = slice_index_or cells (t * RESOURCES + l) no_claims
 
--- a table in which a claim of a task, of this key and length, is found under one resource more
+-- a table in which a claim of a task, of this key and length, is entered under one more resource
 abbrev pub with_member : ℕ → Set → ℕ → List Cell → ℕ → List Cell
 with_member t key len cells l = slice_set cells (t * RESOURCES + l) (raised key len (cell_at cells t l))
 
--- a table with a claim of a task more, of this key and length
+-- a table with one more claim of a task, of this key and length
 abbrev pub with_claim : List Cell → ℕ → Set → ℕ → List Cell
 with_claim cells t key len = fold (with_member t key len) cells (rising key)
 
--- a table with these claims more, the last one first
+-- a table with these claims added, the last one first
 abbrev pub with_claims : (Needed → Set) → List Needed → List Cell → List Cell
 with_claims key [] cells = cells
 with_claims key (n ∷ ns) cells = with_claim (with_claims key ns cells) n.claim.seat (key n) n.len
@@ -62,7 +62,7 @@ with_claims key (n ∷ ns) cells = with_claim (with_claims key ns cells) n.claim
 abbrev pub longest_in : List Cell → ℕ → Set → Option ℕ
 longest_in cells t s = fold (λ most l. longer most (cell_at cells t l).longest) None (rising s)
 
--- a table of so many tasks
+-- a table for this many tasks
 pub record IsTable (key : Needed → Set) (ns : List Needed) (tasks : ℕ) (cells : List Cell) : Type 0 where
   pub long : length cells ≡ tasks * RESOURCES
   pub below : AllByRecursion (λ n. IsTrue (all_below RESOURCES (key n))) ns

@@ -1,4 +1,4 @@
--- What the rows of a zone come to for all tasks at once.
+-- Totals of the rows of a zone for all tasks at once.
 use Rattle.std.specs.Prelude.{◌≡◌, ◌≤◌, ◌*◌, ◌^◌, ℕ, Bool, not, ◌&&◌, List, map, sum, Option, is_some, unwrap_or}
 use Rattle.std.specs.List.{count_by}
 use Rattle.rbound.specs.Bounds.{tasks_of}
@@ -8,7 +8,7 @@ use Rattle.rbound_table.specs.Two.{two_of}
 use Rattle.rbound_table.specs.declared.two.TwoLongest.{TwoLongest}
 use Rattle.rbound_table.specs.declared.totals.ZoneTotals.{ZoneTotals}
 
--- the number of tasks that a row has a length of
+-- the number of tasks that have a length in a row
 abbrev pub writers_there : List (Option ℕ) → ℕ → ℕ
 writers_there writes tasks = count_by (λ t. is_some (row_at writes t)) (tasks_of tasks)
 
@@ -20,7 +20,7 @@ only_reads rows t = is_some (row_at rows.reads.items t) && not (is_some (row_at 
 abbrev pub only_readers : ZoneRows → ℕ → ℕ
 only_readers rows tasks = count_by (only_reads rows) (tasks_of tasks)
 
--- the length that a row has of a task, 0 where it has none
+-- the length that a row has for a task, 0 where it has none
 abbrev pub length_in : List (Option ℕ) → ℕ → ℕ
 length_in row t = unwrap_or (row_at row t) 0
 
@@ -28,7 +28,7 @@ length_in row t = unwrap_or (row_at row t) 0
 abbrev pub two_in : List (Option ℕ) → ℕ → TwoLongest
 two_in row tasks = two_of tasks (row_at row)
 
--- what all these tasks come to; a sum of lengths that fit 32 bits
+-- the totals of all these tasks; the sum is one of lengths that fit 32 bits
 pub record AreTotals (rows : ZoneRows) (tasks : ℕ) (t : ZoneTotals) : Type 0 where
   pub writers : t.writers ≡ writers_there rows.writes.items tasks
   pub written : t.written ≡ sum (map (length_in rows.writes.items) (tasks_of tasks))

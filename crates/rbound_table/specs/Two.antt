@@ -1,14 +1,14 @@
--- The two longest of some lengths of tasks, which tell the longest of all tasks but any one.
+-- The two longest of some lengths of tasks, which give the longest of all tasks but any one.
 use Rattle.std.specs.Prelude.{◌==◌, ℕ, Bool, true, false, nat_lt, fold, Option, Some, None, if◌then◌else◌}
 use Rattle.std.specs.List.{range_with_len}
 use Rattle.rbound.specs.Longest.{longer}
 use Rattle.rbound_table.specs.declared.two.TwoLongest.{TwoLongest}
 
--- of one task
+-- the lengths of one task
 abbrev pub only : ℕ → Option ℕ → TwoLongest
 only task length = record { task = task; longest = length; next = None }
 
--- of none
+-- no lengths
 abbrev pub no_length : TwoLongest
 no_length = only 0 None
 
@@ -16,7 +16,7 @@ no_length = only 0 None
 abbrev pub two_at : TwoLongest → ℕ → Option ℕ
 two_at two me = if two.task == me then two.next else two.longest
 
--- a length is there and greater than the other, or the other is missing
+-- there is a first length and it is greater than the second, or there is no second
 abbrev pub is_longer : Option ℕ → Option ℕ → Bool
 is_longer None b = false
 is_longer (Some a) None = true
@@ -26,7 +26,7 @@ is_longer (Some a) (Some b) = nat_lt b a
 abbrev pub led_by : TwoLongest → TwoLongest → TwoLongest
 led_by a b = record { task = a.task; longest = a.longest; next = longer a.next (two_at b a.task) }
 
--- of both: led by the one with the longest
+-- the two longest of both: led by the one with the longest
 abbrev pub two_of_both : TwoLongest → TwoLongest → TwoLongest
 two_of_both a b = if is_longer b.longest a.longest then led_by b a else led_by a b
 
@@ -34,6 +34,6 @@ two_of_both a b = if is_longer b.longest a.longest then led_by b a else led_by a
 abbrev pub two_of : ℕ → (ℕ → Option ℕ) → TwoLongest
 two_of tasks f = fold (λ two t. two_of_both two (only t (f t))) no_length (range_with_len 0 tasks)
 
--- of all tasks but one
+-- the same for all tasks but one
 abbrev pub two_beside : ℕ → ℕ → (ℕ → Option ℕ) → TwoLongest
 two_beside tasks but f = fold (λ two t. if t == but then two else two_of_both two (only t (f t))) no_length (range_with_len 0 tasks)

@@ -1,4 +1,4 @@
-// What answers all bounds, made once from the claims that are needed.
+// The tables that answer all bounds, made once from the needed claims.
 ghost use Rattle.std.specs.Prelude.{◌≡◌, ◌≤◌, ◌<◌, IfOk, IfSome, IsTrue, length, map, slice_get, slice_index_or};
 ghost use Rattle.std.specs.List.{range_with_len};
 ghost use Rattle.std.specs.FinSet as finset;
@@ -20,12 +20,12 @@ use rclaim::Claim;
 use rset::{RESOURCES, ResourceSet};
 use std::alloc::{AllocError, Global};
 
-/// What answers all bounds under a cap.
+/// The tables that answer all bounds under a cap.
 #[derive(Drop)]
 pub(crate) struct Answers {
     pub(crate) cap: u8,
     pub(crate) lengths: OtherLengths,
-    // Of each place.
+    // The zone of each place.
     pub(crate) zones: Vec<ResourceSet>,
     // At the least place of each zone, the bounds of the write waits of all tasks.
     pub(crate) writes: Vec<Vec<Bound>>,
@@ -49,7 +49,7 @@ fn write_bounds(
     Ok(bounds)
 }
 
-/// The bounds of the write waits of all tasks in a zone, at its least place; none at others.
+/// The bounds of the write waits of all tasks in a zone, at its least place; no bounds at other places.
 fn place_bounds(
     alloc: Global,
     tables: &Tables,
@@ -61,7 +61,7 @@ fn place_bounds(
     requires { 1 ≤ cap }
     ensures { IfOk result (λ bounds. StandsAt tables.now tasks cap zone l bounds.items) }
 {
-    // A look at the zone tells the proof that its places are below the number of resources.
+    // This shows the proof that the places of the zone are below the number of resources.
     let _ = zone.len();
     match zone.first() {
         Some(first) if first == l => {
@@ -91,7 +91,7 @@ fn all_write_bounds(
     Ok(writes)
 }
 
-/// The zone of a place; nothing, where there is no such place.
+/// The zone of a place; empty where there is no such place.
 fn zone_in(zones: &[ResourceSet], l: u8) -> ResourceSet
     ensures { result ≡ slice_index_or zones.now l finset.empty }
 {
@@ -101,7 +101,7 @@ fn zone_in(zones: &[ResourceSet], l: u8) -> ResourceSet
     }
 }
 
-/// What answers the bounds of these needs.
+/// The tables that answer the bounds of these needs.
 pub(crate) fn answers_of(alloc: Global, needs: &Needs, cap: u8) -> Result<Answers, AllocError>
     requires { 1 ≤ cap }
     ensures answers { IfOk result (AreAnswers (needed_in needs.now) (length needs.now.tasks)) }
@@ -187,7 +187,7 @@ pub(crate) fn first_answer(answers: &Answers, claim: &Claim) -> Bound
     ensures value { numbers_in result ≡ first_answer answers.now claim.now }
     ensures below { IsTrue (all_below RESOURCES claim.now.reads) }
 {
-    // A look at what it reads tells the proof that it is below the number of resources.
+    // This shows the proof that what it reads is below the number of resources.
     let _ = claim.reads.len();
     if claim.write_half {
         claim_answer(answers, claim)

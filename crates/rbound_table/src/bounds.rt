@@ -9,8 +9,8 @@ use rbound::{Bound, Needs, Which};
 use std::alloc::{AllocError, Global};
 use std::marker::Model;
 
-/// The bounds of all waits of what tasks need, where no more than a cap of requests may be incomplete. The claims are gone over
-/// when this is made; then a bound is looked up.
+/// The bounds of all waits of what tasks need, where no more than a cap of requests may be incomplete. Making this goes over
+/// the claims; afterwards a bound is looked up.
 #[derive(Drop)]
 pub struct Bounds {
     needs: Needs,
@@ -33,11 +33,11 @@ impl Model for Bounds {
 }
 
 impl Bounds {
-    /// Those of these needs under this cap.
+    /// The bounds of these needs under this cap.
     ///
     /// # Errors
     ///
-    /// Want of memory.
+    /// Out of memory.
     pub fn of(alloc: Global, needs: Needs, cap: u8) -> Result<Bounds, AllocError>
         requires { 1 ≤ cap }
         ensures { IfOk result (λ bounds. bounds ≡ record { needs = needs; cap = cap }) }
@@ -53,8 +53,8 @@ impl Bounds {
         &self.needs
     }
 
-    /// The bound of a wait of the request number `k` of a task, both counted from 0. It takes no memory. That of a rise is the
-    /// bound of the request's write claim, of whatever kind the request is; where it has no write claim, or no ask of that
+    /// The bound of a wait of the request number `k` of a task, both counted from 0. It takes no memory. For a rise it is the
+    /// bound of the request's write claim, whatever the kind of the request; where there is no write claim, or no ask of that
     /// number, all numbers are 0.
     pub fn bound(&self, task: u8, k: usize, which: Which) -> Bound
         requires task { task < length self.now.needs.tasks }
@@ -65,7 +65,7 @@ impl Bounds {
     }
 }
 
-/// The bound of a wait, by what answers all bounds of these needs.
+/// The bound of a wait, from the tables of these needs.
 fn answered(answers: &Answers, needs: &Needs, task: u8, k: usize, which: Which) -> Bound
     requires task { task < length needs.now.tasks }
     requires number { k < length (requests_of needs.now.tasks task) }

@@ -1,4 +1,4 @@
-// Of each resource and each task, the longest claim of another task that can hold up a write of the resource by a further one.
+// For each resource and task, the longest claim of another task that can hold up a write of the resource by a third task.
 ghost use Rattle.std.specs.Prelude.{◌≡◌, ◌<◌, IfOk, IfSome, map, slice_index_or};
 ghost use Rattle.std.specs.List.{range_with_len};
 ghost use Rattle.rset.specs.declared.TheConstants.{RESOURCES};
@@ -14,7 +14,7 @@ use rbound::longer;
 use rset::RESOURCES;
 use std::alloc::{AllocError, Global};
 
-/// Of each resource the tasks that read it longest.
+/// For each resource, the tasks that read it longest.
 fn all_leaders(alloc: Global, cells: &[Cell], tasks: u8) -> Result<Vec<Leaders>, AllocError>
     ensures { IfOk result (λ all. all.items ≡ all_leaders cells.now tasks) }
 {
@@ -23,7 +23,7 @@ fn all_leaders(alloc: Global, cells: &[Cell], tasks: u8) -> Result<Vec<Leaders>,
         .collect(alloc)
 }
 
-/// The two longest that other tasks than the writer read, of each resource.
+/// For each resource, the two longest claims by which tasks other than the writer read it.
 fn readers_of(alloc: Global, leaders: &[Leaders], writer: u8) -> Result<Vec<TwoLongest>, AllocError>
     ensures { IfOk result (λ row. row.items ≡ readers_of leaders.now writer) }
 {
@@ -33,7 +33,7 @@ fn readers_of(alloc: Global, leaders: &[Leaders], writer: u8) -> Result<Vec<TwoL
         .collect(alloc)
 }
 
-/// One of these.
+/// One element of a row.
 fn nth_two(row: &[TwoLongest], at: u8) -> TwoLongest
     ensures { result ≡ slice_index_or row.now at no_length }
 {
@@ -43,8 +43,8 @@ fn nth_two(row: &[TwoLongest], at: u8) -> TwoLongest
     }
 }
 
-/// The two longest that can hold up what the writer writes with a resource: of other tasks by what they read, of its own the
-/// read halves of upgrades.
+/// The two longest claims that can hold up what the writer writes together with a resource: what other tasks read of that,
+/// and the read halves of the writer's own upgrades.
 fn delayed(tables: &Tables, readers: &[TwoLongest], writer: u8, l: u8) -> TwoLongest
     ensures { result ≡ delayed_by tables.now readers.now writer l }
 {
@@ -56,7 +56,7 @@ fn delayed(tables: &Tables, readers: &[TwoLongest], writer: u8, l: u8) -> TwoLon
     )
 }
 
-/// The same at each resource.
+/// The same for each resource.
 fn delayed_row(
     alloc: Global,
     tables: &Tables,
@@ -70,7 +70,7 @@ fn delayed_row(
         .collect(alloc)
 }
 
-/// The same of each writer.
+/// The same for each writer.
 fn delayers_of(
     alloc: Global,
     tables: &Tables,
@@ -99,7 +99,7 @@ fn delayers_at(rows: &[Vec<TwoLongest>], writer: u8, l: u8) -> TwoLongest
     }
 }
 
-/// The longest claim of another task that can hold up a write of the resource, which is of another task too.
+/// The longest claim of another task that can hold up a write of the resource by another task.
 fn delay_at(rows: &[Vec<TwoLongest>], tasks: u8, l: u8, me: u8) -> Option<u32>
     ensures { result ≡ delay_at (rows_in rows.now) tasks l me }
 {
@@ -112,7 +112,7 @@ fn delay_at(rows: &[Vec<TwoLongest>], tasks: u8, l: u8, me: u8) -> Option<u32>
     })
 }
 
-/// The longest claim of all that can hold up a write of the resource.
+/// The longest of all claims that can hold up a write of the resource.
 fn top_at(rows: &[Vec<TwoLongest>], tasks: u8, l: u8) -> Option<u32>
     ensures { result ≡ top_at (rows_in rows.now) tasks l }
 {
@@ -130,7 +130,7 @@ fn writer_delayed(rows: &[Vec<TwoLongest>], tasks: u8, l: u8, top: Option<u32>) 
     (0..tasks).find(|writer| delayers_at(rows, *writer, l).longest == top)
 }
 
-/// What `delay_at` finds: the longest of all, where it is of another task and holds up a further one.
+/// What `delay_at` finds: the longest of all, where it is of another task and holds up a third one.
 fn delay_by(
     rows: &[Vec<TwoLongest>],
     tasks: u8,
@@ -165,7 +165,7 @@ fn delay_row(
         .collect(alloc)
 }
 
-/// The same at each resource.
+/// The same for each resource.
 pub(crate) fn delays_of(
     alloc: Global,
     tables: &Tables,

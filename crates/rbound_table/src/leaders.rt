@@ -7,14 +7,14 @@ use crate::lengths::two_longest_at;
 use crate::table::{Cell, cell_at};
 use crate::two::{TwoLongest, no_length, only, two_at, two_of_both};
 
-/// The two longest of all tasks, and the two longest of all others than the one that has the longest.
+/// The two longest of all tasks, and the two longest of all tasks but the one that has the longest.
 #[derive(Clone, Copy)]
 pub(crate) struct Leaders {
     all: TwoLongest,
     others: TwoLongest,
 }
 
-/// The two longest that a table has at a resource, of other tasks than this one.
+/// The two longest that a table has at a resource, leaving one task out.
 fn beside_at(cells: &[Cell], tasks: u8, but: u8, m: u8) -> TwoLongest
     ensures { result ≡ beside_at cells.now tasks but m }
 {
@@ -27,7 +27,7 @@ fn beside_at(cells: &[Cell], tasks: u8, but: u8, m: u8) -> TwoLongest
     })
 }
 
-/// Those that a table has at a resource.
+/// The leaders of a table at a resource.
 pub(crate) fn leaders_at(cells: &[Cell], tasks: u8, m: u8) -> Leaders
     ensures { result ≡ leaders_at cells.now tasks m }
 {
@@ -36,7 +36,7 @@ pub(crate) fn leaders_at(cells: &[Cell], tasks: u8, m: u8) -> Leaders
     Leaders { all, others }
 }
 
-/// The two longest of other tasks than this one.
+/// The two longest of all tasks but this one.
 pub(crate) fn led_beside(leaders: Leaders, but: u8) -> TwoLongest
     ensures { result ≡ led_beside leaders but }
 {

@@ -1,4 +1,4 @@
-// Of each resource and each task, a length: the longest claim of other tasks that reads it, or that writes it.
+// For each resource and task, a length: that of the longest claim of other tasks that reads it, or that writes it.
 ghost use Rattle.std.specs.Prelude.{◌≡◌, IfOk, IsTrue, map};
 ghost use Rattle.std.specs.List.{range_with_len};
 ghost use Rattle.rset.specs.Sets.{all_below};
@@ -22,7 +22,7 @@ pub(crate) fn two_longest_at(cells: &[Cell], tasks: u8, l: u8) -> TwoLongest
     })
 }
 
-/// The longest that a table has at a resource of other tasks than one, by the two longest there.
+/// The longest that a table has at a resource for all tasks but one, from the two longest there.
 #[tactic(auto, using(crate::proofs::TwoFacts::two_of_at))]
 fn others_at(cells: &[Cell], tasks: u8, l: u8, me: u8, two: TwoLongest) -> Option<u32>
     requires { two ≡ two_longest_at cells.now tasks l }
@@ -46,7 +46,7 @@ fn others_row(
         .collect(alloc)
 }
 
-/// The same at each resource.
+/// The same for each resource.
 pub(crate) fn others_of(
     alloc: Global,
     cells: &[Cell],
@@ -73,7 +73,7 @@ fn length_at(rows: &[Vec<Option<u32>>], l: u8, me: u8) -> Option<u32>
     }
 }
 
-/// The length that a row has for a task; none where the row is shorter.
+/// The length that a row has for a task; None where the row is shorter.
 pub fn nth_length(row: &[Option<u32>], me: u8) -> Option<u32>
     ensures { result ≡ row_at row.now me }
 {
@@ -83,7 +83,7 @@ pub fn nth_length(row: &[Option<u32>], me: u8) -> Option<u32>
     }
 }
 
-/// The longest over some resources for a task, in rows of which there is one for each resource.
+/// The longest over some resources for a task, in rows, one for each resource.
 pub fn longest_over(rows: &[Vec<Option<u32>>], me: u8, set: ResourceSet) -> Option<u32>
     ensures value { result ≡ longest_over (rows_in rows.now) me set }
     ensures below { IsTrue (all_below RESOURCES set) }

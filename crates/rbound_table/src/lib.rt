@@ -1,8 +1,7 @@
 //! The bounds of all waits of what tasks need, looked up in tables that are made once.
 //!
-//! What is looked up is exactly what `rbound` defines: [`Bounds::of`] makes the tables, [`Bounds::bound`] answers from them.
-//!
-//! The longest claims by task and resource, in tables that are made once.
+//! [`Bounds::of`] makes the tables, which have the longest claims by task and resource. [`Bounds::bound`] answers from them
+//! exactly the bound that `rbound` defines.
 #![tactic(auto)]
 
 mod answers;

@@ -7,22 +7,22 @@ use crate::lengths::others_of;
 use crate::tables::Tables;
 use std::alloc::{AllocError, Global};
 
-/// Of each resource, a length for each task.
+/// For each resource, a length for each task.
 #[derive(Drop)]
 pub struct OtherLengths {
-    /// Of the longest claim of others that writes the resource.
+    /// The longest claim of others that writes the resource.
     pub keeps: Vec<Vec<Option<u32>>>,
-    /// Of the longest claim of others that can hold up such a write.
+    /// The longest claim of others that can hold up such a write.
     pub delays: Vec<Vec<Option<u32>>>,
-    /// Of the longest claim of others that reads the resource.
+    /// The longest claim of others that reads the resource.
     pub bars: Vec<Vec<Option<u32>>>,
 }
 
-/// Those by these tables, of so many tasks.
+/// The lengths from these tables, for this many tasks.
 ///
 /// # Errors
 ///
-/// Want of memory.
+/// Out of memory.
 pub fn other_lengths_of(
     alloc: Global,
     tables: &Tables,

@@ -1,4 +1,4 @@
-// What the claims of each task come to in a zone, by the tables.
+// The longest claims of each task in a zone, from the tables.
 ghost use Rattle.std.specs.Prelude.{◌≡◌, IfOk, IsTrue, map};
 ghost use Rattle.std.specs.List.{range_with_len};
 ghost use Rattle.rset.specs.Sets.{all_below};
@@ -12,7 +12,7 @@ use rbound::ZoneRows;
 use rset::ResourceSet;
 use std::alloc::{AllocError, Global};
 
-/// Of each task, the longest of its claims that a table has in a zone.
+/// For each task, the longest of its claims that a table has in a zone.
 fn row_of(
     alloc: Global,
     cells: &[Cell],
@@ -36,7 +36,7 @@ pub(crate) fn rows_of(
     ensures rows { IfOk result (AreTableRows tables.now tasks zone) }
     ensures below { IsTrue (all_below RESOURCES zone) }
 {
-    // A look at the zone tells the proof that its places are below the number of resources.
+    // This shows the proof that the places of the zone are below the number of resources.
     let _ = zone.len();
     Ok(ZoneRows {
         writes: row_of(alloc, &tables.write_places, tasks, zone)?,

@@ -11,10 +11,10 @@ use rmodel::{is_read_half, is_upgrade};
 use rset::{RESOURCES, ResourceSet};
 use std::alloc::{AllocError, Global};
 
-// The number of places of a task.
+// The number of cells of a task.
 const WIDTH: usize = RESOURCES as usize;
 
-/// Under which of its resources a claim is found.
+/// Under which of its resources a claim is entered.
 #[derive(Clone, Copy)]
 pub enum Key {
     /// What it reads.
@@ -25,22 +25,22 @@ pub enum Key {
     Halves,
     /// The places of a read claim.
     ReadPlaces,
-    /// Those of a write claim.
+    /// The places of a write claim.
     WritePlaces,
-    /// Those of a claim of an upgrade.
+    /// The places of a claim of an upgrade.
     UpgradePlaces,
 }
 
-/// What the claims come to that are found at one place.
+/// A summary of the claims at one task and resource.
 #[derive(Clone, Copy)]
 pub struct Cell {
-    /// The length of the longest; none where there is no claim.
+    /// The length of the longest; None where there is no claim.
     pub longest: Option<u32>,
-    /// All resources under which they are found.
+    /// All resources under which they are entered.
     pub beside: ResourceSet,
 }
 
-/// The resources under which a claim is found.
+/// The resources under which a claim is entered.
 fn key_of(key: Key, need: &Needed) -> ResourceSet
     ensures { result ≡ key_of key need.now }
 {
@@ -55,14 +55,14 @@ fn key_of(key: Key, need: &Needed) -> ResourceSet
     }
 }
 
-/// The set where this is so, and else nothing.
+/// The set where this holds, otherwise nothing.
 fn set_if(is: bool, set: ResourceSet) -> ResourceSet
     ensures { result ≡ (if is then set else finset.empty) }
 {
     if is { set } else { ResourceSet::empty() }
 }
 
-/// What no claims come to.
+/// The summary of no claims.
 fn no_claims() -> Cell
     ensures { result ≡ no_claims }
 {
@@ -72,7 +72,7 @@ fn no_claims() -> Cell
     }
 }
 
-/// The same with a claim more, of this key and length.
+/// The same with one more claim, of this key and length.
 fn raised(key: ResourceSet, len: u32, cell: Cell) -> Cell
     ensures { result ≡ raised key len cell }
 {
@@ -125,7 +125,7 @@ pub(crate) fn table_of(
     Ok(cells)
 }
 
-/// What a table has of a task and a resource; nothing, where it has no such place.
+/// What a table has for a task and a resource; the empty cell where it has no such place.
 pub(crate) fn cell_at(cells: &[Cell], task: u8, l: u8) -> Cell
     ensures { result ≡ cell_at cells.now task l }
 {

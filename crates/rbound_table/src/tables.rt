@@ -1,4 +1,4 @@
-// The tables of all claims that are needed.
+// The tables of all needed claims.
 ghost use Rattle.std.specs.Prelude.{◌<◌, IfOk};
 ghost use Rattle.std.specs.List.{AllByRecursion};
 ghost use Rattle.rbound_table.specs.AllTables.{AreTables};
@@ -7,7 +7,7 @@ use crate::table::{Cell, Key, table_of};
 use rbound::Needed;
 use std::alloc::{AllocError, Global};
 
-/// The tables of all claims that are needed.
+/// The tables of all needed claims.
 #[derive(Drop)]
 pub struct Tables {
     /// By what they read.
@@ -24,11 +24,11 @@ pub struct Tables {
     pub upgrade_places: Vec<Cell>,
 }
 
-/// The tables of these claims, of so many tasks. All claims are looked through once for each table.
+/// The tables of these claims, for this many tasks. Each table takes one pass over all claims.
 ///
 /// # Errors
 ///
-/// Want of memory.
+/// Out of memory.
 pub fn tables_of(alloc: Global, needs: &[Needed], tasks: u8) -> Result<Tables, AllocError>
     requires { AllByRecursion (λ n. n.claim.seat < tasks) needs.now }
     ensures { IfOk result (AreTables needs.now tasks) }

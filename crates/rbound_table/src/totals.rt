@@ -1,4 +1,4 @@
-// What the claims in a zone come to for all tasks at once, and the bound of each task by that.
+// Totals of the claims in a zone for all tasks at once, and the bound of each task from them.
 ghost use Rattle.std.specs.Prelude.{◌≡◌, ◌≤◌, ◌<◌, ◌*◌, ◌^◌, IfOk, sum, map};
 ghost use Rattle.rbound.specs.Bounds.{numbers_in, tasks_of};
 ghost use Rattle.rbound.specs.ZoneRows.{all_may_write_in, none_beside_in, numbers_of, reads_in, writers_in, writes_in};
@@ -9,7 +9,7 @@ use crate::two::{TwoLongest, no_length, only, two_at, two_of_both};
 use rbound::{Bound, ZoneRows, write_bound};
 use std::alloc::{AllocError, Global};
 
-/// What the rows of a zone come to for all tasks at once.
+/// Totals of the rows of a zone for all tasks at once.
 #[derive(Clone, Copy)]
 pub(crate) struct ZoneTotals {
     // The number of tasks with a write claim there, and the sum of their write lengths.
@@ -21,7 +21,7 @@ pub(crate) struct ZoneTotals {
     upgrades: TwoLongest,
 }
 
-/// The number of tasks that a row has a length of.
+/// The number of tasks that have a length in a row.
 fn writers_there(writes: &[Option<u32>], tasks: u8) -> usize
     ensures { result ≡ writers_there writes.now tasks }
 {
@@ -44,7 +44,7 @@ fn only_readers(rows: &ZoneRows, tasks: u8) -> usize
     (0..tasks).filter(|task| only_reads(rows, *task)).count()
 }
 
-/// The length that a row has of a task, 0 where it has none.
+/// The length that a row has for a task, 0 where it has none.
 fn length_in(row: &[Option<u32>], task: u8) -> u32
     ensures { result ≡ length_in row.now task }
 {
@@ -73,7 +73,7 @@ fn two_in(row: &[Option<u32>], tasks: u8) -> TwoLongest
     )
 }
 
-/// What these rows come to.
+/// The totals of these rows.
 pub(crate) fn totals_of(rows: &ZoneRows, tasks: u8) -> ZoneTotals
     ensures { AreTotals rows.now tasks result }
 {
@@ -104,7 +104,7 @@ fn all_may_write(rows: &ZoneRows, totals: &ZoneTotals, tasks: u8, task: u8) -> b
     totals.only_readers == usize::from(only_reads(rows, task))
 }
 
-/// Whether no other reader can be incomplete beside all other writers, of which there are `writes`, and none is an upgrade.
+/// Whether no other reader can be incomplete beside all other writers, of which there are `writes`, and no writer is an upgrade.
 #[tactic(auto, using(crate::proofs::TotalFacts::upgrade_is))]
 fn none_beside(
     rows: &ZoneRows,
@@ -124,7 +124,7 @@ fn none_beside(
         && (writes == usize::from(cap - 1) || all_may_write(rows, totals, tasks, task))
 }
 
-/// The reads, beside so many writes.
+/// The reads beside this many writes.
 #[tactic(auto, using(crate::proofs::TotalFacts::read_is))]
 fn reads_beside(
     rows: &ZoneRows,

@@ -1,4 +1,4 @@
-// The two longest of some lengths of tasks: they tell the longest of all tasks but any one.
+// The two longest of some lengths of tasks: they give the longest of all tasks but any one.
 ghost use Rattle.std.specs.Prelude.{◌≡◌};
 ghost use Rattle.rbound_table.specs.Two.{no_length, only, two_at, is_longer, led_by, two_of_both};
 
@@ -7,22 +7,22 @@ use rbound::longer;
 /// The longest length, a task that has it, and the longest of all other tasks.
 #[derive(Clone, Copy)]
 pub struct TwoLongest {
-    /// A task that has the longest; where no task has any, one of those told of, or 0.
+    /// A task that has the longest; where no task has a length, one of the tasks that were taken in, or 0.
     pub task: u8,
-    /// The longest of all tasks; none where no task has any.
+    /// The longest of all tasks; None where no task has a length.
     pub longest: Option<u32>,
     /// The longest of all tasks but that one.
     pub next: Option<u32>,
 }
 
-/// Those of no task: none has a length.
+/// No task has a length.
 pub fn no_length() -> TwoLongest
     ensures { result ≡ no_length }
 {
     only(0, None)
 }
 
-/// Those of one task, with or without a length; no other task has one.
+/// Only this task may have a length.
 pub fn only(task: u8, length: Option<u32>) -> TwoLongest
     ensures { result ≡ only task length }
 {
@@ -33,7 +33,7 @@ pub fn only(task: u8, length: Option<u32>) -> TwoLongest
     }
 }
 
-/// The longest of all tasks but this one, if any has a length.
+/// The longest of all tasks but this one, if one of them has a length.
 pub fn two_at(two: TwoLongest, me: u8) -> Option<u32>
     ensures { result ≡ two_at two me }
 {
@@ -44,7 +44,7 @@ pub fn two_at(two: TwoLongest, me: u8) -> Option<u32>
     }
 }
 
-/// Whether a length is there and greater than the other, or the other is missing.
+/// Whether there is a first length and it is greater than the second, or there is no second.
 fn is_longer(a: Option<u32>, b: Option<u32>) -> bool
     ensures { result ≡ is_longer a b }
 {
@@ -66,7 +66,7 @@ fn led_by(a: TwoLongest, b: TwoLongest) -> TwoLongest
     }
 }
 
-/// The two longest of both, where each tells of some tasks.
+/// The two longest of both, each of which covers some tasks.
 pub fn two_of_both(a: TwoLongest, b: TwoLongest) -> TwoLongest
     ensures { result ≡ two_of_both a b }
 {

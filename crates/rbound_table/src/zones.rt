@@ -18,8 +18,8 @@ fn places_in(needs: &[Needed]) -> ResourceSet
         .fold(ResourceSet::empty(), |all, n| all.union(n.claim.places))
 }
 
-/// The zone of a place: the place alone, where no claim has it, or that of an earlier place, where it has this one. Only for
-/// another one all claims are looked through.
+/// The zone of a place: the place alone where no claim has it, or the zone of an earlier place that has this one. Only
+/// otherwise all claims are looked through.
 fn zone_at(zones: &[ResourceSet], needs: &Needs, places: ResourceSet, l: u8) -> ResourceSet
     requires within { l < RESOURCES }
     requires places { places ≡ places_in (needed_in needs.now) }

@@ -10,7 +10,7 @@ pub record ChangeLists : Type 0 where
   pub statuses : List StatusChange
   pub grants : List GrantChange
 
--- they are stored as the pair of the lists
+-- they are coded as the pair of the lists
 abbrev pub changes_code : Coded ChangeLists
 changes_code =
     code_by (List StatusChange × List GrantChange) (coded× (coded_list status_change_code) (coded_list grant_change_code))

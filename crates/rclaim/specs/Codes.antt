@@ -1,4 +1,4 @@
--- How proofs tell values apart that hold sets: each is coded by its parts.
+-- How proofs distinguish values that hold sets: each is coded by its parts.
 use Rattle.std.specs.Prelude.{◌≡◌, ℕ, ◌==◌, Bool, refl, if◌then◌else◌}
 use Rattle.std.specs.Coded.{Coded, code_by, coded_ℕ, coded_bool, coded×}
 use Rattle.std.specs.FinSet as set
@@ -13,7 +13,7 @@ use Rattle.rclaim.specs.declared.changes.GrantChange.{GrantChange}
 abbrev pub set_code : Coded Set
 set_code = set.code coded_ℕ
 
--- a kind is told by a number
+-- a kind is coded as a number
 abbrev pub kind_number : Kind → ℕ
 kind_number Read = 0
 kind_number Write = 1
@@ -34,7 +34,7 @@ kind_of-kind_number Nested = refl
 abbrev pub kind_code : Coded Kind
 kind_code = code_by ℕ coded_ℕ kind_number kind_of kind_of-kind_number
 
--- a status is told by its number
+-- a status is coded as a number
 abbrev pub number_of : Status → ℕ
 number_of Waiting = 0
 number_of Entitled = 1

@@ -1,4 +1,4 @@
--- How proofs tell events apart: each is coded by its parts.
+-- How proofs distinguish events: each is coded by its parts.
 use Rattle.std.specs.Prelude.{◌≡◌, ◌⊎◌, ℕ, refl}
 use Rattle.std.specs.Coded.{Coded, code_by, coded_ℕ, coded×, coded⊎}
 use Rattle.std.proofs.Common.{inl, inr}
@@ -29,7 +29,7 @@ event_from-event_parts (Finish seat) = refl
 event_from-event_parts (Rise seat) = refl
 event_from-event_parts (Ask seat part) = refl
 
--- an event is stored as its parts
+-- an event is coded as its parts
 abbrev pub event_code : Coded Event
 event_code =
     code_by EventParts (coded⊎ (coded× coded_ℕ request_code) (coded⊎ coded_ℕ (coded⊎ coded_ℕ (coded× coded_ℕ set_code)))) event_parts event_from event_from-event_parts

@@ -1,4 +1,4 @@
--- Requests: their fields, which set a kind is about, and the normal form.
+-- Requests: their fields, the set that a kind needs, and the normal form.
 use Rattle.std.specs.Prelude.{◌≡◌, ◌≢◌, ◌≤◌, ℕ, nat_lt, Bool, ◌&&◌, true, false, refl}
 use Rattle.std.specs.Coded.{Coded, code_by, coded×, coded_ℕ}
 use Rattle.std.specs.FinSet.{empty, union, difference, is_subset, len}
@@ -19,7 +19,7 @@ pub record RequestFields : Type 0 where
   pub len : ℕ
   pub later : ℕ
 
--- a request is stored as the tuple of its fields
+-- a request is coded as the tuple of its fields
 abbrev pub request_code : Coded RequestFields
 request_code =
     code_by (Kind × (Set × (Set × (Set × (ℕ × ℕ))))) (coded× kind_code (coded× set_code (coded× set_code (coded× set_code (coded× coded_ℕ coded_ℕ)))))
@@ -27,7 +27,7 @@ request_code =
     (λ p. record { kind = p.0; reads = p.1.0; writes = p.1.1.0; first = p.1.1.1.0; len = p.1.1.1.1.0; later = p.1.1.1.1.1 })
     (λ _. refl)
 
--- the set that a request of this kind is about, of those given: it may not be empty
+-- the one of the given sets that a request of this kind needs: it may not be empty
 abbrev pub asked_set : Kind → Set → Set → Set
 asked_set Read reads writes = reads
 asked_set Write reads writes = writes
@@ -35,7 +35,7 @@ asked_set Mixed reads writes = writes
 asked_set Upgrade reads writes = reads
 asked_set Nested reads writes = writes
 
--- a set is a part of another that is not empty
+-- a set is not empty and a part of another
 abbrev pub is_part : Set → Set → Bool
 is_part part whole = nat_lt 0 (len part) && is_subset part whole
 
@@ -64,7 +64,7 @@ FitsKind Mixed reads writes = (meets reads writes ≡ false) × (writes ≢ empt
 FitsKind Upgrade reads writes = (reads ≢ empty) × (writes ≡ empty)
 FitsKind Nested reads writes = (meets reads writes ≡ false) × (writes ≢ empty)
 
--- the first part of a request of this kind, which reads and writes this
+-- the first part of a request of this kind that reads and writes `whole`
 abbrev pub FitsFirst : Kind → Set → Set → Type 0
 FitsFirst Read whole first = first ≡ empty
 FitsFirst Write whole first = first ≡ empty

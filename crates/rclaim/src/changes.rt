@@ -1,4 +1,4 @@
-// What a step changes, as two lists with room made beforehand.
+// What a step changes, as two lists whose room is made beforehand.
 ghost use Rattle.std.specs.Prelude.{◌≡◌, ◌<◌, [], ◌∷◌, ◌++◌, length, IfOk};
 ghost use Rattle.rclaim.specs.Changes.{no_changes};
 
@@ -23,9 +23,9 @@ pub struct StatusChange {
 pub struct GrantChange {
     /// The seat whose request it is.
     pub seat: u8,
-    /// All that it holds for reading now.
+    /// Everything that it now holds for reading.
     pub reads: ResourceSet,
-    /// All that it holds for writing now.
+    /// Everything that it now holds for writing.
     pub writes: ResourceSet,
 }
 
@@ -50,7 +50,7 @@ impl Model for Changes {
 
     ghost view = { λ a. record { statuses = a.statuses.items; grants = a.grants.items } };
 
-    // The room is what was made at first: no change takes memory.
+    // The room is as it was made: adding a change takes no memory.
     ghost invariant = { λ a. (vec_capacity a.statuses ≡ STATUS_ROOM) × (vec_capacity a.grants ≡ GRANT_ROOM) };
 }
 
@@ -59,7 +59,7 @@ impl Changes {
     ///
     /// # Errors
     ///
-    /// Want of memory.
+    /// Out of memory.
     pub fn new(alloc: Global) -> Result<Changes, AllocError>
         ensures { IfOk result (λ made. made ≡ no_changes) }
     {

@@ -7,9 +7,9 @@ use rset::ResourceSet;
 pub enum Status {
     /// It waits, and nothing is kept for it.
     Waiting,
-    /// It waits, and what it asks for comes to it next.
+    /// It waits, and is next to get what it asks for.
     Entitled,
-    /// It holds all that it asks for, and so it stays.
+    /// It holds all that it asks for, and it stays satisfied.
     Satisfied,
 }
 
@@ -22,7 +22,7 @@ pub struct Claim {
     pub seat: u8,
     /// The kind of its request.
     pub kind: Kind,
-    /// Whether it is a write claim; else it is a read claim, which writes nothing.
+    /// Whether it is a write claim; otherwise it is a read claim, which writes nothing.
     pub write_half: bool,
     /// The resources to read.
     pub reads: ResourceSet,

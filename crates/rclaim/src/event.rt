@@ -1,4 +1,4 @@
-// The events that a task brings about.
+// The events that a task causes.
 ghost use Rattle.std.specs.Prelude.{◌≡◌};
 ghost use Rattle.rclaim.specs.Events.{seat_of};
 

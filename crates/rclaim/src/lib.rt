@@ -1,6 +1,6 @@
-//! Requests, claims and events: what tasks ask of the lock, and what it tells them.
+//! Requests, claims and events: what tasks ask of the lock, and what it reports to them.
 //!
-//! A [`Request`] is made in normal form, so that the layers above need no test of it.
+//! A [`Request`] is made in normal form, so that the layers above need not test it.
 //! A [`Claim`] is what the lock keeps of a request while it is incomplete, an [`Event`] is one step of a task,
 //! and [`Changes`] are what a step does to the claims.
 #![tactic(auto)]
@@ -24,5 +24,5 @@ pub const STATUS_ROOM: usize = 2 * rset::SEATS as usize;
 /// How many grants a list of changes has room for: one for each claim.
 pub const GRANT_ROOM: usize = STATUS_ROOM;
 
-// Users know this number, so a change of it is to be meant.
+// Users know this number, so change it only on purpose.
 const _: () = prove!(LENGTH_LIMIT == 1_000_000);

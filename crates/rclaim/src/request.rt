@@ -20,14 +20,14 @@ pub enum Kind {
     Mixed,
     /// It reads a set of resources, and may rise to write them.
     Upgrade,
-    /// It reads and writes as a mixed request, but holds only what it asks for part by part.
+    /// It reads and writes like a mixed request, but gets only the parts that it asks for, one after another.
     Nested,
 }
 
 /// Why a request is refused.
 #[derive(Clone, Copy, Debug, PartialEq, Eq, Error)]
 pub enum RequestErr {
-    /// A read or an upgrade has nothing to read, or another request nothing to write.
+    /// A read or an upgrade has nothing to read, or a request of another kind has nothing to write.
     #[error("the request has nothing to read, or nothing to write")]
     EmptyRequest = 1,
     /// The resources to read are not a declared set.
@@ -39,7 +39,7 @@ pub enum RequestErr {
 }
 
 impl RequestErr {
-    /// Its number, from 1 to 3, in the order in which refusals are told.
+    /// The number of the refusal, from 1 to 3, in the order in which refusals are reported.
     pub fn number(self) -> u8
         ensures { result ≡ refusal_number self }
     {
@@ -47,7 +47,7 @@ impl RequestErr {
     }
 }
 
-/// What a task asks for: a kind, resources to read and to write, and how long its section lasts at most.
+/// What a task asks for: a kind, resources to read and to write, and the greatest length of its section.
 pub struct Request {
     kind: Kind,
     reads: ResourceSet,
@@ -73,14 +73,14 @@ impl Model for Request {
     ghost inverse = { λ r. record { kind = r.kind; reads = r.reads; writes = r.writes; first = r.first; len = r.len; later = r.later } };
 }
 
-// Whether a set is a part of another that is not empty.
+// Whether a set is not empty and a part of another.
 fn is_part(part: ResourceSet, whole: ResourceSet) -> bool
     ensures { result ≡ is_part part whole }
 {
     part.len() > 0 && part.within(whole)
 }
 
-// Whether the first part is one that a request of this kind may have.
+// Whether a request of this kind may have this first part.
 fn first_fits(kind: Kind, reads: ResourceSet, writes: ResourceSet, first: ResourceSet) -> bool
     ensures { result ≡ first_fits kind reads writes first }
 {
@@ -106,14 +106,14 @@ impl Copy for Request {}
 
 impl Request {
     /// A request in normal form. A read and an upgrade take `reads` and ignore `writes`, a write takes `writes` and
-    /// ignores `reads`. A mixed and a nested request take both; a resource that is in both is written only.
+    /// ignores `reads`. A mixed and a nested request take both; a resource that is in both is only written.
     /// `first` is the part that a nested request asks for at once; every other kind ignores it.
-    /// `len` is the length of its section, in units that the caller chooses, and `later` that of the section in which
+    /// `len` is the length of its section, in units that the caller chooses, and `later` is that of the section in which
     /// an upgrade writes; every other kind ignores `later`.
     ///
     /// # Errors
     ///
-    /// In this order: `EmptyRequest` where the set that the kind is about is empty, which is what a read or an upgrade
+    /// In this order: `EmptyRequest` where the set that the kind needs is empty, which is what a read or an upgrade
     /// reads and what any other kind writes; `FirstOutside` where the first part of a nested request is empty or not
     /// within what it reads and writes.
     pub fn new(
@@ -185,7 +185,7 @@ impl Request {
         self.writes
     }
 
-    /// The part that a nested request asks for at once; empty where a request asks for everything at once.
+    /// The part that a nested request asks for at once; empty for every other kind.
     pub fn first(&self) -> ResourceSet
         ensures { result ≡ self.now.first }
     {

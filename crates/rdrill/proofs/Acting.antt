@@ -19,7 +19,7 @@ use Rattle.rmodel.specs.WellFormed.{Among}
 use Rattle.rmodel.specs.declared.claimed.Claimed.{Claimed}
 use Rattle.rdrill.specs.Drill.{may_act, acting}
 
--- the first seat that may act, of n that are `more` and more upwards from this one
+-- the first seat that may act, of the n seats from `more` seats above this one upwards
 abbrev pub first_from : LockState → ℕ → ℕ → ℕ → Option ℕ
 first_from s seat more n = find (may_act s) (map (λ k. (seat + k) % 8) (range_with_len more n))
 
@@ -41,7 +41,7 @@ here s seat more less searches may = sym (ap (λ o. unwrap_or o seat) (searches 
 pub nowhere : (s : LockState) (seat more : ℕ) → more ≡ 8 → Searches s seat more → seat ≡ acting s seat
 nowhere s seat more all searches = sym (ap (λ o. unwrap_or o seat) (searches ∙ ap (λ n. first_from s seat n (8 - n)) all))
 
--- ---- some seat may act, and the search comes to one
+-- ---- some seat may act, and the search finds one
 
 found_passes : (p : ℕ → Bool) (xs : List ℕ) (d : ℕ) → list_any p xs ≡ true → p (unwrap_or (find p xs) d) ≡ true
 found_passes p [] d some = absurd (true≢false (sym some))
@@ -100,7 +100,7 @@ among_eight (suc (suc (suc (suc (suc (suc zero)))))) h = inr (inr (inr (inr (inr
 among_eight (suc (suc (suc (suc (suc (suc (suc zero))))))) h = inr (inr (inr (inr (inr (inr (inr (inl refl)))))))
 among_eight (suc (suc (suc (suc (suc (suc (suc (suc k)))))))) h = absurd (omega (arith, h))
 
--- where some seat may act, the search comes to one that may
+-- where some seat may act, the search finds one that may
 acts_where : (s : LockState) (seat l : ℕ) → seat < 8 → l < 8 → may_act s l ≡ true → may_act s (acting s seat) ≡ true
 acts_where s seat l less l_less may =
     let at = looked seat l less l_less in
@@ -118,7 +118,7 @@ may_of s l holds answered = at (has_request s.claims l) (is_not_holding s.claims
 idle_may : (s : LockState) (l : ℕ) → has_request s.claims l ≡ false → may_act s l ≡ true
 idle_may s l idle = ap (λ b. not (b && is_not_holding s.claims l)) idle
 
--- some seat may act, as somebody holds while there is a request
+-- some seat may act, because somebody holds while there is a request
 pub acts : (s : LockState) (seat : ℕ) → IsReached s → s.seats ≡ 8 → seat < 8 → may_act s (acting s seat) ≡ true
 acts s seat reached seats less =
     both_cases (has_request s.claims seat)

@@ -1,4 +1,4 @@
--- Each event that is drawn comes to the lock.
+-- Each event that is drawn may come at the lock.
 use Rattle.std.proofs.Common.{◌≡◌, ℕ, ◌<◌, ◌≤◌, ◌^◌, ◌%◌, ◌==◌, Bool, true, false, not, ◌&&◌, ◌||◌, cond, List, [], ◌∷◌, find, Some, None, refl, sym, ap, subst, ◌∙◌, arith}
 use Rattle.std.proofs.Math.Nat.{mod-lt}
 use Rattle.std.proofs.lemmas.Bool.{true≢false, and_parts, eqb-true}
@@ -148,7 +148,7 @@ module _ (s : LockState) (es : List Event) (reached : IsReached s) (groups : s.g
     pub comes_holding : (x : ℕ) → Comes s (drawn_holding s (latest_of es seat) seat x).event
     comes_holding x = subst (λ o. Comes s (drawn_holding s o seat x).event) (sym latest) (by_kind r.kind x refl (ones seat r latest))
 
-  -- a seat that may act draws an event that comes
+  -- a seat that may act draws an event that may come
   pub comes_for : (x : ℕ) → may_act s seat ≡ true → Comes s (drawn_for s (latest_of es seat) seat x).event
   comes_for x may = at (has_request s.claims seat) refl
     where
@@ -167,7 +167,7 @@ module _ (s : LockState) (es : List Event) (reached : IsReached s) (groups : s.g
       at true busy = let r = its busy in comes_holding busy (holds (has_request s.claims seat) (is_not_holding s.claims seat) may busy) r.0 r.1 x
       at false idle = comes_issue (kind_drawn (next_draw x % 5)) (next_draw (next_draw x) % 7) (mod-lt (next_draw (next_draw x)) (omega arith)) idle
 
--- so does what is drawn in the state
+-- so may what is drawn in the state
 pub comes_in : (s : LockState) (es : List Event) → IsReached s → s.groups ≡ drill_groups → s.seats ≡ 8 → s.cap ≡ 8 → s.issued < 2 ^ 63
     → AllByRecursion (λ (x : Claimed). HasLatest es x.claim) s.claims → ((seat : ℕ) (r : RequestFields) → latest_of es seat ≡ Some r → IsDrawn r)
     → (x : ℕ) → Comes s (drawn_in s (latest_of es) x).event

@@ -64,7 +64,7 @@ module _ (l : ℕ) (small : l < 7) where
         later = refl;
       }
 
-  -- what a nested request has not asked for at first
+  -- what a nested request does not ask for at first
   abbrev rest : Set
   rest = difference (pair l) (one l)
 

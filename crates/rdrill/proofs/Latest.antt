@@ -1,4 +1,4 @@
--- Each claim is of the request that its seat has issued last.
+-- Each claim is of the request that its seat issued last.
 use Rattle.std.proofs.Common.{◌≡◌, ℕ, ◌==◌, ◌&&◌, Bool, true, false, not, cond, List, [], ◌∷◌, ◌++◌, map, Some, None, inl, inr, refl, sym, ap, subst, ◌∙◌}
 use Rattle.std.proofs.lemmas.Bool.{eq-eqb, eqb-true}
 use Rattle.std.proofs.lemmas.List.Sums.{fold_push}
@@ -25,12 +25,12 @@ use Rattle.rmodel.proofs.reaching.Came.{among_map}
 use Rattle.rmodel.proofs.reaching.Soundness.{seat_is_idle, same_claims, sound_changed}
 use Rattle.rdrill.specs.Drill.{latest_after, latest_of}
 
--- the claim is of this request: it has its kind, and that of a nested request has its sets
+-- the claim is of this request: it has its kind and, for a nested request, its sets
 pub record IsClaimOf (r : RequestFields) (c : Claim) : Type 0 where
   pub kind : c.kind ≡ r.kind
   pub sets : r.kind ≡ Nested → (c.reads ≡ r.reads) × (c.writes ≡ r.writes)
 
--- the claim is of the request that its seat has issued last
+-- the claim is of the request that its seat issued last
 pub record HasLatest (es : List Event) (c : Claim) : Type 0 where
   pub request : RequestFields
   pub latest : latest_of es c.seat ≡ Some request
@@ -64,7 +64,7 @@ module _ (groups : List Set) (stamp seat : ℕ) (r : RequestFields) where
   its_claims : AllByRecursion IsIts (claims_of groups stamp seat r)
   its_claims = its_claims_by r.kind refl
 
--- ---- one event more
+-- ---- one more event
 
 pub latest_push : (es : List Event) (e : Event) (seat : ℕ) → latest_of (es ++ e ∷ []) seat ≡ latest_after seat (latest_of es seat) e
 latest_push es e seat = fold_push (latest_after seat) None es e
@@ -75,7 +75,7 @@ same_seat a b h = eq-eqb a b h
 turned : (m n : ℕ) → (n == m) ≡ false → (m == n) ≡ false
 turned m n other = false_from (m == n) (λ h. contrary (n == m) (eq-eqb n m (sym (eqb-true m n h))) other)
 
--- an event that is no issue of the seat leaves its latest request
+-- an event that is not an issue of the seat leaves its latest request
 still : (es : List Event) (e : Event) (c : Claim) → latest_after c.seat (latest_of es c.seat) e ≡ latest_of es c.seat → HasLatest es c → HasLatest (es ++ e ∷ []) c
 still es e c same has = record { request = has.request; latest = latest_push es e c.seat ∙ same ∙ has.latest; of = has.of }
 

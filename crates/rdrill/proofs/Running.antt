@@ -1,4 +1,4 @@
--- A drill, event by event: every event comes, and what is kept beside the machine is right.
+-- A drill, event by event: every event may come, and what is kept beside the machine is right.
 use Rattle.std.proofs.Common.{◌≡◌, ℕ, zero, suc, ◌+◌, ◌<◌, ◌≤◌, ◌^◌, ◌%◌, ◌==◌, Bool, true, false, cond, List, [], ◌∷◌, ◌++◌, map, length, Option, Some, None, refl, sym, ap, subst, ◌∙◌, arith, add-one, length-append}
 use Rattle.std.specs.Prelude.{is_some}
 use Rattle.std.specs.FinSet.{difference}
@@ -94,7 +94,7 @@ latest_drawn (Finish other) seat before r drawn old is = old r is
 latest_drawn (Rise other) seat before r drawn old is = old r is
 latest_drawn (Ask other part) seat before r drawn old is = old r is
 
--- ---- one event more
+-- ---- one more event
 
 keeps_next : (d : Drill) → length d.events < 2 ^ 62 → Keeps d.events → Keeps (one_more d).events
 unfolding one_more
@@ -132,13 +132,13 @@ keeps (suc n) few = keeps_next (drill_of n) (subst (λ k. k < 2 ^ 62) (sym (long
 pub all_accepted : (n : ℕ) → n < 2 ^ 62 → AreAccepted drill_opening (drill_events n)
 all_accepted n few = (keeps n few).accepted
 
--- the next event comes to the state
+-- the next event may come in the state
 pub comes_next : (n : ℕ) → n < 2 ^ 62 → Comes (after drill_opening (drill_events n)) (drawn (drill_of n)).event
 comes_next n few = comes_drawn (drill_of n) (subst (λ k. k < 2 ^ 62) (sym (long n)) few) (keeps n few)
 
 -- ---- what is kept beside the machine
 
--- what is drawn by what is kept is what is drawn
+-- the event drawn by what is kept is the event of the drill
 pub drawn_is : (n : ℕ) (s : LockState) (x : ℕ) (latest : List (Option RequestFields)) → IsAt n s x latest → drawn_in s (at_seat latest) x ≡ drawn (drill_of n)
 drawn_is n s x latest at =
     (λ i. drawn_for s (at.latest_are (seat_drawn s x) i) (seat_drawn s x) (next_draw x)) ∙ (λ i. drawn_in (at.state i) (latest_of (drill_events n)) (at.x_is i))
@@ -165,7 +165,7 @@ untold : (ws : List Seen) → map (told_all []) ws ≡ ws
 untold [] = refl
 untold (w ∷ ws) = ap (λ vs. w ∷ vs) (untold ws)
 
--- a drill has come to n events, and the audience was told their steps
+-- a drill after n events, whose steps the audience was given
 pub record IsToldTo (n : ℕ) (s : LockState) (x : ℕ) (latest : List (Option RequestFields)) (first ws : List Seen) : Type 0 where
   pub at : IsAt n s x latest
   pub told_so : ws ≡ map (told_all (steps_of drill_opening (drill_events n))) first
@@ -173,7 +173,7 @@ pub record IsToldTo (n : ℕ) (s : LockState) (x : ℕ) (latest : List (Option R
 pub told_start : (s : LockState) (ws : List Seen) → s ≡ drill_opening → IsToldTo 0 s 1 no_requests ws ws
 told_start s ws is = record { at = subst (λ t. IsAt 0 t 1 no_requests) (sym is) (at_start no_requests refl none_yet); told_so = sym (untold ws) }
 
--- with one event more
+-- with one more event
 pub at_next : (n : ℕ) (s t : LockState) (x y : ℕ) (latest now : List (Option RequestFields)) (e : Event) → IsAt n s x latest → record { event = e; x = y } ≡ drawn_in s (at_seat latest) x → y < 65537
     → t ≡ next s e → length now ≡ 8 → ((seat : ℕ) → at_seat now seat ≡ latest_after seat (at_seat latest seat) e) → IsAt (n + 1) t y now
 unfolding one_more
@@ -191,13 +191,13 @@ at_next n s t x y latest now e at is small steps seats latest_are = subst (λ (m
               latest_are seat ∙ (λ i. latest_after seat (at.latest_are seat i) (same i)) ∙ sym (latest_push (drill_events n) (drawn (drill_of n)).event seat);
         }
 
--- what is drawn by what is kept comes to the machine
+-- the event drawn by what is kept may come at the machine
 pub comes_at : (n : ℕ) (s : LockState) (x y : ℕ) (latest : List (Option RequestFields)) (e : Event) → n < 2 ^ 62 → IsAt n s x latest → record { event = e; x = y } ≡ drawn_in s (at_seat latest) x → Comes s e
 comes_at n s x y latest e few at is =
     let same : e ≡ (drawn (drill_of n)).event = ap (λ (d : Drawn). d.event) (is ∙ drawn_is n s x latest at) in
     subst (λ (t : LockState). Comes t e) (sym at.state) (subst (Comes (after drill_opening (drill_events n))) (sym same) (comes_next n few))
 
--- ---- what is told
+-- ---- what watchers are given
 
 steps_push : (s : LockState) (es : List Event) (e : Event) → steps_of s (es ++ e ∷ []) ≡ steps_of s es ++ (e, changes_between (after s es) (next (after s es) e)) ∷ []
 steps_push s [] e = refl
@@ -207,7 +207,7 @@ told_push : (steps : List (Event × ChangeLists)) (step : Event × ChangeLists) 
 told_push steps step [] = refl
 told_push steps step (w ∷ ws) = (λ i. sym (fold_push (λ v (next : Event × ChangeLists). told next.0 next.1 v) w steps step) i ∷ told_push steps step ws i)
 
--- after one event more all were told one step more
+-- after one more event all were given one more step
 pub told_next : (n : ℕ) (s t : LockState) (x : ℕ) (latest : List (Option RequestFields)) (first ws us : List Seen) → IsAt n s x latest → t ≡ next s (drawn (drill_of n)).event
     → ws ≡ map (told_all (steps_of drill_opening (drill_events n))) first → us ≡ map (told (drawn (drill_of n)).event (changes_between s t)) ws
     → us ≡ map (told_all (steps_of drill_opening (drill_events (n + 1)))) first
@@ -229,7 +229,7 @@ step_at n s t x y latest now at then =
     then.state ∙ ap (λ m. after drill_opening (drill_events m)) (add-one n) ∙ after_push drill_opening (drill_events n) (drawn (drill_of n)).event
     ∙ ap (λ u. next u (drawn (drill_of n)).event) (sym at.state)
 
--- with one event more
+-- with one more event
 pub told_on : (n : ℕ) (s t : LockState) (x y : ℕ) (latest now : List (Option RequestFields)) (first ws us : List Seen) → IsToldTo n s x latest first ws
     → (IsAt n s x latest → IsAt (n + 1) t y now) → (IsAt n s x latest → us ≡ map (told (drawn (drill_of n)).event (changes_between s t)) ws) → IsToldTo (n + 1) t y now first us
 told_on n s t x y latest now first ws us so on tells =

@@ -29,7 +29,7 @@ module _ (s : LockState) (latest : List (Option RequestFields)) (x x1 named seat
   pub none_draws : (d : Drawn) → has_request s.claims seat ≡ true → at_seat latest seat ≡ None → d ≡ record { event = Finish seat; x = x1 } → d ≡ drawn_in s (at_seat latest) x
   none_draws d busy there is = busy_draws d None busy there is
 
--- what stands at an index is what is known at the seat
+-- what is at an index is what is known of the seat
 pub at_index : (latest : List (Option RequestFields)) (seat k : ℕ) (o : Option RequestFields) → k ≡ seat → seat < length latest → o ≡ slice_index_or latest k o → at_seat latest seat ≡ o
 at_index latest seat k o same less is =
     ap (λ o. unwrap_or o None) (slice_get_read latest (length latest) seat o refl less (subst (λ n. o ≡ slice_index_or latest n o) same is))

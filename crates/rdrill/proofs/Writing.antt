@@ -4,7 +4,7 @@ use Rattle.std.proofs.lemmas.List.{append-nil, take_all, flat_map_more, take_mor
 use Rattle.rwatch.specs.Seen.{Seen, watcher_at, nobody}
 use Rattle.rdrill.specs.Summary.{count_line, kind_word, watcher_line}
 
--- the lines of the first i watchers were written behind a text, in the room that was there
+-- the lines of the first i watchers were written after a text, in the room that was there
 pub record HasWritten (first now : List ℕ) (before after : ℕ) (ws : List Seen) (i : ℕ) : Type 0 where
   pub items : now ≡ first ++ flat_map watcher_line (take i ws)
   pub room : before ≤ after

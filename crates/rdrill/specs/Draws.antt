@@ -8,7 +8,7 @@ use Rattle.rclaim.specs.declared.request.Kind.{Kind}
 use Rattle.rclaim.specs.declared.request.Kind.TheVariants.{Read, Write, Mixed, Upgrade, Nested}
 use Rattle.rmodel.specs.State.{LockState, opening}
 
--- how many seats a drill has, how many resources, and how many of these have a next one
+-- how many seats and resources a drill has, and how many of the resources have a next one
 abbrev pub drill_seats : ℕ
 drill_seats = 8
 
@@ -22,18 +22,18 @@ drill_pairs = 7
 abbrev pub modulus : ℕ
 modulus = 65537
 
--- the drawing number after one draw more
+-- the drawing number after one more draw
 abbrev pub next_draw : ℕ → ℕ
 next_draw x = (75 * x + 74) % modulus
 
--- just this resource, and it with the next one
+-- this resource alone, and this resource with the next one
 abbrev pub one : ℕ → Set
 one l = insert empty l
 
 abbrev pub pair : ℕ → Set
 pair l = insert (one l) (l + 1)
 
--- eight resources, of which each shares a group with the next
+-- eight resources; each shares a group with the next
 abbrev pub drill_groups : ReadGroups
 drill_groups = record { q = drill_resources; groups = pair 0 ∷ pair 1 ∷ pair 2 ∷ pair 3 ∷ pair 4 ∷ pair 5 ∷ pair 6 ∷ [] }
 
@@ -41,7 +41,7 @@ drill_groups = record { q = drill_resources; groups = pair 0 ∷ pair 1 ∷ pair
 abbrev pub drill_opening : LockState
 drill_opening = opening drill_groups drill_seats drill_seats
 
--- the kind of request that a draw of five gives
+-- the kind of request that a draw from five gives
 abbrev pub kind_drawn : ℕ → Kind
 kind_drawn n =
     if n == 0 then Read

@@ -1,4 +1,4 @@
--- The events of a drill: each is drawn by what the lock is after those before it.
+-- The events of a drill: each is drawn by the state of the lock after those before it.
 use Rattle.std.specs.Prelude.{ℕ, ◌+◌, ◌%◌, ◌==◌, Bool, false, not, ◌&&◌, List, [], ◌∷◌, ◌++◌, fold, Option, Some, None, is_some, unwrap_or, find, map, slice_get, length, ◌<◌, ◌≡◌, if◌then◌else◌}
 use Rattle.std.proofs.Common.{zero, suc}
 use Rattle.std.specs.List.{range_with_len}
@@ -17,12 +17,12 @@ use Rattle.rmodel.specs.State.{LockState}
 use Rattle.rmodel.specs.Steps.{is_not_holding, next, after}
 use Rattle.rdrill.specs.Draws.{drill_seats, drill_pairs, modulus, next_draw, drill_opening, kind_drawn, request_for}
 
--- an event that was drawn, and the drawing number behind it
+-- an event that was drawn, and the drawing number after it
 pub record Drawn : Type 0 where
   pub event : Event
   pub x : ℕ
 
--- the request that a seat has issued last, if the event is its issue, and else as before
+-- the request that a seat issued last: that of the event if it is the seat's issue, otherwise as before
 abbrev pub latest_after : ℕ → Option RequestFields → Event → Option RequestFields
 latest_after seat before (Issue other r) = if other == seat then Some r else before
 latest_after seat before (Finish other) = before
@@ -36,11 +36,11 @@ latest_of events seat = fold (latest_after seat) None events
 abbrev pub may_act : LockState → ℕ → Bool
 may_act s seat = not (has_request s.claims seat && is_not_holding s.claims seat)
 
--- the first seat that may act from this one upwards; after the last comes the first
+-- the first seat from this one upwards that may act; after the last comes the first
 abbrev pub acting : LockState → ℕ → ℕ
 acting s seat = unwrap_or (find (may_act s) (map (λ more. (seat + more) % drill_seats) (range_with_len 0 drill_seats))) seat
 
--- an idle seat issues a request: one draw gives its kind, another what it is about
+-- an idle seat issues a request: one draw gives its kind, another its resources
 abbrev pub drawn_issue : ℕ → ℕ → Drawn
 drawn_issue seat x = record { event = Issue seat (request_for (kind_drawn (next_draw x % 5)) (next_draw (next_draw x) % drill_pairs)); x = next_draw (next_draw x) }
 
@@ -52,8 +52,8 @@ either first second x = record { event = if next_draw x % 2 == 0 then first else
 abbrev pub all_held : Granted → Set
 all_held g = union g.reads g.writes
 
--- what a seat does that holds something, by the kind of its request: an upgrade that has not risen rises or finishes, a nested request that holds
--- only its first part asks for the rest or finishes, and every other one finishes, without a draw
+-- what a seat that holds something does, by the kind of its request: an upgrade that has not risen rises or finishes, a nested request that holds
+-- only its first part asks for the rest or finishes, and any other request finishes, without a draw
 abbrev pub drawn_by : Kind → LockState → RequestFields → ℕ → ℕ → Drawn
 drawn_by Upgrade s r seat x = if is_some (status_in s.claims seat false) then either (Rise seat) (Finish seat) x else record { event = Finish seat; x = x }
 drawn_by Nested s r seat x =
@@ -71,7 +71,7 @@ drawn_holding s (Some r) seat x = drawn_by r.kind s r seat x
 abbrev pub drawn_for : LockState → Option RequestFields → ℕ → ℕ → Drawn
 drawn_for s latest seat x = if has_request s.claims seat then drawn_holding s latest seat x else drawn_issue seat x
 
--- a draw names a seat; the first from it upwards acts that may
+-- a draw names a seat; the first seat from it upwards that may act does
 abbrev pub seat_drawn : LockState → ℕ → ℕ
 seat_drawn s x = acting s (next_draw x % drill_seats)
 
@@ -88,7 +88,7 @@ pub record Drill : Type 0 where
 abbrev pub drawn : Drill → Drawn
 drawn d = drawn_in (after drill_opening d.events) (latest_of d.events) d.x
 
--- one event more
+-- one more event
 abbrev pub with_event : Drill → Drawn → Drill
 with_event d more = record { events = d.events ++ more.event ∷ []; x = more.x }
 
@@ -104,7 +104,7 @@ drill_of (suc n) = one_more (drill_of n)
 abbrev pub drill_events : ℕ → List Event
 drill_events n = (drill_of n).events
 
--- the steps that events make: each event, and what it changes
+-- the steps of these events: each event, and what it changes
 abbrev pub steps_of : LockState → List Event → List (Event × ChangeLists)
 steps_of s [] = []
 steps_of s (e ∷ es) = (e, changes_between s (next s e)) ∷ steps_of (next s e) es
@@ -113,7 +113,7 @@ steps_of s (e ∷ es) = (e, changes_between s (next s e)) ∷ steps_of (next s e
 abbrev pub at_seat : List (Option RequestFields) → ℕ → Option RequestFields
 at_seat latest seat = unwrap_or (slice_get latest seat) None
 
--- a drill has come to n events: the lock is in this state, this is the drawing number, and these are the latest requests
+-- a drill after n events: the lock is in this state, this is the drawing number, and these are the latest requests
 pub record IsAt (n : ℕ) (s : LockState) (x : ℕ) (latest : List (Option RequestFields)) : Type 0 where
   pub state : s ≡ after drill_opening (drill_events n)
   pub x_is : x ≡ (drill_of n).x

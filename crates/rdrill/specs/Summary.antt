@@ -13,7 +13,7 @@ use Rattle.rdrill.specs.Draws.{drill_seats}
 unfoldable pub count_line : List ℕ → ℕ → List ℕ
 count_line word n = word ++ 44 ∷ (decimal n ++ 10 ∷ [])
 
--- how a kind is named
+-- the name of a kind
 abbrev pub kind_word : WatchKind → List ℕ
 kind_word Issues = codes "issues"
 kind_word Finishes = codes "finishes"
@@ -35,6 +35,6 @@ holding_of s = count_by (λ seat. not (is_nothing (holds_of s.claims seat))) (ra
 abbrev pub summary_end : LockState → List ℕ
 summary_end s = count_line (codes "incomplete") (incomplete_of s) ++ (count_line (codes "holding") (holding_of s) ++ codes "end\n")
 
--- the number of events, what each watcher has counted, and how the lock is left
+-- the number of events, the count of each watcher, and how the lock is left
 abbrev pub summary_text : ℕ → List Seen → LockState → List ℕ
 summary_text n watchers s = count_line (codes "drill") n ++ (flat_map watcher_line watchers ++ summary_end s)

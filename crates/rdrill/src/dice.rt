@@ -5,7 +5,7 @@ ghost use Rattle.rdrill.specs.Draws.{modulus, next_draw};
 /// Every drawing number is below this prime.
 const MODULUS: u32 = 65_537;
 
-/// A drawing number. Each draw makes the next one of it.
+/// A drawing number. Each draw makes the next one from it.
 #[derive(Clone, Copy)]
 pub struct Dice {
     pub x: u32,

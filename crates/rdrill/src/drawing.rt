@@ -28,7 +28,7 @@ pub const DRILL_SEATS: u8 = 8;
 ///
 /// # Errors
 ///
-/// Want of memory.
+/// Out of memory.
 pub fn drill_machine<M: Machine>(alloc: Global) -> Result<M, AllocError>
     ensures { IfOk result (λ machine. M.state machine ≡ drill_opening) }
 {
@@ -36,7 +36,8 @@ pub fn drill_machine<M: Machine>(alloc: Global) -> Result<M, AllocError>
     M::new(alloc, groups, DRILL_SEATS, DRILL_SEATS)
 }
 
-/// Draws so many events, one after another, each of which is accepted; the machine takes it, and the audience is told the step. No memory is taken.
+/// Draws `count` events, one after another. Each is accepted: the machine takes it, and the audience is given the step.
+/// Takes no memory.
 pub fn drill<M: Machine, A: Audience>(machine: &mut M, audience: &mut A, count: u32)
     requires opening { M.state machine.old ≡ drill_opening }
     requires few { count ≤ MOST_EVENTS }
@@ -51,7 +52,7 @@ pub fn drill<M: Machine, A: Audience>(machine: &mut M, audience: &mut A, count: 
     }
 }
 
-// One event more is drawn, the machine takes it, and the audience is told the step.
+// Draws one more event; the machine takes it, and the audience is given the step.
 fn take_one<M: Machine, A: Audience>(
     machine: &mut M,
     audience: &mut A,
@@ -69,7 +70,7 @@ fn take_one<M: Machine, A: Audience>(
     audience.tell(&event, machine.changes());
 }
 
-// The machine takes an event that comes to it.
+// The machine takes an event that may come.
 fn apply<M: Machine>(machine: &mut M, event: Event)
     requires { Comes (M.state machine.old) event }
     ensures state { M.state machine.new ≡ next (M.state machine.old) event }
@@ -78,7 +79,7 @@ fn apply<M: Machine>(machine: &mut M, event: Event)
     let _ = machine.step(event);
 }
 
-// Notes the request that an event issues as the latest of its seat.
+// Records the request that an event issues as the latest of its seat.
 fn remember(latest: &mut [Option<Request>], event: &Event)
     requires seats { length latest.old ≡ drill_seats }
     requires there { seat_of event.now < drill_seats }
@@ -146,7 +147,7 @@ fn draw_issue(seat: u8, dice: &mut Dice) -> Event
     }
 }
 
-// What a seat does that holds something, with this request.
+// What a seat that holds something does, with this request.
 fn draw_holding<M: Machine>(machine: &M, request: &Request, seat: u8, dice: &mut Dice) -> Event
     requires { dice.old.x < modulus }
     ensures drawn { record { event = result; x = dice.new.x } ≡ drawn_by request.now.kind (M.state machine.now) request.now seat dice.old.x }

@@ -1,7 +1,8 @@
-//! The drill: a large list of events that is drawn as it runs, for any machine and any audience.
+//! The drill: a long list of events that is drawn as it runs, for any machine and any audience.
 //!
-//! Each event is drawn by what the lock is after those before it, so that every one of them is accepted. What is drawn is
-//! defined once (`specs/Drill.antt`); the machine takes each event as it is drawn, and the audience is told each step.
+//! Each event is drawn by the state of the lock after those before it, so every event is accepted. What is drawn is defined
+//! in `specs/Drill.antt`. [`drill`] gives each event to the machine and each step to the audience, and [`push_summary`]
+//! writes what came of it.
 #![tactic(auto)]
 
 mod dice;

@@ -12,10 +12,10 @@ use std::alloc::{AllocError, Global};
 /// The number of resources of a drill.
 const DRILL_RESOURCES: u8 = 8;
 
-/// How many resources have a next one.
+/// How many resources have a next resource.
 pub const DRILL_PAIRS: u8 = DRILL_RESOURCES - 1;
 
-/// The kind of request that a draw of five gives.
+/// The kind of request that a draw from five gives.
 pub fn kind_drawn(n: u32) -> Kind
     ensures { result ≡ kind_drawn n }
 {
@@ -61,11 +61,11 @@ fn made(
     Request::new(kind, reads, writes, first, 1, later).unwrap()
 }
 
-/// The resources of a drill, of which each shares a group with the next.
+/// The resources of a drill; each shares a group with the next.
 ///
 /// # Errors
 ///
-/// Want of memory.
+/// Out of memory.
 pub fn drill_groups(alloc: Global) -> Result<Groups, AllocError>
     ensures { IfOk result (λ groups. groups ≡ drill_groups) }
 {

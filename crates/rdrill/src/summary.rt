@@ -12,11 +12,11 @@ use std::alloc::{AllocError, Global};
 /// The most bytes of a line: a word of ten letters, a comma, twenty digits, and the end of the line.
 const LINE_ROOM: usize = 32;
 
-/// Room for the summary of a drill that so many watchers watch.
+/// Room for the summary of a drill with this many watchers.
 ///
 /// # Errors
 ///
-/// Want of memory.
+/// Out of memory.
 pub fn summary_room(alloc: Global, watchers: usize) -> Result<Vec<u8>, AllocError>
     ensures { IfOk result (λ text. (text.items ≡ []) × (LINE_ROOM * (watchers + 4) ≤ vec_capacity text)) }
 {
@@ -26,8 +26,8 @@ pub fn summary_room(alloc: Global, watchers: usize) -> Result<Vec<u8>, AllocErro
     Vec::with_capacity(alloc, LINE_ROOM * (watchers + 4))
 }
 
-/// Writes the summary of a drill of `count` events, after which the machine is in this state, into the room that was made for it. No
-/// memory is taken.
+/// Writes the summary of a drill of `count` events, after which the machine is in this state, into the room that was made
+/// for it. Takes no memory.
 pub fn push_summary<M: Machine, A: Audience>(
     text: &mut Vec<u8>,
     count: u32,
@@ -45,7 +45,7 @@ pub fn push_summary<M: Machine, A: Audience>(
     push_piece(text, b"end\n");
 }
 
-// Appends a piece in room that is there.
+// Appends a piece, for which there is room.
 fn push_piece(text: &mut Vec<u8>, piece: &[u8])
     requires { length text.old.items + length piece.now ≤ vec_capacity text.old }
     ensures items { text.new.items ≡ text.old.items ++ piece.now }
@@ -56,7 +56,7 @@ fn push_piece(text: &mut Vec<u8>, piece: &[u8])
     };
 }
 
-// Appends the line of a count in room that is there.
+// Appends the line of a count, for which there is room.
 #[tactic(auto, unfolding(crate::specs::Summary::count_line))]
 fn push_count(text: &mut Vec<u8>, word: &[u8], count: u64)
     requires word { length word.now ≤ 10 }
@@ -85,7 +85,7 @@ fn push_watchers<A: Audience>(text: &mut Vec<u8>, audience: &A)
     }
 }
 
-// How a kind is named.
+// The name of a kind.
 fn kind_word(kind: WatchKind) -> &'static [u8]
     ensures word { result.now ≡ kind_word kind }
     ensures short { length result.now ≤ 10 }

@@ -70,12 +70,12 @@ inside_below q (g ∷ gs) s each inside =
       | inr later ↦ inside_below q gs s parts.1 later
     ]
 
--- so one with a member that is not below q is inside no group
+-- so a set with a member that is not below q is inside no group
 pub inside_none_above : (q : ℕ) (groups : List Set) (s : Set) (l : ℕ) → list_all (is_group q) groups ≡ true → contains s l ≡ true → q ≤ l → is_inside groups s ≡ false
 inside_none_above q groups s l each at_l above = false_from_ne_true _ (λ inside.
     let below : l < q = all_below_at q s (inside_below q groups s each inside) l at_l in absurd (omega arith))
 
--- further groups only add
+-- more groups only add
 pub inside_grows : (groups more : List Set) (s : Set) → is_inside groups s ≡ true → is_inside (groups ++ more) s ≡ true
 unfolding is_inside
 inside_grows groups more s inside = list_any-append (is_subset s) groups more ∙ or_left _ _ inside
@@ -112,7 +112,7 @@ unfolding is_declared
 declared_many groups s many filled =
     ap (λ b. b || (nat_lt 0 (len s) && is_inside groups s)) (ne_eqb (len s) 1 many) ∙ ap (λ b. b && is_inside groups s) (some_members s filled)
 
--- a set is declared for no other reason
+-- there is no other reason for a set to be declared
 pub declared_cases : (groups : List Set) (s : Set) → is_declared groups s ≡ true → (len s ≡ 1) ⊎ (is_inside groups s ≡ true)
 unfolding is_declared
 declared_cases groups s h = elim (or_cases (len s == 1) (nat_lt 0 (len s) && is_inside groups s) h) [
@@ -131,7 +131,7 @@ declared_shared groups s k l h at_k at_l = elim (declared_cases groups s h) [
 pub declared_within_shared : (groups : List Set) (s : Set) (l : ℕ) → is_declared groups s ≡ true → contains s l ≡ true → is_subset s (shared_with groups l) ≡ true
 declared_within_shared groups s l h at_l = within_from _ _ (λ k at_k. declared_shared groups s k l h at_k at_l)
 
--- further groups only add
+-- more groups only add
 pub declared_grows : (groups more : List Set) (s : Set) → is_declared groups s ≡ true → is_declared (groups ++ more) s ≡ true
 unfolding is_declared
 declared_grows groups more s h = elim (or_cases (len s == 1) (nat_lt 0 (len s) && is_inside groups s) h) [

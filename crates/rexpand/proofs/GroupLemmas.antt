@@ -1,4 +1,4 @@
--- What every list of groups has, and one group more.
+-- What every list of groups has, and adding a group.
 use Rattle.std.proofs.Common.{◌≡◌, ℕ, suc, zero, ◌<◌, ◌≤◌, ◌&&◌, true, List, [], ◌∷◌, ◌++◌, length, refl, sym, ap, ◌∙◌, arith, length-append}
 use Rattle.std.specs.Prelude.{slice_get, Some, is_some, nat_le, nat_lt}
 use Rattle.std.specs.List.{list_all}
@@ -21,7 +21,7 @@ pub group_below : (q : ℕ) (s : Set) → is_group q s ≡ true → all_below q 
 unfolding is_group
 group_below q s h = (and_parts (nat_lt 0 (len s)) (all_below q s) h).1
 
--- ---- the list of them
+-- ---- the list of groups
 
 -- what is true of every list of groups, by name
 pub record AreGroups (q : ℕ) (groups : List Set) : Type 0 where
@@ -52,7 +52,7 @@ group_at g i s h there = at g.groups i (groups_parts g h).each there
     at (x ∷ xs) zero each there = let e : x ≡ s = cc in ap (is_group g.q) (sym e) ∙ (and_parts (is_group g.q x) (list_all (is_group g.q) xs) each).0
     at (x ∷ xs) (suc k) each there = at xs k (and_parts (is_group g.q x) (list_all (is_group g.q) xs) each).1 there
 
--- a group more, where there is room
+-- another group, where there is room
 pub groups_push : (q : ℕ) (groups : List Set) (s : Set) → AreGroups q groups → is_group q s ≡ true → length groups < GROUPS → AreGroups q (groups ++ s ∷ [])
 groups_push q groups s h group room =
     let longer = length-append groups (s ∷ []) in
@@ -63,10 +63,10 @@ groups_push q groups s h group room =
       each = list_all-append (is_group q) groups (s ∷ []) ∙ and_from _ _ h.each (and_from _ _ group refl);
     }
 
--- so groups stay groups when one is declared
+-- so groups stay valid when one is declared
 pub groups_declared : (g : ReadGroups) (s : Set) → are_groups g ≡ true → (s ≡ empty → ⊥) → all_below g.q s ≡ true → length g.groups < GROUPS → are_groups (record g { groups = g.groups ++ s ∷ [] }) ≡ true
 groups_declared g s h filled low room = groups_of _ (groups_push g.q g.groups s (groups_parts g h) (group_of g.q s filled low) room)
 
--- and none is a list of groups
+-- and no groups are a list of groups
 pub groups_none : (q : ℕ) → 1 ≤ q → q ≤ RESOURCES → are_groups (no_groups q) ≡ true
 groups_none q some small = groups_of _ (record { some = some; small = small; few = omega arith; each = refl })

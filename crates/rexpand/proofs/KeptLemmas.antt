@@ -1,4 +1,4 @@
--- What is kept of the groups stays so when one is declared.
+-- What is kept of the groups stays right when a group is declared.
 use Rattle.std.proofs.Common.{◌≡◌, ℕ, ◌<◌, ◌≤◌, ◌*◌, ◌/◌, ◌%◌, true, cond, List, [], ◌∷◌, ◌++◌, length, get_or, fold, sym, ap, subst, ◌∙◌, arith}
 use Rattle.std.specs.Prelude.{replicate}
 use Rattle.std.specs.FinSet.{empty, insert, union}
@@ -13,15 +13,15 @@ use Rattle.rexpand.proofs.GroupLemmas.{AreGroups, groups_parts, groups_of, group
 use Rattle.rexpand.proofs.EntryLemmas.{length_widened, widened}
 use Rattle.rexpand.proofs.NotedLemmas.{noted_none, noted_push}
 
--- the entries with a group more
+-- the entries with another group
 abbrev pub entries_with : Set → List Set → List Set
 entries_with group entries = fold (widen (λ l. l) group) entries (rising group)
 
--- and the numbers noted, where that group has the number n
+-- and the recorded numbers, where that group has the number n
 abbrev pub noted_with : ℕ → Set → List Set → List Set
 noted_with n group noted = fold (widen (place_in (n / RESOURCES)) (insert empty (n % RESOURCES))) noted (rising group)
 
--- with a group more, the entries of its members get it, and its number is noted there
+-- with another group, the entries of its members get it, and its number is recorded there
 pub kept_push : (groups entries noted : List Set) (group : Set) → IsKept groups entries noted → is_group (length entries) group ≡ true → length groups < GROUPS → IsKept (groups ++ group ∷ []) (entries_with group entries) (noted_with (length groups) group noted)
 kept_push groups entries noted group kept is room =
     let same : length (entries_with group entries) ≡ length entries = length_widened (λ l. l) group (rising group) entries in
@@ -46,7 +46,7 @@ kept_push groups entries noted group kept is room =
         ∙ (λ i. cond (rising_has group low l i) (union (kept.each l h i) group) (kept.each l h i))
         ∙ sym (shared_with_push groups group l)
 
--- where each resource has itself alone as its entry, no group is declared
+-- with no groups, the entry of each resource is the resource alone
 pub kept_alone : (entries : List Set) → 1 ≤ length entries → length entries ≤ RESOURCES → ((l : ℕ) → l < length entries → get_or entries l empty ≡ insert empty l) → IsKept [] entries (replicate (length entries * BLOCKS) empty)
 kept_alone entries some few each = record {
   valid = groups_none (length entries) some few;
@@ -54,7 +54,7 @@ kept_alone entries some few each = record {
   numbers = noted_none (length entries);
 }
 
--- equal lists are kept alike
+-- equal lists are kept in the same way
 pub kept_same : (groups groups' entries entries' noted noted' : List Set) → groups' ≡ groups → entries' ≡ entries → noted' ≡ noted → IsKept groups entries noted → IsKept groups' entries' noted'
 kept_same groups groups' entries entries' noted noted' same_groups same_entries same_noted kept =
     subst (λ (gs : List Set). IsKept gs entries' noted') (sym same_groups)

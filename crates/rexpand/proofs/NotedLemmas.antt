@@ -1,4 +1,4 @@
--- Which groups contain a resource, as it is noted: how it is kept, and that it tells whether a set lies inside one group.
+-- Which groups contain a resource, as it is recorded: how that is kept, and that it shows whether a set lies inside one group.
 use Rattle.std.proofs.Common.{◌≡◌, ◌⊎◌, ℕ, ◌+◌, ◌*◌, ◌/◌, ◌%◌, ◌<◌, ◌≤◌, ◌==◌, ◌&&◌, ◌||◌, Bool, zero, suc, true, false, cond, List, [], ◌∷◌, ◌++◌, length, get_or, fold, refl, sym, ap, subst, ◌∙◌, inl, inr, arith}
 use Rattle.std.specs.Prelude.{replicate}
 use Rattle.std.specs.List.{list_any, list_all}
@@ -19,7 +19,7 @@ use Rattle.rexpand.proofs.EntryLemmas.{length_widened, widened}
 
 -- ---- how it is kept
 
--- no group, and no number
+-- no groups, and no numbers
 pub noted_none : (q : ℕ) → IsNoted q [] (replicate (q * BLOCKS) empty)
 noted_none q = record {
   size = length-replicate (q * BLOCKS) empty;
@@ -30,13 +30,13 @@ noted_none q = record {
 pub noted_for : (q : ℕ) (groups noted : List Set) → IsNoted q groups noted → length noted / BLOCKS ≡ q
 noted_for q groups noted kept = let size = kept.size in omega arith
 
--- a copy of it is read
+-- a copy of it can be read
 pub noted_read : (q : ℕ) (groups noted read : List Set) → IsNoted q groups noted → read ≡ noted → IsNoted (length read / BLOCKS) groups read
 noted_read q groups noted read kept same =
     subst (λ (ns : List Set). IsNoted (length ns / BLOCKS) groups ns) (sym same)
     (subst (λ (n : ℕ). IsNoted n groups noted) (sym (noted_for q groups noted kept)) kept)
 
--- a group that is put behind the others changes none of them
+-- a group that is added at the end changes no other
 get_or_push : (groups : List Set) (group : Set) (i : ℕ) → (length groups ≡ i → ⊥) → get_or (groups ++ group ∷ []) i empty ≡ get_or groups i empty
 get_or_push [] group zero other = absurd (other refl)
 get_or_push [] group (suc i) other = refl
@@ -60,7 +60,7 @@ member_place group block l low = same_test _ _
     ap (contains group) (sym same) ∙ rising_member group found.0 found.2)
     (λ there. passes_at (λ y. place_in block y == place_in block l) l (eq-eqb _ _ refl) (rising group) (rising_has group low l ∙ there))
 
--- a group more is noted at each of its members
+-- another group is recorded at each of its members
 pub noted_push : (q : ℕ) (groups noted : List Set) (group : Set) → IsNoted q groups noted → all_below q group ≡ true → all_below RESOURCES group ≡ true → length groups < GROUPS → IsNoted q (groups ++ group ∷ []) (fold (widen (place_in (length groups / RESOURCES)) (insert empty (length groups % RESOURCES))) noted (rising group))
 noted_push q groups noted group kept below low room = record {
   size = length_widened (place_in b0) (insert empty j0) (rising group) noted ∙ kept.size;
@@ -103,9 +103,9 @@ noted_push q groups noted group kept below low room = record {
             ∙ or-false (contains (get_or groups (block * RESOURCES + j) empty) l)
             ∙ ap (λ s. contains s l) (sym (get_or_push groups group (block * RESOURCES + j) other))
 
--- ---- what it tells
+-- ---- what it shows
 
--- the numbers that are left are those noted at each resource of the list
+-- the numbers that are left are those recorded at each resource of the list
 contains_narrowed : (noted : List Set) (block : ℕ) (xs : List ℕ) (s : Set) (j : ℕ) → contains (fold (narrow noted block) s xs) j ≡ (contains s j && list_all (λ m. contains (get_or noted (place_in block m) empty) j) xs)
 contains_narrowed noted block [] s j = sym (and-true (contains s j))
 contains_narrowed noted block (x ∷ xs) s j =
@@ -113,11 +113,11 @@ contains_narrowed noted block (x ∷ xs) s j =
     ∙ ap (λ b. b && list_all (λ m. contains (get_or noted (place_in block m) empty) j) xs) (contains_intersection s (get_or noted (place_in block x) empty) j)
     ∙ and_assoc (contains s j) (contains (get_or noted (place_in block x) empty) j) (list_all (λ m. contains (get_or noted (place_in block m) empty) j) xs)
 
--- the groups of a block whose numbers are noted at each member of the set, of which l is one
+-- the groups of a block whose numbers are recorded at each member of the set; l is a member
 abbrev pub groups_around : List Set → ℕ → Set → ℕ → Set
 groups_around noted block s l = fold (narrow noted block) (get_or noted (place_in block l) empty) (rising s)
 
--- where there is one, the set lies inside it
+-- where there is such a group, the set lies inside it
 pub inside_by_number : (q : ℕ) (groups noted : List Set) (s : Set) (l block j : ℕ) → IsNoted q groups noted → all_below q s ≡ true → all_below RESOURCES s ≡ true → contains s l ≡ true → block < BLOCKS → j < RESOURCES → contains (groups_around noted block s l) j ≡ true → is_inside groups s ≡ true
 unfolding is_inside
 inside_by_number q groups noted s l block j kept below low at_l few small there =
@@ -145,7 +145,7 @@ number_passing p (g ∷ groups) some = elim (or_cases (p g) (list_any p groups) 
   | inr later ↦ let found = number_passing p groups later in let small = found.1 in (suc found.0, omega arith, found.2)
 ]
 
--- where there is none in any block, it lies inside no group
+-- where no block has one, the set lies inside no group
 pub inside_no_number : (q : ℕ) (groups noted : List Set) (s : Set) (l : ℕ) → length groups ≤ GROUPS → IsNoted q groups noted → all_below q s ≡ true → contains s l ≡ true → ((block : ℕ) → block < BLOCKS → groups_around noted block s l ≡ empty) → is_inside groups s ≡ false
 unfolding is_inside
 inside_no_number q groups noted s l few kept below at_l none = false_from_ne_true _ (λ inside.

@@ -57,7 +57,7 @@ pub place_by_write : (groups : List Set) (reads writes : Set) (l k : ℕ) → co
 place_by_write groups reads writes l k written shared =
     contains-places_of groups reads writes k ∙ or_right _ _ (meets_from writes (shared_with groups k) l written (sym (shared_symmetric groups l k) ∙ shared))
 
--- how a place came to be one
+-- why a place is one
 pub record IsSharedWith (groups : List Set) (writes : Set) (k : ℕ) : Type 0 where
   pub resource : ℕ
   pub written : contains writes resource ≡ true

@@ -38,7 +38,7 @@ equal_turned k l = same_test _ _ (turn k l) (turn l k)
 
 -- ---- members
 
--- k is shared with l exactly where they are one, or some group contains both
+-- k is shared with l exactly where they are equal, or some group contains both
 pub contains-shared_with : (groups : List Set) (l k : ℕ) → contains (shared_with groups l) k ≡ ((k == l) || in_one_group groups l k)
 unfolding shared_with
 contains-shared_with [] l k = contains_insert empty l k ∙ ap (λ b. (k == l) || b) (contains_empty k)
@@ -80,7 +80,7 @@ shared_alone l = refl
 
 -- ---- more groups
 
--- one group more is added to what is shared with its members
+-- another group is added to what is shared with its members
 pub shared_with_push : (groups : List Set) (group : Set) (l : ℕ) → shared_with (groups ++ group ∷ []) l ≡ cond (contains group l) (union (shared_with groups l) group) (shared_with groups l)
 shared_with_push groups group l = same_members _ _ (λ k.
     contains-shared_with (groups ++ group ∷ []) l k
@@ -106,7 +106,7 @@ pub shared_persists : (groups : List Set) (group : Set) (l : ℕ) → contains g
 shared_persists groups group l h =
     shared_with_push groups group l ∙ ap (λ b. cond b (union (shared_with groups l) group) (shared_with groups l)) h
 
--- further groups only add
+-- more groups only add
 pub shared_grows : (groups more : List Set) (l : ℕ) → is_subset (shared_with groups l) (shared_with (groups ++ more) l) ≡ true
 shared_grows groups more l = within_from _ _ (λ k h.
     contains-shared_with (groups ++ more) l k

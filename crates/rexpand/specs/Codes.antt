@@ -1,4 +1,4 @@
--- How proofs tell read groups apart: by their parts.
+-- How proofs distinguish read groups: by their parts.
 use Rattle.std.specs.Prelude.{ℕ, List, refl}
 use Rattle.std.specs.Coded.{Coded, code_by, coded_ℕ, coded×, coded_list}
 use Rattle.std.specs.FinSet as set

@@ -13,7 +13,7 @@ pub record ReadGroups : Type 0 where
   pub q : ℕ
   pub groups : List Set
 
--- no group is declared
+-- there are no groups
 abbrev pub no_groups : ℕ → ReadGroups
 no_groups q = record { q = q; groups = [] }
 
@@ -38,7 +38,7 @@ is_declared groups s = (set.len s == 1) || (nat_lt 0 (set.len s) && is_inside gr
 unfoldable pub is_group : ℕ → Set → Bool
 is_group q s = nat_lt 0 (set.len s) && all_below q s
 
--- there is a resource, there are no more resources and groups than there may be, and each group is one
+-- there is a resource, there are no more resources and groups than allowed, and each group is valid
 unfoldable pub are_groups : ReadGroups → Bool
 are_groups g = nat_le 1 g.q && nat_le g.q RESOURCES && nat_le (length g.groups) GROUPS && list_all (is_group g.q) g.groups
 

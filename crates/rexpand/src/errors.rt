@@ -12,7 +12,7 @@ pub enum GroupErr {
     /// It has no member.
     #[error("the group has no member")]
     EmptyGroup = 1,
-    /// There are as many groups as there may be, which is [`GROUPS`](crate::GROUPS).
+    /// There are already [`GROUPS`](crate::GROUPS) groups, and there may be no more.
     #[error("too many groups")]
     TooMany = 2,
     /// Memory ran out.
@@ -21,7 +21,7 @@ pub enum GroupErr {
 }
 
 impl GroupErr {
-    /// Its number, which is its place in the order of refusals.
+    /// The number of the refusal, which is its place in the order.
     pub fn number(self) -> u8
         ensures { result ≡ refusal_number self }
     {

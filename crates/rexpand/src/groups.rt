@@ -1,4 +1,4 @@
-// The groups that were declared, seen as the list of them.
+// The declared groups; a contract sees the list of them.
 ghost use Rattle.std.specs.Prelude.{◌≡◌, ◌≢◌, ◌<◌, ◌≤◌, ◌++◌, ◌∷◌, [], ◌↔◌, IfOk, OnOk, OnErr, IsTrue, Some, length, slice_get};
 ghost use Rattle.std.specs.FinSet.{empty};
 ghost use Rattle.rset.specs.Sets.{all_below};
@@ -35,11 +35,11 @@ impl Model for Groups {
 }
 
 impl Groups {
-    /// No group yet, over the resources below `q`.
+    /// No groups yet, over the resources below `q`.
     ///
     /// # Errors
     ///
-    /// Want of memory.
+    /// Out of memory.
     pub fn new(alloc: Global, q: u8) -> Result<Groups, AllocError>
         requires some { 1 ≤ q }
         requires few { q ≤ RESOURCES }
@@ -54,11 +54,11 @@ impl Groups {
         })
     }
 
-    /// Declares `set` as a group, behind the others.
+    /// Declares `set` as a group, after the others.
     ///
     /// # Errors
     ///
-    /// In the order of [`GroupErr`]: the set is empty; [`GROUPS`] groups are there; memory runs out. Nothing changes then.
+    /// In the order of [`GroupErr`]: the set is empty; there are [`GROUPS`] groups; memory runs out. Then nothing changes.
     pub fn declare(&mut self, set: ResourceSet) -> Result<(), GroupErr>
         requires { IsTrue (all_below self.old.q set) }
         ensures ok { OnOk result (self.new ≡ record self.old { groups = self.old.groups ++ set ∷ [] }) }
@@ -135,7 +135,7 @@ impl Groups {
         }
         match set.first() {
             None => false,
-            // A set inside a group lies in what is shared with each of its members, and that is quickly seen.
+            // A set inside a group lies in what is shared with each of its members, and that is quick to see.
             Some(l) => l < self.q() && set.within(self.shared(l)) && is_inside(&self.noted, set, l),
         }
     }
@@ -144,7 +144,7 @@ impl Groups {
     ///
     /// # Errors
     ///
-    /// Want of memory.
+    /// Out of memory.
     pub fn copy(&self, alloc: Global) -> Result<Groups, AllocError>
         ensures { IfOk result (λ groups. groups ≡ self.now) }
     {

@@ -12,14 +12,14 @@ use crate::{BLOCKS, GROUPS};
 use rset::{RESOURCES, ResourceSet};
 use std::alloc::{AllocError, Global};
 
-// Where no group is declared, none contains any of `q` resources.
+// No group is declared yet, so no group contains any of `q` resources.
 pub(crate) fn unnoted(alloc: Global, q: u8) -> Result<Vec<ResourceSet>, AllocError>
     ensures { IfOk result (λ noted. noted.items ≡ replicate (q * BLOCKS) empty) }
 {
     vec![in alloc; ResourceSet::empty(); usize::from(q) * BLOCKS]
 }
 
-// Notes the number of a group at each of its members.
+// Adds the number of a group to the entry of each of its members.
 pub(crate) fn note(noted: &mut [ResourceSet], number: usize, group: ResourceSet)
     requires few { number < GROUPS }
     requires within { IsTrue (all_below (length noted.old / BLOCKS) group) }
@@ -49,7 +49,7 @@ pub(crate) fn is_inside(noted: &[ResourceSet], set: ResourceSet, l: u8) -> bool
     false
 }
 
-// The groups of the block that contain each member of the set, of which `l` is one.
+// The groups of the block that contain each member of the set; `l` is a member.
 fn around(noted: &[ResourceSet], block: usize, set: ResourceSet, l: u8) -> ResourceSet
     requires block { block < BLOCKS }
     requires within { IsTrue (all_below (length noted.now / BLOCKS) set) }

@@ -7,7 +7,7 @@ ghost use Rattle.rexpand.specs.Kept.{widen};
 use rset::{RESOURCES, ResourceSet};
 use std::alloc::{AllocError, Global};
 
-// Where no group is declared, each of `q` resources is shared with itself alone.
+// No group is declared yet, so each of `q` resources is shared with itself alone.
 pub(crate) fn alone(alloc: Global, q: u8) -> Result<Vec<ResourceSet>, AllocError>
     requires { q ≤ RESOURCES }
     ensures len { IfOk result (λ shared. vec_len shared ≡ q) }

@@ -1,4 +1,4 @@
--- What holds of the states that accepted events lead to, and how claims go through an event.
+-- What holds in the states that accepted events lead to, and what an event does to claims.
 pub mod Came
 pub mod EachClaim
 pub mod FewClaims

@@ -1,3 +1,3 @@
--- What a step tells.
+-- What a step reports.
 pub mod ChangesTold
 pub mod GrantsTold

@@ -1,4 +1,4 @@
--- The changes of a step: the claims whose status is another, and the requests that hold more.
+-- The changes of a step: the claims whose status changed, and the requests that hold more.
 use Rattle.std.specs.Prelude.{◌≡◌, ℕ, true, Bool, not, ◌&&◌, ◌==◌, Option, Some, None, unwrap_or, List, [], ◌∷◌, ◌++◌, find, if◌then◌else◌}
 use Rattle.std.specs.List.{filter_map, AllByRecursion}
 use Rattle.std.specs.Option.{option_map, option_to_list}
@@ -14,7 +14,7 @@ use Rattle.rmodel.specs.Claims.{waiting, active_by}
 use Rattle.rmodel.specs.Holds.{held_by, is_within}
 use Rattle.rmodel.specs.State.{LockState}
 
--- two tests say the same
+-- two tests have the same result
 abbrev pub is_same : Bool → Bool → Bool
 is_same a b = if a then b else not b
 
@@ -50,7 +50,7 @@ grant_change was now =
     if is_within (held_by now) (held_by was) then None
     else Some (record { seat = now.claim.seat; reads = (held_by now).reads; writes = (held_by now).writes })
 
--- the changes from a state to another, by rising stamp
+-- the changes from one state to another, by rising stamp
 unfoldable pub changes_between : LockState → LockState → ChangeLists
 changes_between s t = record {
   statuses = filter_map (λ y. status_change (was_in s.claims y.claim) y) t.claims;
@@ -69,13 +69,13 @@ grant_changes [] ys = []
 grant_changes (x ∷ xs) [] = []
 grant_changes (x ∷ xs) (y ∷ ys) = option_to_list (grant_change x y) ++ grant_changes xs ys
 
--- changes, and those from a claim to the same claim later
+-- these changes, and then those from a claim to the same claim later
 abbrev pub with_change : ChangeLists → Claimed → Claimed → ChangeLists
 with_change all was now = record {
   statuses = all.statuses ++ option_to_list (status_change was now);
   grants = all.grants ++ option_to_list (grant_change was now);
 }
 
--- each status that is told is entitled or satisfied: no claim is told to wait
+-- each status that is reported is entitled or satisfied: no claim is reported as waiting
 abbrev pub AreActive : List StatusChange → Type 0
 AreActive changes = AllByRecursion (λ c. active_by c.status ≡ true) changes

@@ -38,7 +38,7 @@ abbrev pub claim_of : List Set → Bool → ℕ → ℕ → Kind → Set → Set
 claim_of groups write_half stamp seat kind reads writes =
     record { stamp = stamp; seat = seat; kind = kind; write_half = write_half; reads = reads; writes = writes; places = claim_places groups write_half reads writes }
 
--- the claims of a request of this kind that reads and writes this: a read makes a read claim; a write, a mixed and a nested request make a write claim;
+-- the claims of a request of this kind with these sets: a read makes a read claim; a write, a mixed and a nested request make a write claim;
 -- an upgrade makes a read claim that reads its set, and a write claim that writes it
 abbrev pub claims_by : List Set → Kind → ℕ → ℕ → Set → Set → List Claim
 claims_by groups Read stamp seat reads writes = claim_of groups false stamp seat Read reads writes ∷ []
@@ -67,7 +67,7 @@ is_upgrade Mixed = false
 is_upgrade Upgrade = true
 is_upgrade Nested = false
 
--- a claim is the read half of an upgrade: it stands in the list until the upgrade rises
+-- a claim is the read half of an upgrade: it is in the list until the upgrade rises
 abbrev pub is_read_half : Claim → Bool
 is_read_half c = is_upgrade c.kind && not c.write_half
 
@@ -79,7 +79,7 @@ touches c s = meets c.reads s || meets c.writes s
 abbrev pub conflicts : Claim → Claim → Bool
 conflicts a b = touches b a.writes || touches a b.writes
 
--- a claim conflicts with an asker on a part of what that reads and writes, where it writes some of the part,
+-- a claim conflicts with an asker on a part of what the asker reads and writes, where it writes some of the part,
 -- or reads or writes some of the part that the asker writes
 abbrev pub conflicts_on : Claim → Claim → Set → Bool
 conflicts_on c asker part = meets c.writes part || touches c (intersection part asker.writes)
@@ -100,7 +100,7 @@ active_by Waiting = false
 active_by Entitled = true
 active_by Satisfied = true
 
--- a status is that of a claim to which what it asks for comes next
+-- a status is that of a claim that is next to get what it asks for
 abbrev pub entitled_by : Status → Bool
 entitled_by Waiting = false
 entitled_by Entitled = true

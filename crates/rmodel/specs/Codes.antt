@@ -1,4 +1,4 @@
--- How proofs tell lock states apart: by their parts.
+-- How proofs distinguish lock states: by their parts.
 use Rattle.std.specs.Prelude.{ℕ, Bool, List, refl}
 use Rattle.std.specs.Coded.{Coded, code_by, coded×, coded_ℕ, coded_bool, coded_list}
 use Rattle.rset.specs.Sets.{Set}

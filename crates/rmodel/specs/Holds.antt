@@ -20,11 +20,11 @@ both a b = record { reads = union a.reads b.reads; writes = union a.writes b.wri
 abbrev pub is_nothing : Granted → Bool
 is_nothing g = (len g.reads == 0) && (len g.writes == 0)
 
--- each resource that a holds in a way, b holds in that way
+-- each resource that a holds for reading or writing, b holds in the same way
 abbrev pub is_within : Granted → Granted → Bool
 is_within a b = is_subset a.reads b.reads && is_subset a.writes b.writes
 
--- what a claim holds: that of a nested request what it was granted, another what it reads and writes once it is satisfied
+-- what a claim holds: for a nested request, what it was granted; for any other, what it reads and writes once it is satisfied
 abbrev pub held_by : Claimed → Granted
 held_by x =
     if is_nested x.claim.kind then record { reads = intersection x.granted x.claim.reads; writes = intersection x.granted x.claim.writes }

@@ -14,7 +14,7 @@ use Rattle.rmodel.specs.State.{LockState, opening}
 use Rattle.rmodel.specs.Steps.{changed, after, Comes, AreAccepted}
 use Rattle.rmodel.specs.WellFormed.{EachPair, AreWellFormed, AreExclusive, AreAdmittedBy, Distinct, TakeTurns}
 
--- a list of claims settles to another, and to no third one
+-- a list of claims settles to this one, and to no other
 pub record SettlesOnlyTo (s t : List Claimed) : Type 0 where
   pub settles : Settles s t
   pub only : (u : List Claimed) → Settles s u → u ≡ t
@@ -29,11 +29,11 @@ OneSettlementAStep =
     (groups : ReadGroups) (seats cap : ℕ) (events : List Event) (event : Event) → AreAccepted (opening groups seats cap) events → Comes (after (opening groups seats cap) events) event
     → SettlesOnlyTo (changed (after (opening groups seats cap) events) event).claims (settled (changed (after (opening groups seats cap) events) event).claims)
 
--- writes are exclusive: of exclusive claims, what they settle to are exclusive claims
+-- writes are exclusive: exclusive claims settle to exclusive claims
 abbrev pub SettlingIsExclusive : Type 0
 SettlingIsExclusive = (s t : List Claimed) → AreExclusive s → Settles s t → AreExclusive t
 
--- what the request of one seat holds for writing, that of another does not hold
+-- what the request of one seat holds for writing, the request of the other does not hold
 pub record IsExclusive (s : LockState) (seat other : ℕ) : Type 0 where
   pub not_read : meets (holds_of s.claims seat).writes (holds_of s.claims other).reads ≡ false
   pub not_written : meets (holds_of s.claims seat).writes (holds_of s.claims other).writes ≡ false
@@ -62,17 +62,17 @@ shares_with_earlier xs c = list_any (λ v. is_earlier_write c v.claim && share_p
 abbrev pub EarliestAreEntitled : List Claimed → Type 0
 EarliestAreEntitled xs = AllByRecursion (λ x. x.claim.write_half ≡ true → shares_with_earlier xs x.claim ≡ false → is_active x ≡ true) xs
 
--- the earliest write is entitled: so it is in whatever claims settle to
+-- the earliest write is entitled: this holds in whatever claims settle to
 abbrev pub EarliestIsEntitled : Type 0
 EarliestIsEntitled = (s t : List Claimed) → Settles s t → EarliestAreEntitled t
 
--- the earliest write is entitled: so it is after any list of accepted events
+-- the earliest write is entitled: this holds after any list of accepted events
 abbrev pub EarliestIsEntitledAStep : Type 0
 EarliestIsEntitledAStep =
     (groups : ReadGroups) (seats cap : ℕ) (events : List Event) → AreAccepted (opening groups seats cap) events
     → EarliestAreEntitled (after (opening groups seats cap) events).claims
 
--- somebody holds: of the claims that well-formed ones settle to, if there are any, some is satisfied
+-- somebody holds: if well-formed claims settle to any claims at all, some of those is satisfied
 abbrev pub SomebodyHolds : Type 0
 SomebodyHolds = (s t : List Claimed) → AreWellFormed s → Settles s t → t ≢ [] → list_any is_satisfied t ≡ true
 
@@ -82,7 +82,7 @@ pub record IsHeld (s : LockState) : Type 0 where
   pub something : AllByRecursion (λ x. is_satisfied x ≡ true → is_nothing (holds_of s.claims x.claim.seat) ≡ false) s.claims
   pub answered : AllByRecursion (λ x. is_satisfied x ≡ true → has_ask s.claims x.claim.seat ≡ false) s.claims
 
--- somebody holds: after any list of accepted events
+-- somebody holds: this is so after any list of accepted events
 abbrev pub SomebodyHoldsAStep : Type 0
 SomebodyHoldsAStep =
     (groups : ReadGroups) (seats cap : ℕ) (events : List Event) → AreAccepted (opening groups seats cap) events
@@ -92,15 +92,15 @@ SomebodyHoldsAStep =
 abbrev pub keeps_out : Claim → Claimed → Bool
 keeps_out c v = v.claim.write_half && is_active v && conflicts v.claim c
 
--- with each read claim, one entitled or satisfied write at most conflicts
+-- at most one entitled or satisfied write conflicts with each read claim
 abbrev pub AreKeptOutByOne : List Claimed → Type 0
 AreKeptOutByOne xs = AllByRecursion (λ r. r.claim.write_half ≡ false → count_by (keeps_out r.claim) xs ≤ 1) xs
 
--- one write at most keeps a read waiting: so it is in what exclusive claims settle to, if groups admit them
+-- at most one write keeps a read waiting: this holds in what exclusive claims settle to, if groups admit them
 abbrev pub OneWriteAtMost : Type 0
 OneWriteAtMost = (groups : List Set) (s t : List Claimed) → AreExclusive s → AreAdmittedBy groups s → Settles s t → AreKeptOutByOne t
 
--- one write at most keeps a read waiting: so it is after any list of accepted events
+-- at most one write keeps a read waiting: this holds after any list of accepted events
 abbrev pub OneWriteAtMostAStep : Type 0
 OneWriteAtMostAStep =
     (groups : ReadGroups) (seats cap : ℕ) (events : List Event) → AreAccepted (opening groups seats cap) events
@@ -111,11 +111,11 @@ pub record TurnsAreTaken (read write : Claimed) : Type 0 where
   pub waits : is_satisfied read ≡ false → is_active write ≡ false
   pub unsatisfied : is_satisfied write ≡ false
 
--- so it is of any two claims of one seat: they are the halves of its upgrade
+-- this holds for any two claims of one seat: they are the halves of its upgrade
 abbrev pub HalvesTakeTurns : List Claimed → Type 0
 HalvesTakeTurns xs = EachPair (λ x y. x.claim.seat ≡ y.claim.seat → TurnsAreTaken x y) xs
 
--- the halves of an upgrade take turns: so it is in what exclusive claims settle to, if groups admit them and the halves took turns before
+-- the halves of an upgrade take turns: this holds in what exclusive claims settle to, if groups admit them and the halves took turns before
 abbrev pub TakingTurns : Type 0
 TakingTurns = (groups : List Set) (s t : List Claimed) → AreExclusive s → AreAdmittedBy groups s → EachPair Distinct s → EachPair TakeTurns s → Settles s t → HalvesTakeTurns t
 

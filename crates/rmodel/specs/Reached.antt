@@ -1,4 +1,4 @@
--- What holds of each lock state that a list of accepted events leads to.
+-- What holds in each lock state that a list of accepted events leads to.
 use Rattle.std.specs.Prelude.{◌≡◌, true, false}
 use Rattle.std.specs.List.{AllByRecursion}
 use Rattle.std.specs.FinSet.{empty}
@@ -20,7 +20,7 @@ pub record IsReached (s : LockState) : Type 0 where
   pub apart : EachPair Apart s.claims
   -- the claims settle to themselves
   pub stable : Settles s.claims s.claims
-  -- and nothing that is asked for comes to a claim
+  -- and no claim gets anything that it asks for
   pub at_rest : given s.claims ≡ s.claims
   pub admitted : AreAdmittedBy s.groups.groups s.claims
   pub turns : EachPair TakeTurns s.claims

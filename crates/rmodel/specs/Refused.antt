@@ -1,4 +1,4 @@
--- The numbers of the refusals, as users are told them.
+-- The numbers of the refusals, as they are reported to users.
 use Rattle.std.specs.Prelude.{ℕ}
 use Rattle.rmodel.specs.declared.refused.Refused.{Refused}
 use Rattle.rmodel.specs.declared.refused.Refused.TheVariants.{SeatBusy, Full, NotHolding, NotUpgradeable, NotNested, AskOutside}

@@ -1,4 +1,4 @@
--- The settling rules: which list of claims a list of claims settles to. They speak of any claims, whatever requests made them.
+-- The settling rules: which list of claims a list of claims settles to. They apply to any claims, whatever requests made them.
 use Rattle.std.specs.Prelude.{◌≡◌, Bool, true, false, not, ◌&&◌, ◌||◌, nat_lt, List}
 use Rattle.std.specs.List.{list_any, list_all, AllZip}
 use Rattle.rset.specs.Sets.{meets}

@@ -1,4 +1,4 @@
--- How a list of claims is settled, pass by pass: the reads, then the writes by rising stamp, then which reads are kept for.
+-- How a list of claims is settled, pass by pass: the reads, then the writes by rising stamp, then which reads are next.
 -- That the outcome is the one that the rules allow is a theorem.
 use Rattle.std.specs.Prelude.{Bool, true, false, not, ◌&&◌, ◌||◌, List, [], ◌∷◌, ◌++◌, map, fold, if◌then◌else◌}
 use Rattle.std.specs.List.{list_all}
@@ -23,7 +23,7 @@ written_by_active xs = fold (λ all x. if x.claim.write_half && is_active x then
 unfoldable pub written_by_satisfied : List Claimed → Set
 written_by_satisfied xs = fold (λ all x. if x.claim.write_half && is_satisfied x then union all x.claim.writes else all) empty xs
 
--- these resources, and those with which a write bars later ones: what it writes if it is satisfied, else its places
+-- these resources, and those with which a write bars later ones: what it writes if it is satisfied, otherwise its places
 abbrev pub with_bars : Set → Claimed → Set
 with_bars all x = if x.claim.write_half then union all (if is_satisfied x then x.claim.writes else x.claim.places) else all
 
@@ -36,7 +36,7 @@ unfoldable pub read_near : List Claimed → Set → Set
 read_near xs s =
     fold (λ all x. if not x.claim.write_half && not (is_satisfied x) && meets x.claim.reads s then union all x.claim.reads else all) empty xs
 
--- a read after the first pass: satisfied where no write that is to come keeps it out
+-- a read after the first pass: satisfied where no entitled or satisfied write keeps it out
 abbrev pub read_status : Set → Claimed → Status
 read_status busy x = if not x.claim.write_half && not (meets busy x.claim.reads) then Satisfied else x.status
 

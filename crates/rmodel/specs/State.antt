@@ -3,7 +3,7 @@ use Rattle.std.specs.Prelude.{ℕ, List, []}
 use Rattle.rexpand.specs.Groups.{ReadGroups}
 use Rattle.rmodel.specs.declared.claimed.Claimed.{Claimed}
 
--- the read groups over the resources, the number of seats, of requests that may be incomplete at once, of issues so far,
+-- the read groups over the resources, the number of seats, the most requests that may be incomplete at once, the number of issues so far,
 -- and the incomplete claims by rising stamp
 pub record LockState : Type 0 where
   pub groups : ReadGroups

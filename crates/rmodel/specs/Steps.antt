@@ -17,7 +17,7 @@ use Rattle.rmodel.specs.Rules.{Settles}
 use Rattle.rmodel.specs.Settling.{settled}
 use Rattle.rmodel.specs.State.{LockState}
 
--- an issue is one that a caller may ask for: its sets are of resources that there are, it is admitted, and stamps are left
+-- an issue that a caller may ask for: its sets lie within the resources, it is admitted, and stamps are left
 pub record FitsIssue (s : LockState) (seat : ℕ) (r : RequestFields) : Type 0 where
   pub seat_there : seat < s.seats
   pub reads : IsTrue (all_below s.groups.q r.reads)
@@ -25,14 +25,14 @@ pub record FitsIssue (s : LockState) (seat : ℕ) (r : RequestFields) : Type 0 w
   pub admitted : IsTrue (is_admitted s.groups.groups r)
   pub stamps : s.issued < 2 ^ 63
 
--- an event is one that a caller may ask for
+-- an event that a caller may ask for
 abbrev pub Fits : LockState → Event → Type 0
 Fits s (Issue seat r) = FitsIssue s seat r
 Fits s (Finish seat) = seat < s.seats
 Fits s (Rise seat) = seat < s.seats
 Fits s (Ask seat part) = (seat < s.seats) × IsTrue (all_below s.groups.q part)
 
--- the number of incomplete requests: each has one claim that is no read half of an upgrade
+-- the number of incomplete requests: each has one claim that is not the read half of an upgrade
 abbrev pub incomplete_of : LockState → ℕ
 incomplete_of s = count_by (λ x. not (is_read_half x.claim)) s.claims
 
@@ -40,7 +40,7 @@ incomplete_of s = count_by (λ x. not (is_read_half x.claim)) s.claims
 abbrev pub is_not_holding : List Claimed → ℕ → Bool
 is_not_holding xs seat = is_nothing (holds_of xs seat) || has_ask xs seat
 
--- what may speak against an event, in order, each with its refusal
+-- the possible causes against an event, in order, each with its refusal
 abbrev pub causes : LockState → Event → List (Bool × Refused)
 causes s (Issue seat r) = (has_request s.claims seat, SeatBusy) ∷ (incomplete_of s == s.cap, Full) ∷ []
 causes s (Finish seat) = (is_not_holding s.claims seat, NotHolding) ∷ []
@@ -48,7 +48,7 @@ causes s (Rise seat) = (is_not_holding s.claims seat, NotHolding) ∷ (not (may_
 causes s (Ask seat part) =
     (is_not_holding s.claims seat, NotHolding) ∷ (not (may_ask s.claims seat), NotNested) ∷ (not (is_part_of s.claims seat part), AskOutside) ∷ []
 
--- the refusal of the first cause that there is
+-- the refusal of the first cause that applies
 abbrev pub first_cause : List (Bool × Refused) → Option Refused
 first_cause [] = None
 first_cause (c ∷ rest) = if c.0 then Some c.1 else first_cause rest
@@ -57,7 +57,7 @@ first_cause (c ∷ rest) = if c.0 then Some c.1 else first_cause rest
 abbrev pub refusal : LockState → Event → Option Refused
 refusal s e = first_cause (causes s e)
 
--- an event is accepted where nothing speaks against it
+-- an event is accepted where no cause applies
 abbrev pub Accepts : LockState → Event → Type 0
 Accepts s e = refusal s e ≡ None
 
@@ -81,24 +81,24 @@ some_asks xs = list_any (λ x. nat_lt 0 (len x.asked)) xs
 abbrev pub is_kept_from : List Claimed → Claim → Set → Bool
 is_kept_from xs c part = list_any (λ v. is_satisfied v && conflicts_on v.claim c part) xs
 
--- what a claim asks for comes to it: it is satisfied, or it is entitled and no satisfied claim conflicts with it on that part
+-- a claim gets what it asks for: it is satisfied, or it is entitled and no satisfied claim conflicts with it on that part
 abbrev pub gets_asked : List Claimed → Claimed → Bool
 gets_asked xs x = is_satisfied x || (is_active x && not (is_kept_from xs x.claim x.asked))
 
--- a claim asks for something that comes to it
+-- a claim asks for something and gets it
 abbrev pub gets : List Claimed → Claimed → Bool
 gets xs x = (nat_lt 0 (len x.asked) && is_active x) && gets_asked xs x
 
--- a claim with what it asks for granted, if that comes to it
+-- a claim with what it asks for granted, if it gets that
 abbrev pub with_asked : List Claimed → Claimed → Claimed
 with_asked xs x = if gets_asked xs x then record x { asked = empty; granted = union x.granted x.asked } else x
 
--- the claims of a settled list with what they ask for granted, where it comes to them
+-- the claims of a settled list with what they ask for granted, where they get it
 unfoldable pub given : List Claimed → List Claimed
 given xs = map (with_asked xs) xs
 
 -- the event leads from s to t: it is accepted, the claims are settled once after the event has changed them,
--- and then what is asked for is granted where it comes to a claim
+-- and then each claim that gets what it asks for is granted it
 pub record Steps (s : LockState) (e : Event) (t : LockState) : Type 0 where
   pub accepted : Accepts s e
   pub settled_to : List Claimed
@@ -114,13 +114,13 @@ abbrev pub after : LockState → List Event → LockState
 after s [] = s
 after s (e ∷ es) = after (next s e) es
 
--- an event comes to a state: it is one that a caller may ask for, with its request in normal form, and it is accepted
+-- an event may come in a state: a caller may ask for it, its request is in normal form, and it is accepted
 pub record Comes (s : LockState) (e : Event) : Type 0 where
   pub fits : Fits s e
   pub normal : IsNormalEvent e
   pub accepted : Accepts s e
 
--- each event of the list comes to the state that those before it lead to
+-- each event of the list may come in the state that those before it lead to
 abbrev pub AreAccepted : LockState → List Event → Type 0
 AreAccepted s [] = Unit {0}
 AreAccepted s (e ∷ es) = Comes s e × AreAccepted (next s e) es

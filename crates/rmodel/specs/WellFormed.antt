@@ -1,4 +1,4 @@
--- Well-formed lists of claims: stamps rise, and each claim is one of a request.
+-- Well-formed lists of claims: stamps rise, and each claim is that of a request.
 use Rattle.std.specs.Prelude.{◌≡◌, ◌≢◌, ◌<◌, ◌≤◌, true, false, List, [], ◌∷◌, ◌⊎◌}
 use Rattle.std.specs.List.{AllByRecursion}
 use Rattle.std.specs.FinSet.{empty, union, is_subset}
@@ -15,7 +15,7 @@ abbrev pub Among : {X : Type 0} → X → List X → Type 0
 Among x [] = ⊥
 Among x (y ∷ ys) = (x ≡ y) ⊎ Among x ys
 
--- each element stands in this relation to each that comes after it
+-- the relation holds between each element and each that comes after it
 abbrev pub EachPair : {X : Type 0} → (X → X → Type 0) → List X → Type 0
 EachPair R [] = Unit {0}
 EachPair R (x ∷ xs) = AllByRecursion (R x) xs × EachPair R xs
@@ -40,7 +40,7 @@ pub record AreWellFormed (xs : List Claimed) : Type 0 where
   pub rising : EachPair Rises xs
   pub claims : AllByRecursion (λ x. IsClaim x.claim) xs
 
--- where a write is entitled or satisfied and an earlier one shares a place with it, the earlier is satisfied and writes no place of the later
+-- where a write is entitled or satisfied and an earlier write shares a place with it, the earlier one is satisfied and writes no place of the later one
 abbrev pub Entered : Claimed → Claimed → Type 0
 Entered x y =
     x.claim.write_half ≡ true → y.claim.write_half ≡ true → share_place x.claim y.claim ≡ true → is_active y ≡ true
@@ -56,12 +56,12 @@ pub record AreExclusive (xs : List Claimed) : Type 0 where
   pub entered : EachPair Entered xs
   pub apart : EachPair Apart xs
 
--- a claim is one that these groups admit: what a read claim reads is declared, and the places of a write claim are expanded by the groups
+-- these groups admit a claim: what a read claim reads is declared, and the places of a write claim are expanded by the groups
 pub record IsAdmittedBy (groups : List Set) (c : Claim) : Type 0 where
   pub declared : c.write_half ≡ false → is_declared groups c.reads ≡ true
   pub expanded : c.write_half ≡ true → c.places ≡ places_of groups c.reads c.writes
 
--- the claims of a list are such
+-- they admit each claim of a list
 abbrev pub AreAdmittedBy : List Set → List Claimed → Type 0
 AreAdmittedBy groups xs = AllByRecursion (λ x. IsAdmittedBy groups x.claim) xs
 
@@ -81,15 +81,15 @@ Distinct x y = x.claim.seat ≡ y.claim.seat → AreHalves x.claim y.claim
 abbrev pub TakeTurns : Claimed → Claimed → Type 0
 TakeTurns x y = x.claim.seat ≡ y.claim.seat → is_active y ≡ true → is_satisfied x ≡ true
 
--- what was granted to x while it is not satisfied is free of v, if that is satisfied
+-- what was granted to x while it is not satisfied is free of v, if v is satisfied
 abbrev pub IsFreeOf : Claimed → Claimed → Type 0
 IsFreeOf v x = is_satisfied v ≡ true → is_satisfied x ≡ false → conflicts_on v.claim x.claim x.granted ≡ false
 
--- of two claims, what was granted to either is free of the other
+-- what was granted to either of two claims is free of the other
 abbrev pub AreFree : Claimed → Claimed → Type 0
 AreFree x y = IsFreeOf x y × IsFreeOf y x
 
--- what a claim asks for and was granted: parts of what a nested request reads and writes, and nothing for another;
+-- what a claim asks for and was granted: parts of what a nested request reads and writes, and nothing for any other;
 -- a nested request always asks for something or was granted something, and nothing is granted to a claim that waits
 pub record HasParts (x : Claimed) : Type 0 where
   pub of_others : is_nested x.claim.kind ≡ false → (x.asked ≡ empty) × (x.granted ≡ empty)
@@ -99,7 +99,7 @@ pub record HasParts (x : Claimed) : Type 0 where
   pub granted : is_subset x.granted (union x.claim.reads x.claim.writes) ≡ true
   pub waits : is_active x ≡ false → x.granted ≡ empty
 
--- a lock state is sound: its claims are well formed, with stamps that were given out, of seats that there are, each seat with those of one request at most,
+-- a lock state is sound: its claims are well formed, with stamps that were given out and seats that exist, each seat with the claims of at most one request,
 -- and no more requests than the cap
 pub record IsSound (s : LockState) : Type 0 where
   pub well_formed : AreWellFormed s.claims

@@ -1,4 +1,4 @@
-// Which requests read groups admit.
+// Which requests the read groups admit.
 ghost use Rattle.std.specs.Prelude.{◌≡◌, ◌↔◌, IsTrue, IsOk, IsErrOf};
 ghost use Rattle.rmodel.specs.Claims.{is_admitted, IsUndeclared, needs_declared};
 
@@ -12,7 +12,7 @@ fn needs_declared(kind: Kind) -> bool
     matches!(kind, Kind::Read | Kind::Upgrade)
 }
 
-/// Admits a request under read groups, or not. A read and an upgrade are admitted where their set is declared: it has
+/// Admits or refuses a request under read groups. A read or an upgrade is admitted where its set is declared: it has
 /// one member, or it lies inside one group. Every other request is admitted.
 ///
 /// # Errors

@@ -14,9 +14,9 @@ pub struct Claimed {
     pub claim: Claim,
     /// Whether it waits, is next, or holds.
     pub status: Status,
-    /// What its request asks for and was not granted yet; empty where that is not nested.
+    /// What its request asks for and was not granted yet; empty where the request is not nested.
     pub asked: ResourceSet,
-    /// What its request was granted so far; empty where that is not nested.
+    /// What its request was granted so far; empty where the request is not nested.
     pub granted: ResourceSet,
 }
 
@@ -103,7 +103,7 @@ fn touches(claim: &Claim, resources: ResourceSet) -> bool
     claim.reads.union(claim.writes).meets(resources)
 }
 
-/// Whether the claim conflicts with an asker on a part of what that reads and writes.
+/// Whether the claim conflicts with an asker on a part of what the asker reads and writes.
 pub fn conflicts_on(claim: &Claim, asker: &Claim, part: ResourceSet) -> bool
     ensures { result ≡ conflicts_on claim.now asker.now part }
 {

@@ -14,7 +14,7 @@ pub struct Granted {
 }
 
 impl Granted {
-    /// Nothing is held.
+    /// Nothing held.
     pub fn nothing() -> Granted
         ensures { result ≡ nothing }
     {
@@ -31,7 +31,7 @@ impl Granted {
         self.reads.len() == 0 && self.writes.len() == 0
     }
 
-    /// What is held here or there.
+    /// What is held by either.
     pub fn both(&self, other: &Granted) -> Granted
         ensures { result ≡ both self.now other.now }
     {
@@ -41,7 +41,7 @@ impl Granted {
         }
     }
 
-    /// Whether each resource that is held here in a way is held there in that way.
+    /// Whether each resource held here for reading or writing is held there in the same way.
     pub fn is_within(&self, other: &Granted) -> bool
         ensures { result ≡ is_within self.now other.now }
     {

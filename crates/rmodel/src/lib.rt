@@ -1,7 +1,7 @@
-//! The settling rules, what a machine is whose step is exactly one event, and the laws.
+//! The settling rules as definitions, the trait of every machine that follows them, and the laws.
 //!
-//! The lock state is one list of claims. An event changes the list, and then it is settled once. This is what a
-//! [`Machine`] does. The module [`laws`] says what holds after every list of accepted events.
+//! The lock state is one list of claims ([`Claimed`]). An event changes the list, and then it is settled once: this is
+//! what a step of a [`Machine`] does. The module [`laws`] says what holds after every list of accepted events.
 #![tactic(auto)]
 
 mod admission;

@@ -23,14 +23,14 @@ pub trait Machine: Drop + Send {
     /// The changes of the last accepted step.
     ghost last: { Self → ChangeLists };
 
-    /// What those who watch its steps have been told, in order; None where nobody may watch.
+    /// What its watchers have seen, in order; None where nobody can watch.
     ghost watched: { Self → Option (List Seen) };
 
     /// A machine with no claims, over the resources of `groups`, for `seats` seats and at most `cap` incomplete requests.
     ///
     /// # Errors
     ///
-    /// Want of memory.
+    /// Out of memory.
     fn new(alloc: Global, groups: Groups, seats: u8, cap: u8) -> Result<Self, AllocError>
         requires seats { (1 ≤ seats) × (seats ≤ SEATS) }
         requires cap { (1 ≤ cap) × (cap ≤ SEATS) }
@@ -38,12 +38,12 @@ pub trait Machine: Drop + Send {
         ensures untold { IfOk result (λ m. last m ≡ no_changes) }
         ensures unwatched { IfOk result (λ m. watched m ≡ None) };
 
-    /// One event: it changes the claims, and then they are settled once. Each status that is told is entitled or satisfied. Those who
-    /// watch are told the step.
+    /// One event: it changes the claims, and then they are settled once. Each status that is reported is entitled or satisfied.
+    /// Watchers are given the step.
     ///
     /// # Errors
     ///
-    /// The first cause against the event, in the order of [`Refused`]. Nothing changes then, the last changes included.
+    /// The first cause against the event, in the order of [`Refused`]. Then nothing changes, not even the last changes.
     fn step(&mut self, event: Event) -> Result<(), Refused>
         requires { Fits (state self.old) event }
         ensures accepted { IsOk result ↔ Accepts (state self.old) event }
@@ -66,7 +66,7 @@ pub trait Machine: Drop + Send {
     fn granted(&self, seat: u8) -> Granted
         ensures { result ≡ holds_of (state self.now).claims seat };
 
-    /// Whether the seat has a request that holds nothing, or of which an ask is pending.
+    /// Whether the seat has a request that holds nothing, or that has a pending ask.
     fn pending(&self, seat: u8) -> bool
         ensures { result ≡ (has_request (state self.now).claims seat && is_not_holding (state self.now).claims seat) };
 

@@ -10,7 +10,7 @@ pub enum Refused {
     /// The seat has an incomplete request.
     #[error("the seat has an incomplete request")]
     SeatBusy = 1,
-    /// As many requests are incomplete as may be.
+    /// The greatest number of requests is incomplete.
     #[error("as many requests are incomplete as may be")]
     Full = 2,
     /// The seat holds nothing, or an ask of it is pending.
@@ -28,7 +28,7 @@ pub enum Refused {
 }
 
 impl Refused {
-    /// Its number, 1 to 6, as users are told it.
+    /// The number of the refusal, 1 to 6, as it is reported to users.
     pub fn number(self) -> u8
         ensures { result ≡ refused_number self }
     {

@@ -1,4 +1,4 @@
--- That the few looks of a step of `Plain` come to what the definitions say.
+-- The few looks of a step of `Plain` agree with the definitions.
 pub mod Marked
 pub mod OnlyMarks
 pub mod PlainSteps

@@ -1,4 +1,4 @@
--- How the plain machine keeps its lock state, and what it keeps true.
+-- How the plain machine keeps its lock state, and its invariant.
 use Rattle.std.specs.Prelude.{◌≡◌, ◌≤◌, ◌+◌, ◌==◌, ◌&&◌, not, ℕ, Bool, true, false, List, slice_index_or, vec_capacity}
 use Rattle.std.specs.List.{count_by, list_any, AllByRecursion}
 use Rattle.rset.specs.declared.TheConstants.{SEATS}
@@ -29,7 +29,7 @@ standing_of a = record { state = state_of a; last = a.changes }
 abbrev pub AreMarked : List Bool → List Claimed → Type 0
 AreMarked marks xs = AllByRecursion (λ x. slice_index_or marks x.claim.seat false ≡ true) xs
 
--- a claim of this seat, and no read half of an upgrade: each request has one
+-- a claim of this seat that is not the read half of an upgrade: each request has one
 abbrev pub is_whole_of : ℕ → Claimed → Bool
 is_whole_of seat x = (x.claim.seat == seat) && not (is_read_half x.claim)
 
@@ -37,23 +37,23 @@ is_whole_of seat x = (x.claim.seat == seat) && not (is_read_half x.claim)
 abbrev pub AreOnlyMarks : List Bool → List Claimed → Type 0
 AreOnlyMarks marks xs = (seat : ℕ) → slice_index_or marks seat false ≡ true → list_any (is_whole_of seat) xs ≡ true
 
--- its state is one that accepted events lead to, as far as its claims go, with the room for the claims of all seats that was made at first
+-- its claims have what the claims of each reached state have, and its room is the room that was made at first
 pub record IsKept (a : Inside) : Type 0 where
   pub reached : IsReached (state_of a)
   -- what is seen of the claims is kept beside them
   pub seen : a.seen ≡ seen_of a.claims.items
   pub some_cap : 1 ≤ a.cap
-  -- the seat of each claim is marked and no other, and this many claims are read halves of upgrades
+  -- exactly the seats of the claims are marked, and `halves` counts the read halves of upgrades
   pub marks : AreMarked a.marks a.claims.items
   pub only : AreOnlyMarks a.marks a.claims.items
   pub halves : a.halves ≡ count_by (λ x. is_read_half x.claim) a.claims.items
-  -- what they read was read so far, and where nothing was asked for so far, they ask for nothing
+  -- `read` has what they read, and where nothing was asked for so far, they ask for nothing
   pub within : AreReadWithin a.read a.claims.items
   pub unasked : a.asked ≡ false → some_asks a.claims.items ≡ false
   pub cap : a.cap ≤ SEATS
   pub some_seats : 1 ≤ a.seats
   pub seats : a.seats ≤ SEATS
-  -- all room is what was made at first
+  -- all room is as it was made at first
   pub claims_room : vec_capacity a.claims ≡ STATUS_ROOM + 2
   pub before_room : vec_capacity a.before ≡ STATUS_ROOM + 2
 

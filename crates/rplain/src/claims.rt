@@ -44,8 +44,8 @@ fn claim_of(
     }
 }
 
-/// Adds the claims of a request behind settled ones, settled, with what they ask for granted if that comes to them, and
-/// tells what changes of them. `seen` is what is seen of the claims, and what they and the request read lies within `read`.
+/// Adds the claims of a request after settled ones, settles them, grants what they ask for if they get it, and reports
+/// their changes. `seen` is what is seen of the claims, and what they and the request read lies within `read`.
 pub fn push_claims(
     claims: &mut Vec<Claimed>,
     seen: &mut Seen,

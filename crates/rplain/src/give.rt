@@ -1,4 +1,4 @@
-// What is asked for is granted, where it comes to a claim.
+// Grants what claims ask for, where they get it.
 ghost use Rattle.std.specs.FinSet.{len};
 ghost use Rattle.std.specs.Prelude.{◌≡◌, ◌<◌, ◌≤◌, ◌&&◌, ◌∷◌, ◌++◌, [], List, false, nat_lt, length, slice_index_or, slice_set};
 ghost use Rattle.std.specs.List.{list_any};
@@ -13,7 +13,7 @@ use rclaim::{Changes, Claim};
 use rmodel::{Claimed, conflicts_on};
 use rset::ResourceSet;
 
-/// Whether some claim asks for something. Where nothing was ever asked for, nothing is looked at.
+/// Whether some claim asks for something. Where nothing was ever asked for, no claim is looked at.
 pub(crate) fn some_asks(claims: &[Claimed], asked: bool) -> bool
     requires { asked ≡ false → some_asks claims.now ≡ false }
     ensures { result ≡ some_asks claims.now }
@@ -28,14 +28,14 @@ fn is_kept_from(claims: &[Claimed], claim: &Claim, part: ResourceSet) -> bool
     claims.iter().any(|v| v.is_satisfied() && conflicts_on(&v.claim, claim, part))
 }
 
-/// Whether what the claim asks for comes to it.
+/// Whether the claim gets what it asks for.
 fn gets_asked(claims: &[Claimed], x: &Claimed) -> bool
     ensures { result ≡ gets_asked claims.now x.now }
 {
     x.is_satisfied() || x.is_active() && !is_kept_from(claims, &x.claim, x.asked)
 }
 
-/// The claim with what it asks for granted, if that comes to it.
+/// The claim with what it asks for granted, if it gets that.
 fn with_asked(claims: &[Claimed], x: &Claimed) -> Claimed
     ensures { result ≡ with_asked claims.now x.now }
 {
@@ -50,8 +50,8 @@ fn with_asked(claims: &[Claimed], x: &Claimed) -> Claimed
     }
 }
 
-/// Grants what the last claim asks for, if it comes to it by those before it. Few ask for anything, and for the others
-/// nothing is looked at.
+/// Grants what the last claim asks for, if it gets that, given the claims before it. Few claims ask for anything, and for
+/// the others no claim is looked at.
 pub(crate) fn give_last(claims: &mut [Claimed])
     ensures { (xs : List Claimed) (x : Claimed) → claims.old ≡ xs ++ x ∷ [] → claims.new ≡ xs ++ with_asked xs x ∷ [] }
 {
@@ -62,28 +62,28 @@ pub(crate) fn give_last(claims: &mut [Claimed])
     }
 }
 
-/// Whether the claim asks for something, and does not wait. It makes no branch: many that wait ask for something.
+/// Whether the claim asks for something, and does not wait. There is no branch, as many waiting claims ask for something.
 fn may_get(x: &Claimed) -> bool
     ensures { result ≡ (nat_lt 0 (len x.now.asked) && is_active x.now) }
 {
     (x.asked.len() > 0) & x.is_active()
 }
 
-/// Whether the claim asks for something that comes to it.
+/// Whether the claim asks for something and gets it.
 fn gets(claims: &[Claimed], x: &Claimed) -> bool
     ensures { result ≡ gets claims.now x.now }
 {
     may_get(x) && gets_asked(claims, x)
 }
 
-/// Whether what some claim asks for comes to it.
+/// Whether some claim gets what it asks for.
 pub(crate) fn some_gets(claims: &[Claimed]) -> bool
     ensures { result ≡ list_any (gets claims.now) claims.now }
 {
     claims.iter().any(|x| gets(claims, x))
 }
 
-/// Grants what the claim at a place asks for, if it comes to it, and tells what changes of it.
+/// Grants what the claim at a place asks for, if it gets that, and reports its changes.
 fn give_at(claims: &mut [Claimed], i: usize, changes: &mut Changes)
     requires place { i < length claims.old }
     requires statuses_room { length changes.old.statuses < STATUS_ROOM }
@@ -99,7 +99,7 @@ fn give_at(claims: &mut [Claimed], i: usize, changes: &mut Changes)
     }
 }
 
-/// Grants what is asked for, where it comes to a claim, and makes the changes those from the claims before.
+/// Grants what claims ask for, where they get it, and makes `changes` the changes from the claims before.
 pub(crate) fn give(claims: &mut [Claimed], changes: &mut Changes)
     requires { length claims.old ≤ GRANT_ROOM }
     ensures claims { claims.new ≡ given claims.old }

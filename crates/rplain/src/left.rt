@@ -1,4 +1,4 @@
-// What claims leave behind that go.
+// What removed claims leave for the others.
 ghost use Rattle.std.specs.Prelude.{◌≡◌, ℕ, true, Some, None, IfSome, not, filter, position, slice_index_or, vec_capacity};
 ghost use Rattle.rplain.specs.Sweep.{IsLone, none_gone, with_left, left_by, is_of, is_read_of};
 ghost use Rattle.rmodel.specs.Claims.{is_read_half};
@@ -9,14 +9,14 @@ use crate::removals::{remove_read_half, remove_seat};
 use rmodel::{Claimed, is_read_half};
 use rset::ResourceSet;
 
-/// What claims that are gone leave behind.
+/// What removed claims leave for the others.
 #[derive(Clone, Copy)]
 pub struct Left {
-    /// What those of them wrote that were entitled or satisfied writes.
+    /// What the entitled and satisfied writes among them wrote.
     pub written: ResourceSet,
     /// What they read or wrote.
     pub freed: ResourceSet,
-    /// What those that stay read lies within this.
+    /// A set that has everything that the remaining claims read.
     pub read: ResourceSet,
 }
 
@@ -31,7 +31,7 @@ fn none_gone(read: ResourceSet) -> Left
     }
 }
 
-/// What is gone, and a claim more.
+/// What is gone, with one more claim.
 fn with_left(all: Left, x: &Claimed) -> Left
     ensures { result ≡ with_left all x.now }
 {
@@ -48,7 +48,7 @@ fn with_left(all: Left, x: &Claimed) -> Left
     }
 }
 
-/// What the claims of a seat leave where they go.
+/// What the claims of a seat leave when they are removed.
 #[tactic(auto, unfolding(crate::specs::Sweep::left_by))]
 fn left_by_seat(claims: &[Claimed], seat: u8, read: ResourceSet) -> Left
     ensures { result ≡ left_by (is_of seat) read claims.now }
@@ -62,7 +62,7 @@ fn left_by_seat(claims: &[Claimed], seat: u8, read: ResourceSet) -> Left
     })
 }
 
-/// What the read claim of a seat leaves where it goes.
+/// What the read claim of a seat leaves when it is removed.
 #[tactic(auto, unfolding(crate::specs::Sweep::left_by))]
 fn left_by_read_half(claims: &[Claimed], seat: u8, read: ResourceSet) -> Left
     ensures { result ≡ left_by (is_read_of seat) read claims.now }
@@ -76,7 +76,7 @@ fn left_by_read_half(claims: &[Claimed], seat: u8, read: ResourceSet) -> Left
     })
 }
 
-/// The place of the first claim of a seat, if that is no read half: the seat has no other then.
+/// The place of the first claim of a seat, if that is not a read half: then the seat has no other claim.
 fn lone_place(claims: &[Claimed], seat: u8, place: Option<usize>) -> Option<usize>
     requires { place ≡ position (is_of seat) claims.now }
     ensures lone { IfSome result (IsLone (is_of seat) claims.now) }
@@ -89,8 +89,8 @@ fn lone_place(claims: &[Claimed], seat: u8, place: Option<usize>) -> Option<usiz
     Some(i)
 }
 
-/// Takes the claims of a seat out, and answers what they leave. Only an upgrade that has not risen has two. `place` is
-/// that of the first, and what the claims read lies within `read`.
+/// Removes the claims of a seat, and answers what they leave. Only an upgrade that has not risen has two. `place` is
+/// the place of the first, and what the claims read lies within `read`.
 pub fn take_seat(
     claims: &mut Vec<Claimed>,
     seat: u8,
@@ -112,7 +112,7 @@ pub fn take_seat(
     left
 }
 
-/// Takes the read half of a seat's upgrade out, and answers what it leaves. What the claims read lies within `read`.
+/// Removes the read half of a seat's upgrade, and answers what it leaves. What the claims read lies within `read`.
 pub fn take_read_half(claims: &mut Vec<Claimed>, seat: u8, read: ResourceSet) -> Left
     ensures items { claims.new.items ≡ filter (λ x. not (is_read_of seat x)) claims.old.items }
     ensures left { result ≡ left_by (is_read_of seat) read claims.old.items }

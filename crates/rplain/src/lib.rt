@@ -1,10 +1,8 @@
-//! A machine over a plain list of claims, whose step is exactly one event of the protocol.
+//! [`Plain`]: a machine over a plain list of claims, whose step is exactly one event of the protocol.
 //!
-//! [`Plain`] keeps the lock state as it is defined, as one list, and settles it in time that is at most quadratic in the number
-//! of claims: in few looks, each of which is proved to come to what the rules say.
-//!
-//! How a list of claims is settled: what stays as it is, what comes to be entitled or satisfied, and what is granted of what was
-//! asked for, in few looks, each of which is proved to come to what the rules say.
+//! The lock state is kept as it is defined, as one list. After an event it is settled in time that is at most quadratic in
+//! the number of claims. Few claims are looked at: the other modules find what stays as it is, what becomes entitled or
+//! satisfied, and which asks are granted, and are proved to agree with the rules.
 #![tactic(auto)]
 
 mod claims;

@@ -1,4 +1,4 @@
-// What a list of claims tells, and changes of one.
+// What can be read off a list of claims, and changes of a list.
 ghost use Rattle.std.specs.Prelude.{◌≡◌, ◌==◌, ◌≤◌, ◌&&◌, not, length, position, map, vec_capacity, vec_len, filter};
 ghost use Rattle.std.specs.List.{count_by};
 ghost use Rattle.rmodel.specs.Claims.{is_read_half};
@@ -36,7 +36,7 @@ pub(crate) fn status_in(claims: &[Claimed], seat: u8, write_half: bool) -> Optio
         .map(|x| x.status)
 }
 
-/// The number of incomplete requests: each has one claim that is no read half. `halves` is the number of read halves.
+/// The number of incomplete requests: each has one claim that is not a read half. `halves` is the number of read halves.
 pub(crate) fn incomplete(claims: &[Claimed], halves: usize) -> usize
     requires { halves ≡ count_by (λ x. is_read_half x.claim) claims.now }
     ensures { result ≡ count_by (λ x. not (is_read_half x.claim)) claims.now }
@@ -58,7 +58,7 @@ pub(crate) fn place_of(claims: &[Claimed], seat: u8) -> Option<usize>
     claims.iter().position(|x| x.claim.seat == seat)
 }
 
-/// Whether the seat holds nothing, or an ask of it is pending. Its first claim, at `place`, tells it: a second one holds
+/// Whether the seat holds nothing, or an ask of it is pending. Its first claim, at `place`, decides: a second one holds
 /// nothing and asks for nothing.
 pub(crate) fn is_not_holding(claims: &[Claimed], seat: u8, place: Option<usize>) -> bool
     requires alone { EachPair Alone claims.now }
@@ -71,7 +71,7 @@ pub(crate) fn is_not_holding(claims: &[Claimed], seat: u8, place: Option<usize>)
     }
 }
 
-/// Whether the seat's request is an upgrade that has not risen. Its first claim, at `place`, tells it.
+/// Whether the seat's request is an upgrade that has not risen. Its first claim, at `place`, decides.
 pub(crate) fn may_rise(claims: &[Claimed], seat: u8, place: Option<usize>) -> bool
     requires distinct { EachPair Distinct claims.now }
     requires place { place ≡ position (is_of seat) claims.now }
@@ -92,7 +92,7 @@ pub(crate) fn may_ask(claims: &[Claimed], seat: u8) -> bool
         .any(|x| x.claim.seat == seat && is_nested(x.claim.kind))
 }
 
-/// Whether the set is a part, not empty, of what the seat's request reads and writes.
+/// Whether the set is not empty and a part of what the seat's request reads and writes.
 pub(crate) fn is_part_of(claims: &[Claimed], seat: u8, part: ResourceSet) -> bool
     ensures { result ≡ is_part_of claims.now seat part }
 {
@@ -101,7 +101,7 @@ pub(crate) fn is_part_of(claims: &[Claimed], seat: u8, part: ResourceSet) -> boo
     })
 }
 
-/// Lets the claims of the seat ask for a part.
+/// Makes the claims of the seat ask for a part.
 fn ask_each(claims: &mut [Claimed], seat: u8, part: ResourceSet)
     ensures { claims.new ≡ map (asking seat part) claims.old }
 {
@@ -112,7 +112,7 @@ fn ask_each(claims: &mut [Claimed], seat: u8, part: ResourceSet)
     }
 }
 
-/// Lets the request of the seat ask for a part.
+/// Makes the request of the seat ask for a part.
 pub(crate) fn ask(claims: &mut Vec<Claimed>, seat: u8, part: ResourceSet)
     ensures items { claims.new.items ≡ map (asking seat part) claims.old.items }
     ensures capacity { vec_capacity claims.new ≡ vec_capacity claims.old }

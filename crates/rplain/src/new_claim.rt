@@ -1,4 +1,4 @@
-// Settles new claims. They stand behind settled ones, which stay as they are: one look at those tells nearly all.
+// Settles new claims. They come after settled claims, which stay as they are, so one look at those gives nearly everything.
 ghost use Rattle.std.specs.Prelude.{◌≡◌, ◌<◌, ◌∷◌, ◌++◌, [], false, length, vec_capacity};
 ghost use Rattle.std.specs.FinSet.{empty};
 ghost use Rattle.rclaim.specs.declared.TheConstants.{STATUS_ROOM, GRANT_ROOM};
@@ -28,8 +28,8 @@ fn new_read_status(seen: &Seen, x: &Claimed) -> Status
     }
 }
 
-/// Whether some satisfied claim reads one of these resources. What the claims read lies within `read`: where that has none
-/// of them, nothing is looked at.
+/// Whether some satisfied claim reads one of these resources. What the claims read lies within `read`: where `read` has none
+/// of them, no claim is looked at.
 fn is_read(claims: &[Claimed], read: ResourceSet, resources: ResourceSet) -> bool
     requires { AreReadWithin read claims.now }
     ensures { result ≡ is_read claims.now resources }
@@ -51,7 +51,7 @@ fn new_is_held_up(claims: &[Claimed], seen: &Seen, read: ResourceSet, x: &Claime
 }
 
 /// Whether each earlier write that shares a place with a new claim writes nothing of what the reads near it read. What the
-/// claims read lies within `read`: where nobody reads a place of it, nothing is looked at.
+/// claims read lies within `read`: where nobody reads a place of the new claim, no claim is looked at.
 fn new_is_past(claims: &[Claimed], read: ResourceSet, claim: &Claim) -> bool
     requires { AreReadWithin read claims.now }
     ensures { result ≡ is_past claims.now claim.now (read_near claims.now claim.now.places) }
@@ -85,7 +85,7 @@ fn new_status(claims: &[Claimed], seen: &Seen, read: ResourceSet, x: &Claimed) -
     }
 }
 
-/// Adds a claim with this status. It is built where it stands, as a list of claims is large.
+/// Adds a claim with this status. The status is set in place, because claims are large.
 fn push_at(claims: &mut Vec<Claimed>, x: &Claimed, status: Status)
     requires { length claims.old.items < vec_capacity claims.old }
     ensures items { claims.new.items ≡ claims.old.items ++ with_status x.now status ∷ [] }
@@ -96,7 +96,7 @@ fn push_at(claims: &mut Vec<Claimed>, x: &Claimed, status: Status)
     claims[place].status = status;
 }
 
-/// Adds a new claim behind settled ones, of which this is seen, settled, with what it asks for granted if that comes to it.
+/// Adds a new claim after settled ones, of which `seen` is seen, settles it, and grants what it asks for if it gets that.
 #[tactic(auto, unfolding(crate::specs::NewClaim::new_claim))]
 fn push_settled(claims: &mut Vec<Claimed>, seen: &Seen, read: ResourceSet, x: &Claimed)
     requires seen { seen.now ≡ seen_of claims.old.items }
@@ -110,8 +110,8 @@ fn push_settled(claims: &mut Vec<Claimed>, seen: &Seen, read: ResourceSet, x: &C
     give_last(claims);
 }
 
-/// Adds a new claim behind settled ones, settled, with what it asks for granted if that comes to it, and tells what
-/// changes of it. `seen` is what is seen of the claims, and what they read lies within `read`.
+/// Adds a new claim after settled ones, settles it, grants what it asks for if it gets that, and reports its changes.
+/// `seen` is what is seen of the claims, and what they read lies within `read`.
 pub(crate) fn push_new(
     claims: &mut Vec<Claimed>,
     seen: &mut Seen,

@@ -20,13 +20,13 @@ use rset::{ResourceSet, SEATS};
 use std::alloc::{AllocError, Global};
 use std::marker::Model;
 
-// Room for the claims of all seats, two for each, and for those of a request more.
+// Room for the claims of all seats, two for each, and for those of one more request.
 const CLAIMS: usize = STATUS_ROOM + 2;
 
 // A mark for each seat.
 const MARKS: usize = SEATS as usize;
 
-/// A machine over a plain list of claims. All its room is made when it is made.
+/// A machine over a plain list of claims. All its room is made by `new`.
 #[derive(Drop)]
 pub struct Plain {
     claims: Vec<Claimed>,
@@ -144,7 +144,7 @@ impl Plain {
         &self.claims
     }
 
-    // The place of the first claim of a seat. Only where there is a mark it is looked for.
+    // The place of the first claim of a seat. It is looked for only where the seat is marked.
     fn place(&self, seat: u8) -> Option<usize>
         requires { seat < self.now.state.seats }
         ensures { result ≡ position (is_of seat) self.now.state.claims }
@@ -155,7 +155,7 @@ impl Plain {
         place_of(&self.claims, seat)
     }
 
-    // The same of a seat that may have too great a number.
+    // The same for a seat whose number may be too great.
     fn place_of_any(&self, seat: u8) -> Option<usize>
         ensures { result ≡ position (is_of seat) self.now.state.claims }
     {
@@ -166,7 +166,7 @@ impl Plain {
         }
     }
 
-    // Why the event is refused, if it is. `place` is that of the first claim of its seat.
+    // Why the event is refused, if it is. `place` is the place of the first claim of its seat.
     fn refusal(&self, event: &Event, place: Option<usize>) -> Option<Refused>
         requires { place ≡ position (is_of (seat_of event.now)) self.now.state.claims }
         ensures { result ≡ refusal self.now.state event.now }
@@ -200,8 +200,8 @@ impl Plain {
         }
     }
 
-    // Takes an accepted event: it changes the claims, and they are settled once, with what is asked for granted.
-    // `place` is that of the first claim of its seat.
+    // Takes an accepted event: it changes the claims, they are settled once, and what they ask for is granted where they get it.
+    // `place` is the place of the first claim of its seat.
     fn take(&mut self, event: &Event, place: Option<usize>)
         requires place { place ≡ position (is_of (seat_of event.now)) self.old.state.claims }
         requires fits { Fits self.old.state event.now }
@@ -240,7 +240,7 @@ impl Plain {
         self.issued += 1;
     }
 
-    // Takes a finish. `place` is that of the first claim of the seat.
+    // Takes a finish. `place` is the place of the first claim of the seat.
     fn finish(&mut self, seat: u8, place: Option<usize>)
         requires place { place ≡ position (is_of seat) self.old.state.claims }
         requires fits { Fits self.old.state (Finish seat) }
@@ -278,7 +278,7 @@ impl Plain {
         );
     }
 
-    // Takes an ask. No status changes, so that only what is asked for is looked at.
+    // Takes an ask. No status changes, so only what is asked for is looked at.
     fn ask(&mut self, seat: u8, set: ResourceSet)
         requires fits { Fits self.old.state (Ask seat set) }
         requires accepted { Accepts self.old.state (Ask seat set) }

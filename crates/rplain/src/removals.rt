@@ -1,4 +1,4 @@
-// Changes of a list of claims.
+// Removes claims from a list, and copies lists.
 ghost use Rattle.std.specs.Prelude.{◌≡◌, ◌==◌, ◌≤◌, ◌&&◌, not, length, vec_capacity, vec_len, filter};
 
 use rmodel::Claimed;
@@ -19,8 +19,8 @@ pub(crate) fn remove_seat(claims: &mut Vec<Claimed>, seat: u8)
     claims.retain(|x| x.claim.seat != seat);
 }
 
-/// Makes `to` a copy of the claims, in the room that it has. The room stays. It is made as long as they are, and then
-/// copied at one go: from copy to copy the length hardly differs.
+/// Makes `to` a copy of the claims, in the room that it has. The room stays. `to` is first made equally long and then
+/// copied as a whole, because the length hardly differs from copy to copy.
 pub(crate) fn copy_into(to: &mut Vec<Claimed>, claims: &[Claimed])
     requires { length claims.now ≤ vec_capacity to.old }
     ensures items { to.new.items ≡ claims.now }

@@ -1,4 +1,4 @@
-// What one look at settled claims tells of those to come.
+// What one look at settled claims says about later ones.
 ghost use Rattle.std.specs.FinSet.{empty, union};
 ghost use Rattle.std.specs.Prelude.{if◌then◌else◌, ◌≡◌, true, false};
 ghost use Rattle.rplain.specs.NewClaim.{no_seen, with_seen};
@@ -14,7 +14,7 @@ pub struct Seen {
     pub active: ResourceSet,
     /// What the satisfied writes write.
     pub kept: ResourceSet,
-    /// The resources with which writes bar later ones.
+    /// The resources by which writes bar later ones.
     pub bars: ResourceSet,
 }
 
@@ -29,7 +29,7 @@ pub fn no_seen() -> Seen
     }
 }
 
-/// The set where this holds, and nothing where it does not. In a function of its own it is compiled to no branch.
+/// The set where this holds, and nothing where it does not. In a function of its own it compiles to no branch.
 #[inline]
 fn only_where(holds: bool, set: ResourceSet) -> ResourceSet
     ensures { result ≡ if holds then set else empty }
@@ -37,7 +37,7 @@ fn only_where(holds: bool, set: ResourceSet) -> ResourceSet
     if holds { set } else { ResourceSet::empty() }
 }
 
-/// These resources, and the set where this holds.
+/// These resources, with the set where this holds.
 #[inline]
 fn and_where(all: ResourceSet, holds: bool, set: ResourceSet) -> ResourceSet
     ensures { result ≡ if holds then union all set else all }
@@ -45,7 +45,7 @@ fn and_where(all: ResourceSet, holds: bool, set: ResourceSet) -> ResourceSet
     all.union(only_where(holds, set))
 }
 
-/// These resources, and those with which a write bars later ones.
+/// These resources, with those by which a write bars later ones.
 #[inline]
 fn with_bars(all: ResourceSet, x: &Claimed) -> ResourceSet
     ensures { result ≡ with_bars all x.now }
@@ -57,8 +57,8 @@ fn with_bars(all: ResourceSet, x: &Claimed) -> ResourceSet
     if write { all.union(bars) } else { all }
 }
 
-/// What was seen of claims, and a claim more. It makes no branch, as nothing foretells which claims are reads, and how far
-/// they are. A read claim writes nothing, so that what it writes may be added.
+/// What was seen of claims, with one more claim. There is no branch, as nothing predicts which claims are reads and how
+/// far they are. A read claim writes nothing, so what it writes may be added.
 #[inline]
 pub(crate) fn with_seen(all: Seen, x: &Claimed) -> Seen
     requires { x.now.claim.write_half ≡ false → x.now.claim.writes ≡ empty }
@@ -74,7 +74,7 @@ pub(crate) fn with_seen(all: Seen, x: &Claimed) -> Seen
     }
 }
 
-/// What was seen of claims, and a write more. It makes no branch.
+/// What was seen of claims, with one more write. There is no branch.
 #[inline]
 pub(crate) fn with_write(all: Seen, x: &Claimed) -> Seen
     requires { x.now.claim.write_half ≡ true }

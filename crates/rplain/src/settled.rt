@@ -16,8 +16,8 @@ use crate::tell::tell_changes;
 use rclaim::Changes;
 use rmodel::Claimed;
 
-/// Settles the claims once, grants what is asked for, and makes the changes those from the claims before. `before` is room,
-/// and `asked` whether anything was ever asked for. `seen` becomes what is seen of the claims then.
+/// Settles the claims once, grants what is asked for, and makes `changes` the changes from the claims before. `before` is
+/// room, and `asked` says whether anything was ever asked for. `seen` becomes what is then seen of the claims.
 fn settle_once(
     claims: &mut [Claimed],
     left: &Left,
@@ -49,8 +49,8 @@ fn settle_once(
     }
 }
 
-/// Settles the claims of a list once, grants what is asked for, and makes the changes those from the list before.
-/// `before` is room, and `asked` whether anything was ever asked for. `seen` becomes what is seen of the claims then.
+/// Settles the claims of a list once, grants what is asked for, and makes `changes` the changes from the list before.
+/// `before` is room, and `asked` says whether anything was ever asked for. `seen` becomes what is then seen of the claims.
 pub fn settle(
     claims: &mut Vec<Claimed>,
     left: &Left,
@@ -74,7 +74,7 @@ pub fn settle(
     settle_once(claims, left, asked, before, changes, seen);
 }
 
-/// The same of a list that may have no claim: there is nothing to do then.
+/// The same for a list that may have no claims: then there is nothing to do.
 pub fn settle_any(
     claims: &mut Vec<Claimed>,
     left: &Left,
@@ -103,7 +103,7 @@ pub fn settle_any(
     settle(claims, left, asked, before, changes, seen);
 }
 
-/// Grants what is asked for in the claims of a list, and makes the changes those from the list before.
+/// Grants what the claims of a list ask for, and makes `changes` the changes from the list before.
 pub fn give_once(claims: &mut Vec<Claimed>, changes: &mut Changes)
     requires { length claims.old.items ≤ GRANT_ROOM }
     ensures items { claims.new.items ≡ given claims.old.items }

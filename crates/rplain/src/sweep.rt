@@ -1,4 +1,4 @@
-// Settles the claims that a removal leaves, in one pass by rising stamp. Nearly all are seen at once to stay as they are.
+// Settles the claims that a removal leaves, in one pass by rising stamp. Nearly all are quickly seen to stay as they are.
 ghost use Rattle.std.specs.FinSet.{empty};
 ghost use Rattle.std.specs.Prelude.{◌≡◌, ◌<◌, ◌≤◌, true, false, length, slice_index_or, slice_set};
 ghost use Rattle.std.specs.List.{list_any};
@@ -18,29 +18,29 @@ use rclaim::{Changes, Claim, Status};
 use rmodel::Claimed;
 use rset::ResourceSet;
 
-/// Whether a claim is satisfied once what is gone is gone.
+/// Whether a claim is satisfied after the removal.
 fn stands(left: &Left, x: &Claimed) -> bool
     ensures { result ≡ stands left.now x.now }
 {
     x.is_satisfied() | (!x.claim.write_half & left.written.meets(x.claim.reads))
 }
 
-/// Whether a claim is a read near these resources that goes on waiting. Few claims read what another touches, which is
-/// looked at first.
+/// Whether a claim is a read near these resources that keeps waiting. Few claims read what another touches, so that is
+/// tested first.
 fn is_near(left: &Left, resources: ResourceSet, x: &Claimed) -> bool
     ensures { result ≡ is_near left.now resources x.now }
 {
     x.claim.reads.meets(resources) && !x.claim.write_half && !stands(left, x)
 }
 
-/// Whether a read near these resources goes on waiting.
+/// Whether some read near these resources keeps waiting.
 fn some_near(left: &Left, claims: &[Claimed], resources: ResourceSet) -> bool
     ensures { result ≡ list_any (is_near left.now resources) claims.now }
 {
     claims.iter().any(|x| is_near(left, resources, x))
 }
 
-/// These resources, and what a claim reads if it is a read near others that goes on waiting.
+/// The resources of `all`, with what the claim reads if it is a read near `resources` that keeps waiting.
 fn with_near(left: &Left, resources: ResourceSet, all: ResourceSet, x: &Claimed) -> ResourceSet
     ensures { result ≡ with_near left.now resources all x.now }
 {
@@ -51,7 +51,7 @@ fn with_near(left: &Left, resources: ResourceSet, all: ResourceSet, x: &Claimed)
     }
 }
 
-/// What is read near these resources by reads that go on waiting.
+/// What is read near these resources by reads that keep waiting.
 #[tactic(auto, unfolding(crate::specs::Sweep::still_near))]
 fn still_near(left: &Left, claims: &[Claimed], resources: ResourceSet) -> ResourceSet
     ensures { result ≡ still_near left.now claims.now resources }
@@ -62,7 +62,7 @@ fn still_near(left: &Left, claims: &[Claimed], resources: ResourceSet) -> Resour
 }
 
 /// Whether a claim is a satisfied read, or a satisfied write of smaller stamp, and reads what another writes. Few claims
-/// read that, which is looked at first.
+/// read that, so it is tested first.
 fn reads_of(left: &Left, v: &Claimed, claim: &Claim) -> bool
     ensures { result ≡ reads_of left.now claim.now v.now }
 {
@@ -78,7 +78,7 @@ fn is_read_still(left: &Left, claims: &[Claimed], claim: &Claim) -> bool
 }
 
 /// Whether a satisfied read, or a satisfied write of smaller stamp, conflicts with the claim. Where nobody reads what it
-/// writes, nothing is looked at.
+/// writes, no claim is looked at.
 fn is_held_still(left: &Left, seen: &Seen, claims: &[Claimed], claim: &Claim) -> bool
     ensures { result ≡ is_held_still left.now seen.now claims.now claim.now }
 {
@@ -87,8 +87,9 @@ fn is_held_still(left: &Left, seen: &Seen, claims: &[Claimed], claim: &Claim) ->
         || left.read.meets(claim.writes) && is_read_still(left, claims, claim)
 }
 
-/// Whether each earlier write that shares a place with the claim writes nothing of what the reads near it read that go on
-/// waiting. Where nobody reads a place of it, nothing is looked at, and where no read near it waits, no write is.
+/// Whether each earlier write that shares a place with the claim writes nothing that is read by the reads near the claim
+/// that keep waiting. Where nobody reads a place of the claim, no claim is looked at, and where no such read waits, no
+/// write is.
 fn is_past_still(left: &Left, claims: &[Claimed], claim: &Claim) -> bool
     ensures { result ≡ is_past_still left.now claims.now claim.now }
 {
@@ -97,8 +98,8 @@ fn is_past_still(left: &Left, claims: &[Claimed], claim: &Claim) -> bool
         || is_past(claims, claim, still_near(left, claims, claim.places))
 }
 
-/// Whether it is seen at once that a claim stays as it is. It makes no branch, as nothing foretells what a claim is; so it
-/// does not ask whether the claim is satisfied, though all that are stay as they are.
+/// Whether it is quickly seen that a claim stays as it is. There is no branch, as nothing predicts what a claim is. So it is
+/// not tested whether the claim is satisfied, though all satisfied claims stay as they are.
 #[inline]
 fn remains(left: &Left, seen: &Seen, x: &Claimed) -> bool
     ensures { result ≡ remains left.now seen.now x.now }
@@ -112,7 +113,7 @@ fn remains(left: &Left, seen: &Seen, x: &Claimed) -> bool
     (write & (untouched | barred)) | (!write & waits)
 }
 
-/// The same of a write.
+/// The same for a write.
 #[inline]
 fn write_remains(left: &Left, seen: &Seen, x: &Claimed) -> bool
     ensures { result ≡ write_remains left.now seen.now x.now }
@@ -122,7 +123,7 @@ fn write_remains(left: &Left, seen: &Seen, x: &Claimed) -> bool
     (active & !left.freed.meets(places)) | (!active & seen.bars.meets(places))
 }
 
-/// The status of an unsatisfied read that does not.
+/// The status of an unsatisfied read that is not quickly seen to stay.
 fn read_swept(left: &Left, seen: &Seen, x: &Claimed) -> Status
     ensures { result ≡ read_swept left.now seen.now x.now }
 {
@@ -135,7 +136,7 @@ fn read_swept(left: &Left, seen: &Seen, x: &Claimed) -> Status
     }
 }
 
-/// The status of an unsatisfied write that does not.
+/// The status of an unsatisfied write that is not quickly seen to stay.
 fn write_swept(left: &Left, seen: &Seen, claims: &[Claimed], x: &Claimed) -> Status
     ensures { result ≡ write_swept left.now seen.now claims.now x.now }
 {
@@ -148,7 +149,7 @@ fn write_swept(left: &Left, seen: &Seen, claims: &[Claimed], x: &Claimed) -> Sta
     }
 }
 
-/// The status of a claim that does not.
+/// The status of a claim that is not quickly seen to stay.
 fn swept_status(left: &Left, seen: &Seen, claims: &[Claimed], x: &Claimed) -> Status
     ensures { result ≡ swept_status left.now seen.now claims.now x.now }
 {
@@ -161,7 +162,7 @@ fn swept_status(left: &Left, seen: &Seen, claims: &[Claimed], x: &Claimed) -> St
     }
 }
 
-/// The claim at a place, which is not seen to stay, after the pass.
+/// The claim at a place, which is not quickly seen to stay, after the pass.
 #[tactic(auto, unfolding(crate::specs::Sweep::swept))]
 fn swept_at(claims: &[Claimed], i: usize, left: &Left, seen: &Seen) -> Claimed
     requires place { i < length claims.now }
@@ -175,7 +176,7 @@ fn swept_at(claims: &[Claimed], i: usize, left: &Left, seen: &Seen) -> Claimed
     }
 }
 
-/// Settles the claim at a place, which is not seen to stay, and tells what changes of it.
+/// Settles the claim at a place, which is not quickly seen to stay, and reports its changes.
 #[inline(never)]
 fn sweep_claim(claims: &mut [Claimed], i: usize, left: &Left, seen: Seen, changes: &mut Changes)
     requires place { i < length claims.old }
@@ -190,8 +191,8 @@ fn sweep_claim(claims: &mut [Claimed], i: usize, left: &Left, seen: Seen, change
     claims[i].status = now.status;
 }
 
-/// Settles the claim at a place, tells what changes of it, and answers what is seen of the claims as far as this one. Most
-/// stay, so what is seen of those is added apart: it is at hand there.
+/// Settles the claim at a place, reports its changes, and answers what is seen of the claims up to this one. Most claims
+/// stay, so what is seen of those is added on a path of its own.
 #[inline]
 fn sweep_at(
     claims: &mut [Claimed],
@@ -216,7 +217,7 @@ fn sweep_at(
     with_seen(seen, &claims[i])
 }
 
-/// The same of a claim that is a write.
+/// The same for a claim that is a write.
 #[inline]
 fn sweep_write_at(
     claims: &mut [Claimed],
@@ -241,7 +242,7 @@ fn sweep_write_at(
     with_write(seen, &claims[i])
 }
 
-/// Settles the claims where all are writes, as nobody has read anything.
+/// Settles the claims where all are writes, because nobody has read anything.
 #[inline(never)]
 fn sweep_writes(claims: &mut [Claimed], left: &Left, changes: &mut Changes) -> Seen
     requires left { IsLeft claims.old left.now }
@@ -277,7 +278,7 @@ fn sweep_all(claims: &mut [Claimed], left: &Left, changes: &mut Changes) -> Seen
     seen
 }
 
-/// Settles the claims that a removal leaves, tells what changes, and makes `seen` what is seen of them then.
+/// Settles the claims that a removal leaves, reports their changes, and makes `seen` what is then seen of them.
 pub(crate) fn sweep(claims: &mut [Claimed], left: &Left, changes: &mut Changes, seen: &mut Seen)
     requires left { IsLeft claims.old left.now }
     requires room { length claims.old ≤ GRANT_ROOM }

@@ -23,7 +23,7 @@ fn status_change(was: &Claimed, now: &Claimed) -> Option<StatusChange>
     })
 }
 
-/// All that is held through a claim, if it is more than before.
+/// Everything that is held through a claim, if it is more than before.
 fn grant_change(was: &Claimed, now: &Claimed) -> Option<GrantChange>
     ensures { result ≡ grant_change was.now now.now }
 {
@@ -38,7 +38,7 @@ fn grant_change(was: &Claimed, now: &Claimed) -> Option<GrantChange>
     })
 }
 
-/// Tells the change of status from a claim to the same claim later, if there is one.
+/// Adds the change of status from a claim to the same claim later, if there is one.
 fn tell_status(was: &Claimed, now: &Claimed, changes: &mut Changes)
     requires { length changes.old.statuses < STATUS_ROOM }
     ensures { changes.new ≡ record changes.old { statuses = changes.old.statuses ++ option_to_list (status_change was.now now.now) } }
@@ -48,7 +48,7 @@ fn tell_status(was: &Claimed, now: &Claimed, changes: &mut Changes)
     }
 }
 
-/// Tells all that is held through a claim, if it is more than before.
+/// Adds everything that is held through a claim, if it is more than before.
 fn tell_grant(was: &Claimed, now: &Claimed, changes: &mut Changes)
     requires { length changes.old.grants < GRANT_ROOM }
     ensures { changes.new ≡ record changes.old { grants = changes.old.grants ++ option_to_list (grant_change was.now now.now) } }
@@ -58,7 +58,7 @@ fn tell_grant(was: &Claimed, now: &Claimed, changes: &mut Changes)
     }
 }
 
-/// Tells the changes from a claim to the same claim later.
+/// Adds the changes from a claim to the same claim later.
 pub(crate) fn tell_claim(was: &Claimed, now: &Claimed, changes: &mut Changes)
     requires statuses_room { length changes.old.statuses < STATUS_ROOM }
     requires grants_room { length changes.old.grants < GRANT_ROOM }
@@ -68,14 +68,14 @@ pub(crate) fn tell_claim(was: &Claimed, now: &Claimed, changes: &mut Changes)
     tell_grant(was, now, changes);
 }
 
-/// Whether a claim is as far as the same claim before, and as much is granted to it.
+/// Whether a claim has the same status as before, and as much granted to it.
 fn is_as_it_was(was: &Claimed, now: &Claimed) -> bool
     ensures { IsTrue result ↔ ((now.now.status ≡ was.now.status) × (now.now.granted ≡ was.now.granted)) }
 {
     (was.status == now.status) & (was.granted == now.granted)
 }
 
-/// Tells the changes from a claim to the same claim later. Most are as they were, which is seen at once.
+/// Adds the changes from a claim to the same claim later. Most claims are as they were, which is tested first.
 #[inline]
 fn tell_changed(was: &Claimed, now: &Claimed, changes: &mut Changes)
     requires same { now.now.claim ≡ was.now.claim }
@@ -88,7 +88,7 @@ fn tell_changed(was: &Claimed, now: &Claimed, changes: &mut Changes)
     }
 }
 
-/// Makes the changes those from a list of claims to the same claims later.
+/// Makes `changes` the changes from a list of claims to the same claims later.
 pub(crate) fn tell_changes(before: &[Claimed], claims: &[Claimed], changes: &mut Changes)
     requires same { AllZip SameClaim before.now claims.now }
     requires length { length before.now ≡ length claims.now }

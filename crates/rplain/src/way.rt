@@ -1,4 +1,4 @@
-// What the rules ask of a list for one write.
+// What the rules require of a list for one write to enter.
 ghost use Rattle.std.specs.Prelude.{◌≡◌};
 ghost use Rattle.rplain.specs.NewClaim.{is_past};
 ghost use Rattle.rmodel.specs.Rules.{is_earlier_write};
@@ -41,7 +41,7 @@ pub(crate) fn read_near(claims: &[Claimed], resources: ResourceSet) -> ResourceS
 }
 
 /// Whether each earlier write that shares a place with the claim writes nothing of what the reads near it read. Where
-/// there are none, nothing is looked at.
+/// there are no such reads, no claim is looked at.
 pub(crate) fn is_past(claims: &[Claimed], claim: &Claim, near: ResourceSet) -> bool
     ensures { result ≡ is_past claims.now claim.now near }
 {

@@ -17,12 +17,12 @@ edits_on-append (x ∷ xs) ys l =
     ap (λ edits. edits_of x l ++ edits) (edits_on-append xs ys l) ∙ sym (append_assoc (edits_of x l) (edits_on xs l) (edits_on ys l))
 
 module _ {V E : Type 0} (after : V → E → V) where
-  -- acts in two parts: the second part goes on from what the first left
+  -- acts in two parts: the second part continues from what the first left
   pub value_within-append : (v : V) (xs ys : List (Act E)) (l : ℕ) → value_within after v (xs ++ ys) l ≡ value_within after (value_within after v xs l) ys l
   value_within-append v xs ys l =
       ap (fold after v) (edits_in-append xs ys l) ∙ fold-append after v (edits_in xs l) (edits_in ys l)
 
-  -- entries in two parts: the second part goes on from what the first left
+  -- entries in two parts: the second part continues from what the first left
   pub value_of-append : (v : V) (xs ys : List (EntryFields E)) (l : ℕ) → value_of after v (xs ++ ys) l ≡ value_of after (value_of after v xs l) ys l
   value_of-append v xs ys l =
       ap (fold after v) (edits_on-append xs ys l) ∙ fold-append after v (edits_on xs l) (edits_on ys l)

@@ -7,12 +7,12 @@ use Rattle.rvalue.specs.declared.act.Act.{Act}
 use Rattle.rvalue.specs.declared.act.Act.TheVariants.{Edited, Shown}
 
 module _ {E : Type 0} where
-  -- the resource that the act is about
+  -- the resource of the act
   abbrev pub place_of : Act E → ℕ
   place_of (Edited place edit done) = place
   place_of (Shown place number) = place
 
-  -- the edit on the resource that the act is, if it is one, whether it was taken or not
+  -- the edit on the resource, if the act is one, whether it was taken or not
   abbrev pub edit_on : Act E → ℕ → List E
   edit_on (Edited place edit done) l = if place == l then edit ∷ [] else []
   edit_on (Shown place number) l = []
@@ -48,7 +48,7 @@ module _ {V E : Type 0} (after : V → E → V) (taken : V → E → Bool) (numb
   abbrev pub AnswersAreRight : List (Act E) → Type 0
   AnswersAreRight acts = AllInTurn IsAnsweredAfter [] acts
 
--- how proofs tell acts apart
+-- how proofs distinguish acts
 module _ {E : Type 0} where
   abbrev act_parts : Act E → (ℕ × (E × Bool)) ⊎ (ℕ × ℕ)
   act_parts (Edited place edit done) = inl (place, (edit, done))
@@ -62,7 +62,7 @@ module _ {E : Type 0} where
   act_from-act_parts (Edited place edit done) = refl
   act_from-act_parts (Shown place number) = refl
 
-  -- an act is stored as its parts
+  -- an act is coded as its parts
   abbrev pub act_code : Coded E → Coded (Act E)
   act_code code =
       code_by ((ℕ × (E × Bool)) ⊎ (ℕ × ℕ)) (coded⊎ (coded× coded_ℕ (coded× code coded_bool)) (coded× coded_ℕ coded_ℕ))

@@ -5,12 +5,12 @@ use Rattle.rvalue.specs.InTurn.{AllInTurn}
 use Rattle.rvalue.specs.Acts.{AnswersAreRight}
 use Rattle.rvalue.specs.Entries.{EntryFields, entry_code, edits_of}
 
--- what a history has: the entries in order, and how many more there is room for. What was done is said of the entries alone
+-- what a history has: the entries in order, and how many more there is room for. Claims on what was done are about the entries alone
 pub record HistoryContents (E : Type 0) : Type 0 where
   pub entries : List (EntryFields E)
   pub spare : ℕ
 
--- a history is stored as the pair of its fields
+-- a history is coded as the pair of its fields
 abbrev pub history_code : {E : Type 0} → Coded E → Coded (HistoryContents E)
 history_code {E} code =
     code_by (List (EntryFields E) × ℕ) (coded× (coded_list (entry_code code)) coded_ℕ)

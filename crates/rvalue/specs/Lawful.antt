@@ -1,4 +1,4 @@
--- Lawful histories: what a history of a lock may be, by what comes at the lock, what follows from it and what a seat holds.
+-- Lawful histories: what a history of a lock may be, by which events are accepted, what state follows and what a seat holds.
 use Rattle.std.specs.Prelude.{◌≡◌, ℕ, Bool, true, false, ◌||◌, IsTrue, List, [], fold, map}
 use Rattle.std.specs.List.{AllByRecursion}
 use Rattle.std.specs.FinSet.{contains}
@@ -13,7 +13,7 @@ use Rattle.rvalue.specs.Entries.{EntryFields}
 use Rattle.rvalue.specs.Histories.{EntryAnswersRightly}
 
 module _ {E : Type 0} where
-  -- the act may be told with the event: any with the end of a section, with a rise a show alone, and none with another event
+  -- the act may be recorded with the event: any act with the end of a section, only a show with a rise, and no act with another event
   abbrev pub stands_with : Event → Act E → Bool
   stands_with (Finish seat) act = true
   stands_with (Rise seat) (Edited place edit done) = false
@@ -21,13 +21,13 @@ module _ {E : Type 0} where
   stands_with (Issue seat request) act = false
   stands_with (Ask seat part) act = false
 
-  -- a seat that holds these sets may do the act: it holds the act's resource, for an edit for writing
+  -- a seat that holds these sets may do the act: it holds the act's resource, for writing where the act is an edit
   abbrev pub is_held : Set → Set → Act E → Bool
   is_held reads writes (Edited place edit done) = contains writes place
   is_held reads writes (Shown place number) = contains reads place || contains writes place
 
--- These may be the values of the resources as the history begins: each resource of which it is told has the value that is told.
--- A state tells it by its list of values, which speaks of no resource beyond; a report of ledgers tells one value of all. No resource has two values told
+-- These may be the values of the resources as the history begins: each resource whose value is known has that value.
+-- A state has a list of values, and says nothing of resources beyond it; a report of ledgers has one value for all. No resource has two known values
 abbrev pub AreOpenings : {V : Type 0} → (ℕ → V → Type 0) → (ℕ → V) → Type 0
 AreOpenings {V} OpensAt openings = (l : ℕ) (value : V) → OpensAt l value → openings l ≡ value
 
@@ -35,10 +35,10 @@ AreOpenings {V} OpensAt openings = (l : ℕ) (value : V) → OpensAt l value →
 abbrev pub state_after : {L E : Type 0} → (L → Event → L) → L → List (EntryFields E) → L
 state_after {L} {E} next first entries = fold next first (map (λ (entry : EntryFields E). entry.event) entries)
 
--- In a state of the lock `Comes` says which events are accepted, and `next` what state each leads to; `reads` and `writes` are what a seat holds then for reading and for writing.
--- `first` is the state as the history begins, and `OpensAt` what is told of the values
+-- In a state of the lock `Comes` says which events are accepted, and `next` what state each leads to; `reads` and `writes` are what a seat then holds for reading and for writing.
+-- `first` is the state as the history begins, and `OpensAt` what is known of the values
 module _ {L V E : Type 0} (Comes : L → Event → Type 0) (next : L → Event → L) (reads writes : L → ℕ → Set) (after : V → E → V) (taken : V → E → Bool) (number : V → ℕ) (first : L) (OpensAt : ℕ → V → Type 0) where
-  -- The entry may come after the earlier ones: its event is accepted, its acts may be told with it, its seat holds what they are about before it, and their answers are right
+  -- The entry may come after the earlier ones: its event is accepted, its acts may be recorded with it, its seat holds their resources before it, and their answers are right
   pub record IsRightEntry (earlier : List (EntryFields E)) (entry : EntryFields E) : Type 0 where
     pub comes : Comes (state_after next first earlier) entry.event
     pub stand : AllByRecursion (λ act. IsTrue (stands_with entry.event act)) entry.acts

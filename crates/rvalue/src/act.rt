@@ -14,8 +14,8 @@ pub enum Act<E> {
 }
 
 impl<E> Act<E> {
-    /// Does the act once more, on a value of its resource: edits it where the act is an edit.
-    /// Answers whether the act has the answer that this value gives. No memory is taken.
+    /// Does the act again, on a value of its resource: edits the value where the act is an edit.
+    /// Answers whether the act has the answer that this value gives. Takes no memory.
     pub fn redo<T: Editable<Edit = E>>(&self, value: &mut T) -> bool
         ensures right { IsTrue result ↔ IsAnsweredAt T.taken T.number value.old self.now }
         ensures value { value.new ≡ value_after_act T.after value.old self.now }

@@ -3,7 +3,7 @@ ghost use Rattle.std.specs.Prelude.{◌≡◌, ℕ, Bool, false, IfOk};
 
 use std::alloc::{AllocError, Global};
 
-/// A value that sections edit, show and copy. Values and edits may be let go.
+/// A value that sections edit, show and copy. Values and edits may be dropped.
 pub trait Editable: Drop {
     /// A change of the value.
     type Edit: Drop;
@@ -14,10 +14,10 @@ pub trait Editable: Drop {
     /// Whether the value takes the edit.
     ghost taken: { Self → Self.Edit → Bool };
 
-    /// The number that a show of the value tells.
+    /// The number that a show of the value gives.
     ghost number: { Self → ℕ };
 
-    /// Edits the value, and answers whether the edit was taken. An edit that is not taken leaves the value. No memory is taken.
+    /// Edits the value, and answers whether the edit was taken. An edit that is not taken changes nothing. Takes no memory.
     fn apply(&mut self, edit: &Self::Edit) -> bool
         ensures after { self.new ≡ after self.old edit.now }
         ensures taken { result ≡ taken self.old edit.now };
@@ -26,14 +26,14 @@ pub trait Editable: Drop {
     ///
     /// # Errors
     ///
-    /// Want of memory.
+    /// Out of memory.
     fn copy(&self, alloc: Global) -> Result<Self, AllocError>
         ensures { IfOk result (λ copy. copy ≡ self.now) };
 
-    /// The number that a show of the value tells. No memory is taken.
+    /// The number that a show of the value gives. Takes no memory.
     fn shown(&self) -> u64
         ensures { result ≡ number self.now };
 
-    /// An edit that is not taken leaves the value.
+    /// An edit that is not taken changes nothing.
     ghost untaken: { (value : Self) (edit : Self.Edit) → taken value edit ≡ false → after value edit ≡ value };
 }

@@ -7,7 +7,7 @@ use crate::{Act, Edit, Editable};
 use rclaim::Event;
 use std::marker::Model;
 
-/// An event, and the acts of its section that are told with it, in the order in which the section made them.
+/// An event, and the acts of its section that are recorded with it, in the order in which the section made them.
 #[derive(Drop)]
 pub struct Entry<E> {
     /// What the seat did at the lock.
@@ -26,12 +26,12 @@ impl<E> Model for Entry<E> {
     ghost view = { λ a. record { event = a.event; acts = a.acts.items } };
 }
 
-// The longest event list has fewer than nine million entries, which are to fit in 1.4 GB.
+// The longest event list has fewer than nine million entries, which have to fit in 1.44 GB.
 const _: () = prove!(size_of::<Entry<Edit>>() <= 160);
 
 impl<E> Entry<E> {
-    /// Makes on the value of the resource `place` the edits that the entry made on it, in order.
-    /// Only the end of a section edits. No memory is taken.
+    /// Makes the edits of the entry on the resource `place` again, in order, on a value of it.
+    /// Only the end of a section edits. Takes no memory.
     pub fn apply_to<T: Editable<Edit = E>>(&self, place: u8, value: &mut T)
         ensures { value.new ≡ value_after_entry T.after value.old self.now place }
     {

@@ -6,7 +6,7 @@ use crate::{Editable, Entry};
 use std::alloc::{AllocError, Global};
 use std::marker::Model;
 
-/// The entries that the lock keeps, in order. Room for more is made beforehand, so that an entry is kept without fail.
+/// The entries that the lock keeps, in order. Room for more is made beforehand, so that keeping an entry cannot fail.
 #[derive(Drop)]
 pub struct History<E> {
     entries: Vec<Entry<E>>,
@@ -26,7 +26,7 @@ impl<E> Model for History<E> {
 }
 
 impl<E> History<E> {
-    /// A history with no entry and no room. No memory is taken.
+    /// A history with no entry and no room. Takes no memory.
     pub fn new(alloc: Global) -> History<E>
         ensures { result ≡ no_entries }
     {
@@ -39,7 +39,7 @@ impl<E> History<E> {
     ///
     /// # Errors
     ///
-    /// Want of memory, and then nothing changes.
+    /// Out of memory. Then nothing changes.
     pub fn reserve(&mut self, n: usize) -> Result<(), AllocError>
         ensures entries { self.new.entries ≡ self.old.entries }
         ensures ok { OnOk result (n ≤ self.new.spare) }
@@ -57,7 +57,7 @@ impl<E> History<E> {
         self.entries.capacity() - self.entries.len()
     }
 
-    /// Adds an entry at the end, in room that was made. No memory is taken.
+    /// Adds an entry at the end, in room that was made. Takes no memory.
     pub fn push_reserved(&mut self, entry: Entry<E>)
         requires { 1 ≤ self.old.spare }
         ensures entries { self.new.entries ≡ self.old.entries ++ entry ∷ [] }
@@ -74,7 +74,7 @@ impl<E> History<E> {
         self.entries.len()
     }
 
-    /// Lends the entries in order. Room is no part of what is lent.
+    /// Lends the entries in order.
     pub fn entries(&self) -> &[Entry<E>]
         ensures { result.now ≡ self.now.entries }
     {
@@ -90,7 +90,7 @@ impl<E> History<E> {
     }
 
     /// The value of the resource `place` after the history, from its opening value: all edits on it are made again, in order.
-    /// No memory is taken.
+    /// Takes no memory.
     pub fn value_of<T: Editable<Edit = E>>(&self, opening: T, place: u8) -> T
         ensures { result ≡ value_of T.after opening self.now.entries place }
     {

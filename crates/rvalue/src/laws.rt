@@ -1,4 +1,4 @@
-//! Laws of histories, each the contract of a function that does nothing: how values and answers go on.
+//! Laws of histories: how values and answers go on. Each function is a theorem: it does nothing, and its contract is the law.
 ghost use Rattle.std.specs.Prelude.{◌≡◌, ◌↔◌, ℕ, List, [], ◌∷◌, ◌++◌};
 ghost use Rattle.rvalue.specs.declared.act.Act.{Act};
 ghost use Rattle.rvalue.specs.Acts.{AnswersAreRight, IsAnsweredAfter};
@@ -8,20 +8,20 @@ ghost use Rattle.rvalue.specs.Lawful.{IsLawful, IsRightEntry, AreOpenings};
 
 use crate::{Editable, Rules};
 
-/// After one more entry a resource has the value from before, with the entry's own edits on it.
+/// After one more entry a resource has the value from before, with the edits of the entry made on it.
 pub fn values_go_on<T: Editable>()
     ensures { (opening : T) (entries : List (EntryFields T.Edit)) (entry : EntryFields T.Edit) (l : ℕ) →
         value_of T.after opening (entries ++ entry ∷ []) l ≡ value_after_entry T.after (value_of T.after opening entries l) entry l }
 {}
 
-/// The answers in an entry with one more act are right exactly where those before are, and that of the act is after them.
+/// The answers in an entry with one more act are right exactly where those before are, and the act's answer is right after them.
 pub fn acts_go_on<T: Editable>()
     ensures { (values : ℕ → T) (acts : List (Act T.Edit)) (act : Act T.Edit) →
         AnswersAreRight T.after T.taken T.number values (acts ++ act ∷ [])
         ↔ (AnswersAreRight T.after T.taken T.number values acts × IsAnsweredAfter T.after T.taken T.number values acts act) }
 {}
 
-/// The answers in a history with one more entry are right exactly where those before are, and those of the entry are after it.
+/// The answers in a history with one more entry are right exactly where those before are, and the entry's answers are right after them.
 pub fn entries_go_on<T: Editable>()
     ensures { (openings : ℕ → T) (entries : List (EntryFields T.Edit)) (entry : EntryFields T.Edit) →
         HistoryAnswersRightly T.after T.taken T.number openings (entries ++ entry ∷ [])

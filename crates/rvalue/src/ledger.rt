@@ -8,7 +8,7 @@ use std::alloc::{AllocError, Global};
 /// A balance, and how many edits made it.
 #[derive(Clone, Copy, Debug, Default, PartialEq, Eq)]
 pub struct Ledger {
-    /// What is in it; an edit that adds or sets leaves at most [`BALANCE_LIMIT`].
+    /// The balance; an edit that adds or sets leaves at most [`BALANCE_LIMIT`].
     pub balance: u64,
     /// How many edits it has taken; at most [`EDITS_LIMIT`].
     pub edits: u64,
@@ -19,21 +19,21 @@ pub struct Ledger {
 pub enum Edit {
     /// Puts this amount in. It is taken where the sum is at most [`BALANCE_LIMIT`].
     Add(u64),
-    /// Takes this amount out. It is taken where the balance has it.
+    /// Takes this amount out. It is taken where the balance has that much.
     Take(u64),
     /// Makes the balance this number. It is taken where the number is at most [`BALANCE_LIMIT`].
     Set(u64),
 }
 
 impl Ledger {
-    /// The ledger as it opens: nothing is in it, and no edit was taken.
+    /// A new ledger: the balance is 0, and no edit was taken.
     pub fn new() -> Ledger
         ensures { result ≡ opening_ledger }
     {
         Ledger::default()
     }
 
-    // The balance that the edit makes of this one; none where it leaves the limits.
+    // The balance after the edit; None where it would leave the limits.
     fn balance_after(balance: u64, edit: Edit) -> Option<u64>
         ensures { result ≡ (if is_within balance edit then Some (balance_after balance edit) else None) }
     {

@@ -1,8 +1,8 @@
 //! Ledgers, acts and the history: what sections edit, and what the lock keeps of it.
 //!
 //! A value that sections edit is [`Editable`]; a [`Ledger`] is one, with the edits of [`Edit`].
-//! An [`Act`] is one edit or show of a section with its answer, an [`Entry`] an event with its acts,
-//! and the [`History`] the list of all entries, with room made beforehand.
+//! An [`Act`] is one edit or show of a section with its answer, an [`Entry`] is an event with its acts,
+//! and the [`History`] is the list of all entries, with room made beforehand.
 #![tactic(auto)]
 
 mod act;
@@ -26,7 +26,7 @@ pub const BALANCE_LIMIT: u64 = 1_000_000_000_000_000_000;
 /// How many edits a ledger counts; after that it takes none.
 pub const EDITS_LIMIT: u64 = u64::MAX;
 
-// The limits themselves: the definitions of ledgers name them, and another number would fit those as well.
+// The values of the limits. The definitions of ledgers only name them, so any other value would fit those too.
 const _: () = prove!(BALANCE_LIMIT == 1_000_000_000 * 1_000_000_000);
 
 const _: () = prove!(EDITS_LIMIT == 18_446_744_073_709_551_615);

@@ -3,9 +3,9 @@ ghost use Rattle.std.specs.Prelude.{ℕ};
 ghost use Rattle.rclaim.specs.Sets.{Set};
 ghost use Rattle.rclaim.specs.declared.event.Event.{Event};
 
-/// What a history is judged by: the lock whose events it has, and what is told of the opening values. It is for contracts alone.
+/// What a history is judged by: the lock whose events it has, and what is known of the opening values. For contracts alone.
 pub trait Rules<V> {
-    /// What the lock is in between two events.
+    /// The state of the lock between two events.
     ghost lock: { Type 0 };
 
     /// The event is accepted in the state.
@@ -23,6 +23,6 @@ pub trait Rules<V> {
     /// The state as the history begins.
     ghost first: { lock };
 
-    /// What is told of the value of a resource as the history begins.
+    /// What is known of the value of a resource as the history begins.
     ghost opens_at: { ℕ → V → Type 0 };
 }

@@ -1,12 +1,12 @@
--- Telling the items of a list one after another.
+-- Giving a step to the items of a list, one after another.
 use Rattle.std.proofs.Common.{◌≡◌, ℕ, ◌+◌, ◌<◌, List, ◌++◌, map, length, ◌≤◌, take, drop, get_or, set, sym, ap, subst, ◌∙◌}
 use Rattle.std.proofs.lemmas.List.{map-set, get_or-map, length-map, length-set, take_all, append-nil, drop_all}
 use Rattle.std.proofs.lemmas.List.Edits.{map_over_more}
 use Rattle.rwatch.specs.Seen.{Seen}
 
--- `v` is what is seen of an item, and `f` what telling makes of that
+-- `v` is what is seen of an item, and `f` what the step makes of that
 module _ {X : Type 0} (v : X → Seen) (f : Seen → Seen) where
-  -- the first i items of the list have been told
+  -- the first i items of the list have been given the step
   abbrev pub AreTold : List X → ℕ → List X → Type 0
   AreTold first i list = (map v list ≡ map f (take i (map v first)) ++ drop i (map v first)) × (length list ≡ length first)
 
@@ -18,7 +18,7 @@ module _ {X : Type 0} (v : X → Seen) (f : Seen → Seen) where
         length-set list i y ∙ told.1,
       )
 
-  -- all of them have been told
+  -- all of them have been given the step
   pub told_end : (first list : List X) (i : ℕ) → length first ≤ i → AreTold first i list → map v list ≡ map f (map v first)
   told_end first list i all told =
       let long : length (map v first) ≤ i = subst (λ n. n ≤ i) (sym (length-map first v)) all in

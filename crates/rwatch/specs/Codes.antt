@@ -1,4 +1,4 @@
--- How what is seen of watchers is stored.
+-- How what is seen of watchers is coded.
 use Rattle.std.specs.Prelude.{◌≡◌, ℕ, ◌==◌, Option, List, refl, if◌then◌else◌}
 use Rattle.std.specs.Coded.{Coded, code_by, coded_ℕ, coded×, coded_list, coded_option}
 use Rattle.rclaim.specs.EventCodes.{event_code}
@@ -7,7 +7,7 @@ use Rattle.rwatch.specs.Seen.{Seen}
 use Rattle.rwatch.specs.declared.kinds.WatchKind.{WatchKind}
 use Rattle.rwatch.specs.declared.kinds.WatchKind.TheVariants.{Issues, Finishes, Rises, Asks, Entitled, Satisfied, Grants}
 
--- a kind is told by a number
+-- a kind is coded as a number
 abbrev pub kind_number : WatchKind → ℕ
 kind_number Issues = 0
 kind_number Finishes = 1
@@ -30,7 +30,7 @@ kind_from-kind_number Entitled = refl
 kind_from-kind_number Satisfied = refl
 kind_from-kind_number Grants = refl
 
--- a watcher is stored as the tuple of what is seen of it
+-- a watcher is coded as the tuple of what is seen of it
 abbrev pub seen_code : Coded Seen
 seen_code =
     code_by (WatchKind × (ℕ × (ℕ × Option (List Event)))) (coded× (code_by ℕ coded_ℕ kind_number kind_from kind_from-kind_number) (coded× coded_ℕ (coded× coded_ℕ (coded_option (coded_list event_code)))))

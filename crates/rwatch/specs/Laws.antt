@@ -1,4 +1,4 @@
--- What becomes of a watcher by some steps, in its own words.
+-- What a watcher becomes after some steps, without recursion over them.
 use Rattle.std.specs.Prelude.{◌≡◌, ℕ, ◌+◌, ◌≤◌, List, [], ◌∷◌, ◌++◌, length, map, min, Some}
 use Rattle.rclaim.specs.Changes.{ChangeLists}
 use Rattle.rclaim.specs.declared.event.Event.{Event}
@@ -6,12 +6,12 @@ use Rattle.rwatch.specs.Weights.{weight, greatest}
 use Rattle.rwatch.specs.Seen.{Seen, told_all}
 use Rattle.rwatch.specs.declared.kinds.WatchKind.{WatchKind}
 
--- what steps weigh together
+-- the weights of steps together
 abbrev pub weights : WatchKind → List (Event × ChangeLists) → ℕ
 weights kind [] = 0
 weights kind (step ∷ steps) = weight kind step.0 step.1 + weights kind steps
 
--- a watcher that has been told these steps: its kind is as it was, its count has grown by what they weigh, and where it kept all events so far and has room for these, it has kept these too, in order
+-- a watcher after these steps: its kind is as it was, its count has grown by their weights, and where it kept all events so far and has room for these, it has kept these too, in order
 pub record HasHeard (steps : List (Event × ChangeLists)) (before after : Seen) : Type 0 where
   pub kind : after.kind ≡ before.kind
   pub count : before.count ≤ greatest → after.count ≡ min (before.count + weights before.kind steps) greatest

@@ -1,4 +1,4 @@
--- What a step weighs for a watcher.
+-- The weight of a step for a watcher.
 use Rattle.std.specs.Prelude.{ℕ, ◌+◌, ◌-◌, ◌^◌, Bool, true, false, length, min}
 use Rattle.std.specs.List.{count_by}
 use Rattle.rclaim.specs.Changes.{ChangeLists}
@@ -10,7 +10,7 @@ use Rattle.rclaim.specs.declared.event.Event.TheVariants.{Issue, Finish, Rise, A
 use Rattle.rwatch.specs.declared.kinds.WatchKind.{WatchKind}
 use Rattle.rwatch.specs.declared.kinds.WatchKind.TheVariants as kinds
 
--- 1 for an event of the kind that is asked for, else 0
+-- 1 for an event of this kind, otherwise 0
 abbrev pub issues : Event → ℕ
 issues (Issue seat request) = 1
 issues _ = 0
@@ -27,7 +27,7 @@ abbrev pub asks : Event → ℕ
 asks (Ask seat part) = 1
 asks _ = 0
 
--- whether a watcher counts events, and else changes
+-- whether a watcher counts events; otherwise it counts changes
 abbrev pub is_of_events : WatchKind → Bool
 is_of_events kinds.Issues = true
 is_of_events kinds.Finishes = true
@@ -37,14 +37,14 @@ is_of_events kinds.Entitled = false
 is_of_events kinds.Satisfied = false
 is_of_events kinds.Grants = false
 
--- what counts an event
+-- the kind that counts an event
 abbrev pub kind_of : Event → WatchKind
 kind_of (Issue seat request) = kinds.Issues
 kind_of (Finish seat) = kinds.Finishes
 kind_of (Rise seat) = kinds.Rises
 kind_of (Ask seat part) = kinds.Asks
 
--- whether a status is satisfied, or entitled where that is asked for
+-- whether a status is satisfied (`true`), or entitled (`false`)
 abbrev pub is_status_of : Bool → Status → Bool
 is_status_of true status.Satisfied = true
 is_status_of true status.Entitled = false
@@ -56,7 +56,7 @@ is_status_of false status.Waiting = false
 abbrev pub is_status : Bool → StatusChange → Bool
 is_status satisfied change = is_status_of satisfied change.status
 
--- what a step weighs: 1 or 0 by its event, or the number of changes of the kind
+-- the weight of a step: 1 or 0 by its event, or the number of changes of the kind
 abbrev pub weight : WatchKind → Event → ChangeLists → ℕ
 weight kinds.Issues event changes = issues event
 weight kinds.Finishes event changes = finishes event

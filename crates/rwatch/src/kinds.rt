@@ -27,7 +27,7 @@ pub enum WatchKind {
 }
 
 impl WatchKind {
-    /// How much a step weighs for this kind.
+    /// The weight of a step for this kind.
     pub fn weight(self, event: &Event, changes: &Changes) -> u64
         ensures { result ≡ weight self event.now changes.now }
     {
@@ -38,7 +38,7 @@ impl WatchKind {
         }
     }
 
-    // How much an event weighs for a kind that counts events.
+    // The weight of an event for a kind that counts events.
     fn weight_of_event(self, event: &Event) -> u64
         requires { is_of_events self ≡ true }
         ensures { (changes : ChangeLists) → result ≡ weight self event.now changes }
@@ -46,7 +46,7 @@ impl WatchKind {
         u64::from(self == kind_of(event))
     }
 
-    // How much changes weigh for a kind that counts changes.
+    // The weight of changes for a kind that counts changes.
     fn weight_of_changes(self, changes: &Changes) -> u64
         requires { is_of_events self ≡ false }
         ensures { (event : Event) → result ≡ weight self event changes.now }
@@ -58,7 +58,7 @@ impl WatchKind {
         }
     }
 
-    // Whether it counts events, and else changes.
+    // Whether it counts events; otherwise it counts changes.
     fn is_of_events(self) -> bool
         ensures { result ≡ is_of_events self }
     {
@@ -68,7 +68,7 @@ impl WatchKind {
         )
     }
 
-    /// The count after a step of this kind's weight; it ends at the greatest value.
+    /// The count after a step; it stops at the greatest value.
     pub fn count_after(self, count: u64, event: &Event, changes: &Changes) -> u64
         ensures { result ≡ count_after self count event.now changes.now }
     {
@@ -76,7 +76,7 @@ impl WatchKind {
     }
 }
 
-/// Counts a step on. To most kinds most steps weigh nothing, so the two sorts of kinds go their ways apart.
+/// Adds a step to a count. Most steps weigh nothing for most kinds, so events and changes are counted on separate paths.
 pub fn count_on(count: &mut u64, kind: WatchKind, event: &Event, changes: &Changes)
     ensures { count.new ≡ count_after kind count.old event.now changes.now }
 {
@@ -87,7 +87,7 @@ pub fn count_on(count: &mut u64, kind: WatchKind, event: &Event, changes: &Chang
     }
 }
 
-// Adds a weight to a count, which ends at the greatest value. Nothing is written where there is none.
+// Adds a weight to a count, which stops at the greatest value. Nothing is written where the weight is 0.
 #[inline]
 fn add(count: &mut u64, weight: u64)
     ensures { count.new ≡ min (count.old + weight) greatest }
@@ -98,7 +98,7 @@ fn add(count: &mut u64, weight: u64)
     }
 }
 
-// What counts this event.
+// The kind that counts this event.
 fn kind_of(event: &Event) -> WatchKind
     ensures { result ≡ kind_of event.now }
 {
@@ -110,7 +110,7 @@ fn kind_of(event: &Event) -> WatchKind
     }
 }
 
-// How many claims became satisfied, or entitled.
+// How many claims became satisfied, or how many became entitled.
 fn count_of(statuses: &[StatusChange], satisfied: bool) -> u64
     ensures { result ≡ count_by (is_status satisfied) statuses.now }
 {
@@ -120,7 +120,7 @@ fn count_of(statuses: &[StatusChange], satisfied: bool) -> u64
         .count() as u64
 }
 
-// Whether a claim became satisfied, or entitled.
+// Whether a claim became satisfied, or whether it became entitled.
 fn is_status(change: &StatusChange, satisfied: bool) -> bool
     ensures { result ≡ is_status satisfied change.now }
 {

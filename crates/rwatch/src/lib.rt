@@ -1,7 +1,8 @@
-//! Watchers: boxes of the caller's that are told each step of a lock, and count or keep what they are told.
+//! Watchers: objects of the caller that are given each step of a lock, and count or keep what they are given.
 //!
-//! A watcher is told an event and what it changed. It has a kind, and its count grows by what the step weighs for that kind.
-//! [`Watchers`] is a list of such boxes, which are told in order.
+//! A step is an event and what it changed. A [`Watcher`] has a [`WatchKind`], and its count grows by the weight of the
+//! step for that kind. [`Counter`] only counts; [`Recorder`] keeps the events too. [`Watchers`] is a list of boxed
+//! watchers, and [`Audience`] is what the layers above are generic over.
 #![tactic(auto)]
 
 mod counter;

@@ -7,7 +7,7 @@ use rclaim::{Changes, Event};
 use std::alloc::{AllocError, Global};
 use std::marker::Model;
 
-/// A watcher that counts, and keeps the events that it is told as long as it has room for all of them.
+/// A watcher that counts, and keeps the events that it is given as long as it has room for all of them.
 #[derive(Drop)]
 pub struct Recorder {
     kind: WatchKind,
@@ -32,11 +32,11 @@ impl Model for Recorder {
 }
 
 impl Recorder {
-    /// A recorder of this kind that was told nothing, with room for so many events.
+    /// A recorder of this kind that was given nothing yet, with room for `room` events.
     ///
     /// # Errors
     ///
-    /// Want of memory.
+    /// Out of memory.
     pub fn new(alloc: Global, kind: WatchKind, room: usize) -> Result<Recorder, AllocError>
         ensures { IfOk result (λ r. r ≡ record { kind = kind; count = 0; room = room; kept = Some [] }) }
     {
@@ -49,7 +49,7 @@ impl Recorder {
         })
     }
 
-    // Keeps an event, where there is room for it; where not, nothing is kept from then on.
+    // Keeps an event if there is room for it; if not, nothing is kept from then on.
     fn keep(&mut self, event: Event)
         ensures { self.new ≡ record self.old { room = room_after self.old.room self.old.kept; kept = kept_after self.old.room self.old.kept event } }
     {

@@ -6,10 +6,10 @@ use crate::{Audience, WatchKind, Watcher};
 use rclaim::{Changes, Event};
 use std::mem;
 
-/// Watchers that are told together, in order. The boxes are the caller's.
+/// Watchers that are given each step together, in order. The boxes belong to the caller.
 #[derive(Drop)]
 pub struct Watchers {
-    /// The boxes, in the order in which they are told.
+    /// The boxes, in the order in which they are given a step.
     pub list: Vec<Box<dyn Watcher + Send>>,
 }
 
@@ -21,7 +21,7 @@ impl Watchers {
         Watchers { list }
     }
 
-    /// Tells each of them a step, in order. No memory is taken.
+    /// Gives each of them a step, in order. Takes no memory.
     pub fn tell_all(&mut self, event: &Event, changes: &Changes)
         ensures { map seen self.new.list.items ≡ map (told event.now changes.now) (map seen self.old.list.items) }
     {
@@ -43,7 +43,7 @@ impl Watchers {
         kind_in(&self.list[i])
     }
 
-    /// How much the watcher at a place has counted.
+    /// The count of the watcher at a place.
     pub fn count_of(&self, i: usize) -> u64
         requires { i < length self.now.list.items }
         ensures { result ≡ (watcher_at (map seen self.now.list.items) i).count }
@@ -51,7 +51,7 @@ impl Watchers {
         count_in(&self.list[i])
     }
 
-    /// The event number `k`, counted from 0, of those that the watcher at a place keeps; None where it keeps no such event.
+    /// The event number `k`, counted from 0, of those that the watcher at a place keeps; None where it keeps fewer.
     pub fn event_of(&self, i: usize, k: usize) -> Option<Event>
         requires { i < length self.now.list.items }
         ensures { result ≡ event_at (watcher_at (map seen self.now.list.items) i).kept k }
@@ -67,7 +67,7 @@ impl Watchers {
     }
 }
 
-// Tells each watcher of a list.
+// Gives each watcher of a list a step.
 fn tell_each(list: &mut [Box<dyn Watcher + Send>], event: &Event, changes: &Changes)
     ensures { map seen list.new ≡ map (told event.now changes.now) (map seen list.old) }
 {

@@ -7,7 +7,7 @@ use Rattle.rmodel.specs.State.{LockState}
 use Rattle.rwatch.specs.Codes.{watched_code}
 use Rattle.rwatch.specs.Seen.{Seen}
 
--- the lock state, the changes of the last accepted step, and what those who watch have been told, if there are any
+-- the lock state, the changes of the last accepted step, and what the watchers have seen, if there are any
 pub record WatchedMachine : Type 0 where
   pub state : LockState
   pub last : ChangeLists

@@ -1,4 +1,4 @@
-//! A machine whose steps are told to those who watch.
+//! [`Watching`]: a machine that reports each of its steps to watchers.
 #![tactic(auto)]
 
 mod watching;

@@ -1,4 +1,4 @@
-// A machine that tells its steps.
+// A machine that reports its steps.
 ghost use Rattle.std.specs.Prelude.{◌≡◌, Some, option_map};
 
 use rclaim::{Changes, Event, Status};
@@ -8,8 +8,8 @@ use rwatch::Audience;
 use std::alloc::{AllocError, Global};
 use std::marker::Model;
 
-/// A machine, and those who watch it, if there are any: they are told each of its steps. Contracts see the lock state, the last changes, and
-/// what those who watch have been told.
+/// A machine and its watchers, if there are any, who are given each of its steps. Contracts see the lock state, the last
+/// changes, and what the watchers have seen.
 #[derive(Drop)]
 pub struct Watching<M: Machine, A: Audience> {
     machine: M,
@@ -28,7 +28,7 @@ impl<M: Machine, A: Audience> Model for Watching<M, A> {
 }
 
 impl<M: Machine, A: Audience> Watching<M, A> {
-    /// This machine, of whose further steps these are told.
+    /// This machine, whose further steps are given to this audience.
     pub fn new_watched(machine: M, audience: A) -> Watching<M, A>
         ensures { result ≡ record { state = M.state machine; last = M.last machine; watched = Some (A.all audience) } }
     {
@@ -38,7 +38,7 @@ impl<M: Machine, A: Audience> Watching<M, A> {
         }
     }
 
-    /// Those who watched; None where nobody did.
+    /// The audience; None where there was none.
     pub fn into_audience(self) -> Option<A>
         ensures { option_map A.all result ≡ self.watched }
     {

@@ -39,7 +39,7 @@ in_append [] ys x there = absurd there
 in_append (z ∷ xs) ys x (inl same) = inl same
 in_append (z ∷ xs) ys x (inr later) = inr (in_append xs ys x later)
 
--- what stands beside an element of the second list
+-- the partner of an element of the second list
 pub zip_source : {X Y : Type 0} (R : X → Y → Type 0) (xs : List X) (ys : List Y) (y : Y) → AllZip R xs ys → Among y ys → (x : X) × Among x xs × R x y
 zip_source R [] [] y zip there = absurd there
 zip_source R [] (z ∷ ys) y zip there = absurd zip
@@ -49,7 +49,7 @@ zip_source R (x ∷ xs) (z ∷ ys) y zip (inr later) = let found = zip_source R 
 
 -- ---- an event changes the list
 
--- a claim as it was, but for what it asks for
+-- a claim as it was, except for what it asks for
 pub record IsStill (was x : Claimed) : Type 0 where
   pub claim : x.claim ≡ was.claim
   pub status : x.status ≡ was.status
@@ -61,7 +61,7 @@ pub record WasThere (s : LockState) (x : Claimed) : Type 0 where
   pub there : Among was s.claims
   pub still : IsStill was x
 
--- a claim that the event brought: it waits, nothing is granted to it, and its seat had no request
+-- a claim that the event added: it waits, nothing is granted to it, and its seat had no request
 pub record IsBrought (s : LockState) (x : Claimed) : Type 0 where
   pub idle : has_request s.claims x.claim.seat ≡ false
   pub stamped : x.claim.stamp ≡ s.issued
@@ -123,7 +123,7 @@ left s (Ask seat part) x there stays = record { to = asking seat part x; there =
 
 -- ---- then it is settled, and what is asked for is granted
 
--- a claim before and after what it asks for comes to it
+-- a claim before and after it gets what it asks for
 pub record IsGiven (x y : Claimed) : Type 0 where
   pub claim : y.claim ≡ x.claim
   pub status : y.status ≡ x.status
@@ -137,7 +137,7 @@ given_more xs = zip_map_right (with_asked xs) (λ x y. x ≡ y) IsGiven (λ x y 
     at y true = record { claim = refl; status = refl; granted = within_union_left y.granted y.asked }
     at y false = record { claim = refl; status = refl; granted = within_reflexive y.granted }
 
--- a claim from what an event leaves to what is settled and granted
+-- a claim as the event leaves it, and the same claim settled and granted
 pub record Moves (s : LockState) (e : Event) (x y : Claimed) : Type 0 where
   pub mid : Claimed
   pub in_changed : Among x (changed s e).claims

@@ -29,7 +29,7 @@ use Rattle.rmodel.proofs.settling.Standing.{SameStanding, asking_standing}
 
 -- ---- through every event
 
--- each claim of an issue that comes has P
+-- each claim of an issue that may come has P
 abbrev pub Issues : (ReadGroups → Claim → Type 0) → Type 0
 Issues P = (s : LockState) (seat : ℕ) (r : RequestFields) → Comes s (Issue seat r) → AllByRecursion (P s.groups) (claims_of s.groups.groups s.issued seat r)
 
@@ -119,7 +119,7 @@ pub reads_apart : (groups : ReadGroups) (seats cap : ℕ) (es : List Event) → 
     → AllByRecursion (λ x. ReadsApart (after (opening groups seats cap) es).groups x.claim) (after (opening groups seats cap) es).claims
 reads_apart groups seats cap es accepted = each_after ReadsApart issues_apart (opening groups seats cap) es (reached_opening groups seats cap) accepted tt
 
--- so what a seat holds it holds in one way
+-- so a seat holds each resource in one way
 pub one_way : (s : LockState) (seat : ℕ) → IsReached s → AllByRecursion (λ x. ReadsApart s.groups x.claim) s.claims → meets (holds_of s.claims seat).reads (holds_of s.claims seat).writes ≡ false
 one_way s seat reached apart =
     holding s.claims seat (each_alone s reached) by_one

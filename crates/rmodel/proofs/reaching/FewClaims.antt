@@ -1,4 +1,4 @@
--- How many claims there may be.
+-- How many claims there can be.
 use Rattle.std.proofs.Common.{◌≡◌, ℕ, ◌+◌, ◌<◌, ◌≤◌, eqb, Bool, true, false, cond, List, [], ◌∷◌, map, length, refl, sym, ap, subst, ◌∙◌, inl, inr, arith}
 use Rattle.std.proofs.lemmas.Bool.{true≢false, eqb-true, or_cases}
 use Rattle.std.proofs.lemmas.List.{length-map}
@@ -59,7 +59,7 @@ few_claims s sound =
     subst (λ (n : ℕ). n ≤ s.seats + s.seats) (length-map s.claims key)
     (length-le_from_distinct_below (map key s.claims) (s.seats + s.seats) (keys_distinct s.claims sound.one_each) (keys_below s.seats s.claims sound.seated))
 
--- a request makes two claims at most
+-- a request makes at most two claims
 pub two_claims : (groups : List Set) (stamp seat : ℕ) (r : RequestFields) → length (claims_of groups stamp seat r) ≤ 2
 two_claims groups stamp seat r = by r.kind
   where

@@ -1,4 +1,4 @@
--- No claim falls back: what is entitled or satisfied stays so, and no status that is told is that of a claim that waits.
+-- No claim falls back: what is entitled or satisfied stays so, and no reported status is that of a claim that waits.
 use Rattle.std.proofs.Common.{◌≡◌, ℕ, ◌==◌, Bool, true, false, not, ◌&&◌, ◌||◌, cond, List, [], ◌∷◌, Some, None, refl, sym, ap, subst, ◌∙◌, inl, inr}
 use Rattle.std.proofs.lemmas.Bool.{true≢false, eq-eqb, or_left, or_right, or_parts, and_parts, and_from}
 use Rattle.std.specs.List.{AllZip}
@@ -50,7 +50,7 @@ module _ (s : LockState) (e : Event) (reached : IsReached s) (comes : Comes s e)
   exclusive : AreExclusive s.claims
   exclusive = record { well_formed = reached.sound.well_formed; entered = reached.entered; apart = reached.apart }
 
-  -- of a read that was kept waiting, the write that keeps it waiting is the satisfied one
+  -- for a read that was kept waiting, the write that keeps it waiting is the satisfied one
   keeper : (r v w : Claimed) → Among r s.claims → Among v s.claims → Among w s.claims → r.claim.write_half ≡ false → keeps_out r.claim v ≡ true → keeps_out r.claim w ≡ true → w ≡ v
   keeper r v w in_r in_v in_w read keeps_v keeps_w =
       elim (pair_among (λ a b. keeps_out r.claim a ≡ true → keeps_out r.claim b ≡ false) s.claims w v (one_keeps s.groups.groups s.claims exclusive reached.admitted r in_r read) in_w in_v) [
@@ -113,9 +113,9 @@ satisfied_stays s t x y at sat =
     (λ write. at.satisfaction write ∙ or_left (is_satisfied x) (is_active y && not (is_held_up t y.claim)) sat)
     (λ read. at.reads read ∙ or_left (is_satisfied x) (not (is_kept_out s y.claim)) sat)
 
--- ---- what is told
+-- ---- what is reported
 
--- from a claim to the same claim no less far
+-- from a claim to the same claim, which is at least as far
 active_at : (seat : ℕ) (half : Bool) (a b : Status) → (active_by a ≡ true → active_by b ≡ true)
     → AreActive (option_to_list (cond (number_of a == number_of b) None (Some (record { seat = seat; write_half = half; status = b }))))
 active_at seat half Waiting Waiting stays = tt
@@ -138,7 +138,7 @@ tells_active (x ∷ xs) (y ∷ ys) stays =
     (active_at y.claim.seat y.claim.write_half x.status y.status stays.0) (tells_active xs ys stays.1)
 
 module _ (s : LockState) (e : Event) (reached : IsReached s) (comes : Comes s e) where
-  -- no status that is told is that of a claim that waits
+  -- no reported status is that of a claim that waits
   pub told_active : AreActive (status_changes (changed s e).claims (next s e).claims)
   told_active =
       let xs = (changed s e).claims in
@@ -164,7 +164,7 @@ module _ (s : LockState) (e : Event) (reached : IsReached s) (comes : Comes s e)
       let settles = settles_settled xs (sound_changed s e reached.sound comes).well_formed in
       subst AreActive (ap (λ c. c.statuses) (sym (changes_told s (next s e) e reached.sound comes (same_given xs (settled xs) (same_claims xs (settled xs) settles))))) told_active
 
-  -- a claim is as far after the event as before
+  -- a claim is at least as far after the event as before
   pub none_falls_back : AreAsFar s.claims (next s e).claims
   none_falls_back x y in_s in_next same =
       let from = came s e reached comes y in_next in

@@ -1,4 +1,4 @@
--- What a request holds it goes on to hold, until its own finish or rise.
+-- A request keeps what it holds until its own finish or rise.
 use Rattle.std.proofs.Common.{◌≡◌, ℕ, true, false, List, [], ◌∷◌, sym, ap, subst, ◌∙◌}
 use Rattle.std.proofs.lemmas.Bool.{and_from}
 use Rattle.std.specs.FinSet.{intersection, is_subset}
@@ -23,7 +23,7 @@ use Rattle.rmodel.proofs.settling.OneSettlement.{both_cases}
 use Rattle.rmodel.proofs.reaching.OneOfSeat.{each_alone}
 use Rattle.rmodel.proofs.reaching.Reached.{reached_next}
 
--- a claim, and the same claim no less far, with no less granted
+-- a claim, and the same claim at least as far, with at least as much granted
 pub record IsGrown (x y : Claimed) : Type 0 where
   pub claim : y.claim ≡ x.claim
   pub satisfied : is_satisfied x ≡ true → is_satisfied y ≡ true
@@ -33,7 +33,7 @@ shared_grows : (s t u : Set) → is_subset s t ≡ true → is_subset (intersect
 shared_grows s t u within =
     within_intersection t u (intersection s u) (within_transitive (intersection s u) s t (intersection_within_left s u) within) (intersection_within_right s u)
 
--- it holds no less
+-- it holds at least as much
 pub grown_holds : (x y : Claimed) → IsGrown x y → is_within (held_by x) (held_by y) ≡ true
 grown_holds x y grown =
     both_cases (is_nested x.claim.kind)

@@ -54,7 +54,7 @@ within_all f g h a b =
 abbrev pub all_of : Claim → Granted
 all_of c = record { reads = c.reads; writes = c.writes }
 
--- a satisfied claim holds all of it, and an unsatisfied one nothing, but for that of a nested request
+-- a satisfied claim holds all of it and an unsatisfied one holds nothing, except for a nested request
 pub held_of_plain : (x : Claimed) → is_nested x.claim.kind ≡ false → is_satisfied x ≡ true → held_by x ≡ all_of x.claim
 held_of_plain x plain sat =
     (λ i. cond (plain i) (record { reads = intersection x.granted x.claim.reads; writes = intersection x.granted x.claim.writes }) (cond (sat i) (all_of x.claim) nothing))
@@ -63,7 +63,7 @@ pub held_of_unsatisfied : (x : Claimed) → is_nested x.claim.kind ≡ false →
 held_of_unsatisfied x plain unsat =
     (λ i. cond (plain i) (record { reads = intersection x.granted x.claim.reads; writes = intersection x.granted x.claim.writes }) (cond (unsat i) (all_of x.claim) nothing))
 
--- that holds what was granted to it
+-- the claim of a nested request holds what was granted to it
 pub held_of_nested : (x : Claimed) → is_nested x.claim.kind ≡ true → held_by x ≡ record { reads = intersection x.granted x.claim.reads; writes = intersection x.granted x.claim.writes }
 held_of_nested x nested =
     (λ i. cond (nested i) (record { reads = intersection x.granted x.claim.reads; writes = intersection x.granted x.claim.writes }) (cond (is_satisfied x) (all_of x.claim) nothing))
@@ -115,7 +115,7 @@ pub holds_nothing : (xs : List Claimed) (seat : ℕ) → AllByRecursion (λ y. (
 unfolding holds_of
 holds_nothing xs seat none = rest_holds seat nothing xs none
 
--- so does an idle seat
+-- so an idle seat holds nothing
 pub idle_holds_nothing : (xs : List Claimed) (seat : ℕ) → has_request xs seat ≡ false → holds_of xs seat ≡ nothing
 idle_holds_nothing xs seat idle =
     holds_nothing xs seat (all_from _ xs (λ y there is. contrary (y.claim.seat == seat) is (none_among (λ x. x.claim.seat == seat) xs y idle there)))

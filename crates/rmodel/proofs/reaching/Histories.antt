@@ -17,7 +17,7 @@ pub after_append : (s : LockState) (es ds : List Event) → after s (es ++ ds) �
 after_append s [] ds = refl
 after_append s (e ∷ es) ds = after_append (next s e) es ds
 
--- one more event that comes to the state so far
+-- one more event that may come in the state so far
 pub accepted_push : (s : LockState) (es : List Event) (e : Event) → AreAccepted s es → Comes (after s es) e → AreAccepted s (es ++ e ∷ [])
 accepted_push s [] e accepted comes = (comes, tt)
 accepted_push s (d ∷ es) e accepted comes = (accepted.0, accepted_push (next s d) es e accepted.1 comes)
@@ -46,7 +46,7 @@ sizes_after s (e ∷ es) =
     let rest = sizes_after (next s e) es in
     record { groups = rest.groups ∙ one.groups; seats = rest.seats ∙ one.seats; cap = rest.cap ∙ one.cap }
 
--- each event is one issue at most
+-- each event is at most one issue
 pub issued_after : (s : LockState) (es : List Event) → (after s es).issued ≤ s.issued + length es
 issued_after s [] = omega arith
 issued_after s (e ∷ es) = let rest = issued_after (next s e) es in let one = issued_next s e in omega arith

@@ -15,7 +15,7 @@ use Rattle.rmodel.specs.Steps.{incomplete_of}
 use Rattle.rmodel.specs.WellFormed.{EachPair, Distinct, IsSound}
 use Rattle.rmodel.proofs.ListFacts.{contrary, false_from, none_among, all_at, all_from, all_map, all_filter, among_filter, pairs_filter}
 
--- the claim of a request that is no read half: each request has one
+-- a claim that is not a read half: each request has one
 abbrev stands_for : Claimed → Bool
 stands_for x = not (is_read_half x.claim)
 
@@ -40,7 +40,7 @@ seats_below n (x ∷ xs) seated q some =
       | inr later ↦ seats_below n xs seated.1 q later
     ]
 
--- the seat and those of the requests are different ones
+-- the seat is none of the seats with requests
 pub fewer : (s : LockState) (seat : ℕ) → IsSound s → seat < s.seats → has_request s.claims seat ≡ false → incomplete_of s < s.seats
 unfolding IsDistinct
 fewer s seat sound there idle =

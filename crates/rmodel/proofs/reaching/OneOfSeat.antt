@@ -1,4 +1,4 @@
--- Of the claims of one seat a second one holds nothing, so one of them tells what the seat holds.
+-- A second claim of a seat holds nothing, so the first one shows what the seat holds.
 use Rattle.std.proofs.Common.{◌≡◌, ℕ, ◌==◌, Bool, true, false, cond, List, [], ◌∷◌, fold, refl, sym, ap, ◌∙◌}
 use Rattle.std.proofs.lemmas.Bool.{true_from_ne_false}
 use Rattle.std.specs.List.{AllByRecursion}
@@ -51,7 +51,7 @@ each_alone s reached =
     (pairs_both Distinct (λ x y. TakeTurns x y × Apart x y) (λ x y. Distinct x y × (TakeTurns x y × Apart x y)) (λ x y a b. (a, b)) s.claims reached.sound.one_each
     (pairs_both TakeTurns Apart (λ x y. TakeTurns x y × Apart x y) (λ x y a b. (a, b)) s.claims reached.turns reached.apart))
 
--- ---- so the first tells what the seat holds
+-- ---- so the first shows what the seat holds
 
 module _ (seat : ℕ) where
   pub both_nothing : (a : Granted) → both a nothing ≡ a

@@ -1,4 +1,4 @@
--- What holds of each lock state that a list of accepted events leads to.
+-- What holds in each lock state that a list of accepted events leads to.
 use Rattle.std.proofs.Common.{◌≡◌, ℕ, ◌==◌, Bool, true, false, not, ◌&&◌, ◌||◌, cond, List, [], ◌∷◌, map, refl, sym, ap, subst, ◌∙◌}
 use Rattle.std.proofs.lemmas.Bool.{or_parts, and_parts}
 use Rattle.std.specs.List.{AllZip, AllByRecursion}
@@ -32,7 +32,7 @@ use Rattle.rmodel.proofs.reaching.Soundness.{sound_changed, sound_next, sound_op
 
 -- ---- an event keeps them
 
--- what holds of each pair of claims, holds of each with a claim that waits and to which nothing was granted
+-- what holds for each pair of claims also holds with a claim that waits and to which nothing was granted
 record IsForNew (R : Claimed → Claimed → Type 0) : Type 0 where
   with_new : (stamp seat : ℕ) (x n : Claimed) → IsNew stamp seat n → R x n
 
@@ -86,7 +86,7 @@ behind_changed s (Finish seat) comes pairs = pairs_filter KeptBehind _ s.claims 
 behind_changed s (Rise seat) comes pairs = pairs_filter KeptBehind _ s.claims pairs
 behind_changed s (Ask seat part) comes pairs = behind_standing s.claims _ (asking_standing seat part s.claims) pairs
 
--- one claim, as far and as much granted
+-- one claim, equally far and with as much granted
 record SameGrants (x y : Claimed) : Type 0 where
   standing : SameStanding x y
   granted : y.granted ≡ x.granted
@@ -121,7 +121,7 @@ free_changed s (Ask seat part) comes pairs =
 -- ---- what is granted keeps them
 
 module _ (xs : List Claimed) where
-  -- a claim before and after what it asks for comes to it
+  -- a claim before and after it gets what it asks for
   record Gets (x y : Claimed) : Type 0 where
     there : Among x xs
     is : y ≡ with_asked xs x
@@ -132,7 +132,7 @@ module _ (xs : List Claimed) where
       zip_weaker (λ x y. (y ≡ with_asked xs x) × Among x xs × Among y (map (with_asked xs) xs)) Gets (λ x y h. record { there = h.1; is = h.0 }) xs (map (with_asked xs) xs)
       (zip_among (λ x y. y ≡ with_asked xs x) xs (map (with_asked xs) xs) (zip_map_right (with_asked xs) (λ x y. x ≡ y) (λ x y. y ≡ with_asked xs x) (λ x y e. ap (with_asked xs) (sym e)) xs xs (zip_same (λ x y. x ≡ y) (λ x. refl) xs)))
 
-  -- what comes to an unsatisfied claim is free of satisfied ones
+  -- what an unsatisfied claim gets is free of satisfied claims
   gets_free : (v x : Claimed) → Among v xs → IsFreeOf v x → (b : Bool) → gets_asked xs x ≡ b → is_satisfied v ≡ true → is_satisfied x ≡ false
       → conflicts_on v.claim x.claim (cond b (record x { asked = empty; granted = union x.granted x.asked }) x).granted ≡ false
   gets_free v x there free false is sat unsat = free sat unsat

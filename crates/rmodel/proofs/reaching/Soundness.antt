@@ -1,4 +1,4 @@
--- Sound states: an accepted event leaves one, and settling leaves one.
+-- Sound states: an accepted event keeps a state sound, and so does settling.
 use Rattle.std.proofs.Common.{◌≡◌, ◌≢◌, ℕ, ◌+◌, ◌<◌, ◌≤◌, ◌==◌, Bool, true, false, not, ◌&&◌, cond, List, [], ◌∷◌, ◌++◌, map, filter, Option, Some, None, refl, sym, ap, subst, ◌∙◌, inl, inr, arith}
 use Rattle.std.proofs.lemmas.Bool.{true≢false, eq-eqb, eqb-true, or_cases, or_parts, and_parts}
 use Rattle.std.proofs.lemmas.List.Sums.{sum_by-append}
@@ -151,7 +151,7 @@ same_seat xs x y distinct in_x in_y seats nested =
     clash Upgrade n u = true≢false (sym n)
     clash Nested n u = true≢false (sym u)
 
--- a claim of the seat that asks is nested, and the part is one of what it reads and writes
+-- a claim of the seat that asks is nested, and the part lies in what it reads and writes
 asks : (xs : List Claimed) (seat : ℕ) (part : Set) (x : Claimed) → EachPair Distinct xs → IsAsk xs seat part → Among x xs → x.claim.seat ≡ seat
     → (is_nested x.claim.kind ≡ true) × (is_part part (union x.claim.reads x.claim.writes) ≡ true)
 asks xs seat part x distinct is there seated =
@@ -267,7 +267,7 @@ settled_parts s t parts settles = all_of_zip HasParts (SettlesAt s t) HasParts a
             (λ n. had.waits (was_waiting (ap (λ c. c.write_half) h.same ∙ had.writes n) waiting))
             (λ other. (had.of_others other).1)
 
--- what comes to a claim comes to an entitled or satisfied one
+-- a claim that gets something is entitled or satisfied
 pub active_of_gets : (xs : List Claimed) (x : Claimed) → gets_asked xs x ≡ true → is_active x ≡ true
 active_of_gets xs x gets =
     elim (or_cases (is_satisfied x) (is_active x && not (is_kept_from xs x.claim x.asked)) gets) [
@@ -275,7 +275,7 @@ active_of_gets xs x gets =
       | inr free ↦ (and_parts (is_active x) (not (is_kept_from xs x.claim x.asked)) free).0
     ]
 
--- so has one to which what it asks for came
+-- so has a claim that got what it asked for
 given_parts : (xs : List Claimed) → AllByRecursion HasParts xs → AllByRecursion HasParts (given xs)
 unfolding given
 given_parts xs parts = all_map (with_asked xs) HasParts xs (λ x there. at x (all_at HasParts xs x parts there) (gets_asked xs x) refl)
@@ -291,7 +291,7 @@ given_parts xs parts = all_map (with_asked xs) HasParts xs (λ x there. at x (al
       waits = λ waiting. contrary (is_active x) (active_of_gets xs x is) waiting;
     }
 
--- what is granted changes no claim
+-- granting changes no claim
 pub given_same : (xs : List Claimed) → AllZip SameClaim xs (given xs)
 unfolding given
 given_same xs = zip_map_right (with_asked xs) (λ x y. x ≡ y) SameClaim (λ x y e. at y (gets_asked xs y) ∙ ap (λ z. z.claim) (sym e)) xs xs (zip_same (λ x y. x ≡ y) (λ x. refl) xs)

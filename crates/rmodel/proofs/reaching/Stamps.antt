@@ -1,4 +1,4 @@
--- Stamps tell requests apart: two claims of one stamp are of one seat.
+-- Stamps distinguish requests: two claims of one stamp are of one seat.
 use Rattle.std.proofs.Common.{◌≡◌, ℕ, ◌<◌, List, [], ◌∷◌, map, sym, ap, ◌∙◌, arith}
 use Rattle.std.specs.List.{AllZip}
 use Rattle.rclaim.specs.declared.event.Event.{Event}
@@ -18,7 +18,7 @@ use Rattle.rmodel.proofs.reaching.Reached.{reached_next}
 use Rattle.rmodel.proofs.settling.Settlement.{settles_settled}
 use Rattle.rmodel.proofs.reaching.Soundness.{asking_same, same_claims, sound_changed}
 
--- of two claims of one stamp, one request made both
+-- two claims of one stamp were made by one request
 abbrev pub OfOneSeat : Claimed → Claimed → Type 0
 OfOneSeat x y = x.claim.stamp ≡ y.claim.stamp → x.claim.seat ≡ y.claim.seat
 

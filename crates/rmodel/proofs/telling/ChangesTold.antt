@@ -26,7 +26,7 @@ same_as_itself false = refl
 is_claim_of_its_seat : (x : Claimed) → is_claim_of x.claim.seat x.claim.write_half x ≡ true
 is_claim_of_its_seat x = (λ i. eq-eqb x.claim.seat x.claim.seat refl i && same_as_itself x.claim.write_half i)
 
--- of two claims of one seat, the first is the read half and the other the write half
+-- the first of two claims of one seat is the read half, and the other the write half
 other_claim : (y x : Claimed) → Distinct y x → is_claim_of x.claim.seat x.claim.write_half y ≡ false
 other_claim y x distinct = false_from _ (λ h.
     let parts = and_parts (y.claim.seat == x.claim.seat) (is_same y.claim.write_half x.claim.write_half) h in
@@ -53,7 +53,7 @@ absent (y ∷ ys) seat half idle = at (y.claim.seat == seat) refl idle (absent y
     at true is idle rest = absurd (true≢false idle)
     at false is idle rest = ap (λ b. cond (b && is_same y.claim.write_half half) (Some y) (claim_at ys seat half)) is ∙ rest idle
 
--- a claim as it was, but for what it asks for
+-- a claim as it was, except for what it asks for
 pub record Since (was x : Claimed) : Type 0 where
   pub claim : was.claim ≡ x.claim
   pub status : was.status ≡ x.status
@@ -96,7 +96,7 @@ was_left s (Ask seat part) sound comes =
     at x was false = since_itself _ x was
     at x was true = record { claim = ap (λ z. z.claim) was; status = ap (λ z. z.status) was; granted = ap (λ z. z.granted) was }
 
--- the changes from a claim do not see what it asks for
+-- the changes from a claim do not depend on what it asks for
 status_since : (w x y : Claimed) → Since w x → status_change w y ≡ status_change x y
 status_since w x y since = ap (λ (v : Status). status_change (record w { status = v }) y) since.status
 

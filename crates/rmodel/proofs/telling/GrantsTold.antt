@@ -1,4 +1,4 @@
--- The grants that an event tells are those of the requests that hold more: one for each, with all that it holds.
+-- The grants that an event reports are those of the requests that hold more: one for each, with all that it holds.
 use Rattle.std.proofs.Common.{◌≡◌, ◌≢◌, ℕ, ◌==◌, Bool, true, false, not, cond, List, [], ◌∷◌, Option, Some, None, refl, sym, ap, subst, ◌∙◌, inl, inr}
 use Rattle.std.proofs.lemmas.Bool.{eq-eqb, or_left, or_right, and_parts}
 use Rattle.std.specs.Prelude.{unwrap_or}
@@ -58,7 +58,7 @@ module _ {X Y : Type 0} (f : X → Option Y) where
 
 -- ---- the grant of a claim
 
--- a claim tells a grant where it holds more than it did
+-- a claim makes a grant where it holds more than it did
 record Tells (was y : Claimed) (g : GrantChange) : Type 0 where
   more : is_within (held_by y) (held_by was) ≡ false
   seat : g.seat ≡ y.claim.seat
@@ -115,7 +115,7 @@ module _ (s : LockState) (e : Event) (reached : IsReached s) (comes : Comes s e)
   alone_after : EachPair Alone t.claims
   alone_after = each_alone t (reached_next s e reached comes)
 
-  -- of a claim and its seat: it held no more than its seat, and where it holds no more than its seat did, it holds no more than it did
+  -- a claim and its seat: it held no more than its seat, and where it now holds no more than its seat did, it holds no more than it did
   record OfSeat (y : Claimed) : Type 0 where
     held : is_within (held_by (was y)) (holds_of s.claims y.claim.seat) ≡ true
     kept : is_within (held_by y) (holds_of s.claims y.claim.seat) ≡ true → is_within (held_by y) (held_by (was y)) ≡ true
@@ -153,7 +153,7 @@ module _ (s : LockState) (e : Event) (reached : IsReached s) (comes : Comes s e)
           (λ some. holding s.claims z.claim.seat alone (by_one some within)
           (λ none. contrary (is_nothing (held_by y)) (is_nothing_of (held_by y) (within_nothing (held_by y) (subst (λ (g : Granted). is_within (held_by y) g ≡ true) none within))) some))
 
-  -- a claim that the event brought
+  -- a claim that the event added
   new_of_seat : (y x : Claimed) → IsBrought s x → y.claim ≡ x.claim → OfSeat y
   new_of_seat y x new same =
       let idle = ap (λ c. has_request s.claims c.seat) same ∙ new.idle in
@@ -192,7 +192,7 @@ module _ (s : LockState) (e : Event) (reached : IsReached s) (comes : Comes s e)
         writes = told.writes ∙ ap (λ (h : Granted). h.writes) (sym held);
       }
 
-  -- a seat that holds more has a claim that tells it
+  -- a seat that holds more has a claim that reports it
   grant_of : (seat : ℕ) → holds_more s t seat ≡ true → (h : HeldBy t.claims seat) → is_within (held_by h.by) (held_by (was h.by)) ≡ false
   grant_of seat more h = false_from (is_within (held_by h.by) (held_by (was h.by))) (λ within.
       contrary (not (is_within (holds_of t.claims seat) (holds_of s.claims seat))) more

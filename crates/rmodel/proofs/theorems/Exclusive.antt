@@ -1,4 +1,4 @@
--- What one request holds for writing, no other holds.
+-- What one request holds for writing, no other request holds.
 use Rattle.std.proofs.Common.{◌≡◌, ◌≢◌, ℕ, ◌==◌, Bool, true, false, ◌&&◌, ◌||◌, cond, List, [], ◌∷◌, fold, refl, sym, ap, ◌∙◌, inl, inr}
 use Rattle.std.proofs.lemmas.Bool.{true≢false, eqb-true, or_left, or_right, or_cases, and_parts, and_from}
 use Rattle.std.specs.List.{list_any}
@@ -106,7 +106,7 @@ granted_reads x l unsat h = at (is_nested x.claim.kind) (is_satisfied x) unsat h
     at false true none h = absurd (true≢false none)
     at false false none h = contrary _ h (contains_empty l)
 
--- a claim of which something was granted is entitled or satisfied, and it is a write
+-- a claim to which something was granted is entitled or satisfied, and it is a write
 active_of_granted : (x : Claimed) (l : ℕ) → HasParts x → contains x.granted l ≡ true → (is_active x ≡ true) × (x.claim.write_half ≡ true)
 active_of_granted x l had h = (
   both_cases (is_active x) (λ a. a) (λ waits. absurd (some (had.waits waits))),
@@ -170,7 +170,7 @@ not_both x y l pair parts_x parts_y is_x is_y writes holds =
       | inr h ↦ within_at y.claim.writes y.claim.places (is_y.writes_placed w) l h
     ]
 
--- what is known of two claims of which the first comes first
+-- what is known of two claims, the first of which comes earlier
 record Both (x y : Claimed) : Type 0 where
   entered : Entered x y
   apart : Apart x y

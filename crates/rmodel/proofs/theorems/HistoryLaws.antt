@@ -1,4 +1,4 @@
--- The laws on what each state has that accepted events lead to, and on what an event tells.
+-- The laws on what each state has that accepted events lead to, and on what an event reports.
 use Rattle.std.proofs.Common.{◌≡◌, ◌<◌, ℕ, true, List, sym, subst}
 use Rattle.std.specs.FinSet.{union}
 use Rattle.rset.proofs.SetLemmas.{all_below_within, all_below_union}

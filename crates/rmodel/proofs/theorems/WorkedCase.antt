@@ -280,6 +280,6 @@ two_exclusive = record {
   apart = (((λ sat sat'. simp sets), ((λ sat sat'. absurd (true≢false (sym sat'))), tt)), (((λ sat sat'. absurd (true≢false (sym sat'))), tt), (tt, tt)));
 }
 
--- so of claims that no groups admit the law that one write at most keeps a read waiting does not hold
+-- so the law that at most one write keeps a read waiting does not hold for claims that no groups admit
 needs_admission : ((s t : List Claimed) → AreExclusive s → Settles s t → AreKeptOutByOne t) → ⊥
 needs_admission law = let few = (law two_and_one two_and_one two_exclusive two_settled).1.1.0 refl in omega (arith, few, two_keep_out)

@@ -27,11 +27,11 @@ and_false : (a b : Bool) → b ≡ false → (a && b) ≡ false
 and_false true b h = h
 and_false false b h = refl
 
--- what is asked of each claim before c, for c to have way
+-- what each claim before c must satisfy for c to have way
 clear_at : Claim → Set → Claimed → Bool
 clear_at c away v = not (is_earlier_write c v.claim && share_place v.claim c) || (is_satisfied v && not (meets v.claim.writes away))
 
--- what a claim bars with, if it is a write
+-- the resources by which a claim bars later ones, if it is a write
 bars_with : Claimed → Set
 bars_with v = cond (is_satisfied v) v.claim.writes v.claim.places
 
@@ -46,7 +46,7 @@ fails_by true false true true a b h = absurd (true≢false (sym (h refl)))
 fails_by true m false s a b h = absurd (true≢false (sym b))
 fails_by false m p s a b h = absurd (true≢false (sym a))
 
--- a write before c that bars it fails it
+-- a write before c that bars it fails this test
 fails_at : (v : Claimed) (c : Claimed) → Rises v c → IsClaim v.claim → bars c v ≡ true → clear_at c.claim c.claim.places v ≡ false
 unfolding clear_at bars bars_with
 fails_at v c rises is h =
@@ -94,7 +94,7 @@ barred_in done rest x well h =
     ap (λ b. b && list_all (clear_at x.claim (read_near (done ++ x ∷ rest) x.claim.places)) (done ++ x ∷ rest))
     (list_all-append (clear_at x.claim x.claim.places) done (x ∷ rest) ∙ ap (λ b. b && list_all (clear_at x.claim x.claim.places) (x ∷ rest)) none)
 
--- a claim at a place, between those before and behind it
+-- a claim at a place, between those before and after it
 pub between : (xs : List Claimed) (i : ℕ) (d : Claimed) → i < length xs → take i xs ++ (get_or xs i d ∷ drop (i + 1) xs) ≡ xs
 between xs i d h = ap (λ r. take i xs ++ r) (sym (drop-cons xs i d h ∙ ap (λ n. get_or xs i d ∷ drop n xs) (sym (add-one i)))) ∙ take-append-drop i xs
 
@@ -126,7 +126,7 @@ clear_among (v ∷ done) c h =
     neither true b h = absurd (true≢false h)
     neither false b h = (refl, h)
 
--- a claim whose stamp is not below passes
+-- a claim whose stamp is not below that of c passes
 clear_later : (v c : Claimed) → c.claim.stamp ≤ v.claim.stamp → clear_at c.claim c.claim.places v ≡ true
 unfolding clear_at
 clear_later v c late =

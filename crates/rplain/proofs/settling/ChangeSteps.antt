@@ -66,7 +66,7 @@ no_change all x =
       grants = (ap (λ o. all.grants ++ option_to_list o) grant ∙ append-nil all.grants) i;
     })
 
--- nor does it to the same claim, as far and as much granted
+-- nor to the same claim with the same status and as much granted
 pub no_change_since : (all : ChangeLists) (was now : Claimed) → now.claim ≡ was.claim → now.status ≡ was.status → now.granted ≡ was.granted → with_change all was now ≡ all
 no_change_since all was now claim status granted =
     (λ i. with_change all was (record { claim = claim i; status = status i; asked = now.asked; granted = granted i })) ∙ no_change all was

@@ -1,4 +1,4 @@
--- An issue: its claims are settled behind those that were there, and what changes of them is told.
+-- An issue: its claims are settled after those that were there, and their changes are reported.
 use Rattle.std.proofs.Common.{◌≡◌, ℕ, Bool, true, false, not, ◌&&◌, ◌||◌, cond, List, [], ◌∷◌, ◌++◌, map, fold, inl, refl, sym, ap, subst, ◌∙◌, append_assoc, append-nil}
 use Rattle.std.proofs.lemmas.Bool.{true≢false}
 use Rattle.std.proofs.lemmas.List.Folds.{list_any-append}
@@ -47,7 +47,7 @@ read_is_left : (xs : List Claimed) (x : Claimed) → x.claim.write_half ≡ fals
 unfolding write_status
 read_is_left xs x r = second_read x.claim.write_half (has_way xs x.claim) (is_held_up xs x.claim) x.status r
 
--- new claims stand behind settled ones, of a state that accepted events lead to
+-- new claims come after settled ones, in a state that accepted events lead to
 record IsBehind (groups : List Set) (xs ns : List Claimed) : Type 0 where
   stable : Settles xs xs
   at_rest : given xs ≡ xs
@@ -80,7 +80,7 @@ module _ (groups : List Set) (xs ns : List Claimed) (b : IsBehind groups xs ns) 
 
 -- one new claim
 
--- what it asks for comes to it, whether or not it stands in the list
+-- it gets what it asks for, whether or not it is in the list itself
 asked_behind : (xs : List Claimed) (z : Claimed) → with_asked (xs ++ z ∷ []) z ≡ with_asked xs z
 asked_behind xs z =
     ap (λ b. cond b (record z { asked = empty; granted = union z.granted z.asked }) z)
@@ -111,7 +111,7 @@ module _ (xs : List Claimed) (y : Claimed) (read : y.claim.write_half ≡ false)
   kept_same = fold-append _ empty xs (y ∷ []) ∙ ap (λ w. cond (w && is_satisfied y) (union (written_by_satisfied xs) y.claim.writes) (written_by_satisfied xs)) read
 
 module _ (groups : List Set) (xs : List Claimed) (x : Claimed) (b : IsBehind groups xs (x ∷ [])) (waits : x.status ≡ Waiting) where
-  -- settled, behind the others
+  -- settled, after the others
   abbrev result : Claimed
   result = with_status x (new_status xs (seen_of xs) x)
 
@@ -151,7 +151,7 @@ module _ (groups : List Set) (xs : List Claimed) (x : Claimed) (b : IsBehind gro
 
 -- the two claims of an upgrade
 
--- a write settles alike among claims that are equally satisfied
+-- a write settles to the same among claims that are equally satisfied
 write_alike : (us vs : List Claimed) (x : Claimed) → AllZip SameSatisfied us vs → AllByRecursion ReadsOnly us → AllByRecursion ReadsOnly vs → write_status us x ≡ write_status vs x
 unfolding write_status
 write_alike us vs x same only_us only_vs =
@@ -174,7 +174,7 @@ module _ (groups : List Set) (xs : List Claimed) (x x' : Claimed) (b : IsBehind 
   abbrev kept : Set
   kept = written_by_satisfied (xs ++ y ∷ e ∷ [])
 
-  -- the read half, settled behind the others
+  -- the read half, settled after the others
   abbrev half : Claimed
   half = with_status x (new_status xs (seen_of xs) x)
 
@@ -199,7 +199,7 @@ module _ (groups : List Set) (xs : List Claimed) (x x' : Claimed) (b : IsBehind 
   whole : settled (xs ++ x ∷ x' ∷ []) ≡ map (third_pass kept) (xs ++ y ∷ e ∷ [])
   whole = two_passes groups xs (x ∷ x' ∷ []) b ∙ ap (λ zs. map (third_pass (written_by_satisfied (xs ++ zs))) (xs ++ zs)) seconds_are
 
-  -- where the read half is kept out, the write half keeps it from nothing
+  -- where the read half is kept out, the write half makes no difference to it
   kept_as_seen : meets (seen_of xs).active x.claim.reads ≡ true → meets kept x.claim.reads ≡ meets (seen_of xs).kept x.claim.reads
   kept_as_seen out =
       let only = claims.0.read_only read in
@@ -221,7 +221,7 @@ module _ (groups : List Set) (xs : List Claimed) (x x' : Claimed) (b : IsBehind 
       at true k seen same = ap (λ t. cond t Entitled Waiting) (same refl)
       at false k seen same = refl
 
-  -- the write half behind the read half
+  -- the write half after the read half
   abbrev last : Claimed
   last = with_status x' (new_status (xs ++ half ∷ []) (seen_of (xs ++ half ∷ [])) x')
 
@@ -268,7 +268,7 @@ module _ (groups : List Set) (xs : List Claimed) (x x' : Claimed) (b : IsBehind 
       ∙ ap (λ z. (xs ++ half ∷ []) ++ z ∷ []) (sym second)
       ∙ ap (λ z. (xs ++ z ∷ []) ++ with_asked (xs ++ z ∷ []) (with_status x' (new_status (xs ++ z ∷ []) (seen_of (xs ++ z ∷ [])) x')) ∷ []) (sym first)
 
--- ---- what is told
+-- ---- what is reported
 
 -- what new claims settle to, one after another
 abbrev news : List Claimed → List Claimed → List Claimed
@@ -290,7 +290,7 @@ told_news all xs (x ∷ rest) =
       grants = append_assoc all.grants (option_to_list (grant_change x (new_claim xs x))) (grant_changes rest (news (xs ++ new_claim xs x ∷ []) rest)) i;
     })
 
--- nothing is told of claims that stay
+-- nothing is reported of claims that stay
 statuses_behind : (xs ys zs : List Claimed) → status_changes (xs ++ ys) (xs ++ zs) ≡ status_changes ys zs
 unfolding status_changes
 statuses_behind [] ys zs = refl

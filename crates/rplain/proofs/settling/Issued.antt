@@ -1,4 +1,4 @@
--- An issue leaves the claims that were there as they are: the new claims stand behind settled ones.
+-- An issue leaves the claims that were there as they are: the new claims come after settled ones.
 use Rattle.std.proofs.Common.{◌≡◌, Bool, true, false, not, ◌&&◌, ◌||◌, cond, List, [], ◌∷◌, ◌++◌, map, refl, sym, ap, subst, ◌∙◌, append_assoc, append-nil, inl, inr}
 use Rattle.std.proofs.lemmas.Bool.{true≢false, or_left, and_parts, and_from}
 use Rattle.std.proofs.lemmas.List.{map-append}
@@ -22,7 +22,7 @@ use Rattle.rmodel.proofs.settling.OneWrite.{one_keeps}
 use Rattle.rmodel.proofs.settling.Settlement.{ReadsOnly, first_pass, third_pass, third_write, kept_out_is, kept_is, has_way_is}
 use Rattle.rmodel.proofs.reaching.Soundness.{active_of_satisfied}
 
--- ---- what was, with more claims behind
+-- ---- what was there, with more claims after it
 
 module _ (xs ns : List Claimed) (c : Claim) where
   kept_out_more : is_kept_out xs c ≡ true → is_kept_out (xs ++ ns) c ≡ true
@@ -86,7 +86,7 @@ rest_left done (x ∷ rest) ns left =
     ap (λ y. y ∷ settle_rest (done ++ y ∷ []) (rest ++ ns)) same
     ∙ ap (λ r. x ∷ r) (rest_left (done ++ x ∷ []) rest ns later ∙ ap (λ d. rest ++ settle_rest d ns) (append_assoc done (x ∷ []) rest))
 
--- two elements, one of each of two lists behind one another
+-- two elements, one from each of two lists that follow one another
 among_map : {X Y : Type 0} (f : X → Y) (xs : List X) (x : X) → Among x xs → Among (f x) (map f xs)
 among_map f [] x there = absurd there
 among_map f (y ∷ ys) x (inl same) = inl (ap f same)
@@ -125,7 +125,7 @@ module _ (xs : List Claimed) (stable : Settles xs xs) (are : AllByRecursion (λ 
       all_only : AllByRecursion ReadsOnly (xs ++ ns)
       all_only = all_append ReadsOnly xs ns (all_from ReadsOnly xs (λ x there. (is_claim x there).read_only)) only
 
-  -- where the outcome is exclusive and admitted, no satisfied write among the new claims conflicts with a read that is kept out already
+  -- where the outcome is exclusive and admitted, no satisfied write among the new claims conflicts with a read that is already kept out
   module _ (groups : List Set) (ns : List Claimed) (busy : Set)
       (exclusive : AreExclusive (map (third_pass busy) (xs ++ ns))) (admitted : AreAdmittedBy groups (map (third_pass busy) (xs ++ ns))) where
     keeps : (c : Claim) (v : Claimed) → keeps_out c v ≡ true → keeps_out c (third_pass busy v) ≡ true
@@ -169,7 +169,7 @@ module _ (xs : List Claimed) (stable : Settles xs xs) (are : AllByRecursion (λ 
 
 -- ---- what is granted
 
--- what did not come to a claim does not come to it with more claims behind
+-- what a claim did not get, it does not get with more claims after it
 asked_left : (xs ns : List Claimed) (x : Claimed) → with_asked xs x ≡ x → with_asked (xs ++ ns) x ≡ x
 asked_left xs ns x same = at (gets_asked xs x) refl
   where

@@ -1,4 +1,4 @@
--- What a new claim settles to behind settled ones is told by what is seen of those.
+-- What a new claim after settled ones settles to follows from what is seen of those.
 use Rattle.std.proofs.Common.{◌≡◌, ℕ, Bool, true, false, not, ◌&&◌, ◌||◌, cond, nat_lt, List, [], ◌∷◌, ◌++◌, fold, refl, sym, ap, ◌∙◌, arith}
 use Rattle.std.proofs.lemmas.Bool.{lt-ltb}
 use Rattle.std.proofs.lemmas.Bool.Decides.{nat_tests}
@@ -21,12 +21,12 @@ use Rattle.rmodel.proofs.settling.Settlement.{gathered, any_agree}
 
 -- ---- what is seen
 
--- a set that is added in one case alone
+-- a set that is added only in one case
 pub union_where : (all set : Set) (b : Bool) → union all (cond b set empty) ≡ cond b (union all set) all
 union_where all set true = refl
 union_where all set false = union_empty_right all
 
--- each set that is seen is gathered by itself
+-- each of the sets that are seen is gathered on its own
 seen_from : (all : Seen) (xs : List Claimed)
     → fold with_seen all xs ≡ record {
       active = fold (λ a x. cond (x.claim.write_half && is_active x) (union a x.claim.writes) a) all.active xs;

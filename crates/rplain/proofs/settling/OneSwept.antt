@@ -36,7 +36,7 @@ is_entitled_one b s a = status_told Entitled b (sym s) (sym a)
 pub is_waiting_one : (b : Status) → satisfied_by b ≡ false → active_by b ≡ false → Waiting ≡ b
 is_waiting_one b s a = status_told Waiting b (sym s) (sym a)
 
--- a satisfied claim, whether it is seen to stay or not
+-- a satisfied claim, whether or not it is quickly seen to stay
 pub satisfied_at : (b : Status) (stays : Bool) → satisfied_by b ≡ true → cond stays Satisfied Satisfied ≡ b
 satisfied_at b true s = is_satisfied_one b s
 satisfied_at b false s = is_satisfied_one b s
@@ -154,7 +154,7 @@ read_none left c apart (z ∷ zs) within =
     ∙ none_read (stands left z) (not z.claim.write_half || is_earlier_write c z.claim)) i
     || read_none left c apart zs within.1 i)
 
--- so that looking there first tells the same
+-- so testing that first gives the same answer
 pub read_guarded : (left : Left) (c : Claim) (zs : List Claimed) → AreReadWithin left.read zs → (meets left.read c.writes && is_read_still left zs c) ≡ is_read_still left zs c
 read_guarded left c zs within = at (meets left.read c.writes) refl
   where
@@ -169,7 +169,7 @@ past_guarded left c zs within = at (meets left.read c.places) refl
     at true is = refl
     at false is = sym (ap (is_past zs c) (near_none left c.places is zs within) ∙ ap (λ n. (n == 0) || is_clear zs c empty) (len-empty nat_cmp))
 
--- ---- what holds a write up: what the satisfied writes before it write, or who reads what it writes
+-- ---- what holds a write up: what the satisfied writes before it write, or whoever reads what it writes
 
 pub last : (a b c : Bool) → ((a || b) || c) ≡ ((a || b) || (c || b))
 last true b c = refl

@@ -1,4 +1,4 @@
--- The claims of one seat: the first of them tells what the seat holds, and mostly it is the only one.
+-- The claims of one seat: the first of them decides what the seat holds, and mostly it is the only one.
 use Rattle.std.proofs.Common.{◌≡◌, ℕ, suc, ◌+◌, ◌<◌, ◌==◌, nat_lt, Bool, true, false, not, ◌&&◌, ◌||◌, cond, List, [], ◌∷◌, ◌++◌, filter, find, fold, length, get_or, take, drop, Option, Some, None, refl, sym, ap, subst, ◌∙◌, arith, add-one}
 use Rattle.std.proofs.lemmas.Bool.{eqb-true, eq-eqb}
 use Rattle.std.proofs.lemmas.List.Elements.{filter-append}
@@ -100,7 +100,7 @@ module _ (seat : ℕ) where
       at None found = ap (λ g. is_nothing g || has_ask xs seat) (none_holds xs found) ∙ (λ i. (zero_members i && zero_members i) || has_ask xs seat)
       at (Some x) found = let told = first_holds xs x alone found in (λ i. is_nothing (told.holds i) || told.asks i)
 
--- ---- a claim that is no read half is the only one of its seat
+-- ---- a claim that is not a read half is the only one of its seat
 
 module _ (p : Claimed → Bool) where
   abbrev q : Claimed → Bool
@@ -151,7 +151,7 @@ module _ (p : Claimed → Bool) where
         ∙ ap (λ b. fold (λ all x. cond (p x) (with_left all x) all) (cond b (with_left none x) none) (drop (n + 1) xs)) first.here
         ∙ none_gone_of (with_left none x) (drop (n + 1) xs) behind
 
--- of a seat, the claims behind one that is no read half are none
+-- no claim of a seat comes after one that is not a read half
 pub behind_whole : (seat n : ℕ) (xs : List Claimed) (d : Claimed) → n < length xs → EachPair Distinct xs → (get_or xs n d).claim.seat ≡ seat → is_read_half (get_or xs n d).claim ≡ false
     → AllByRecursion (λ y. is_of seat y ≡ false) (drop (n + 1) xs)
 behind_whole seat n xs d h distinct of_seat whole =

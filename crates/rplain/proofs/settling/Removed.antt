@@ -1,4 +1,4 @@
--- What a removal leaves: settled claims of which some are gone.
+-- What a removal leaves: settled claims, without some of them.
 use Rattle.std.proofs.Common.{◌≡◌, Bool, true, false, not, ◌&&◌, ◌||◌, cond, List, [], ◌∷◌, filter, fold, refl, sym, ap, subst, ◌∙◌, inl, inr}
 use Rattle.std.proofs.lemmas.Bool.{or_left, or_right, or_cases, or_parts, and_parts, and_from}
 use Rattle.std.specs.List.{list_any}
@@ -91,7 +91,7 @@ module _ (groups : List Set) (goes : Claimed → Bool) (ever : Set) (p : List Cl
   at_rest : (x : Claimed) → Among x xs → SettlesAt p p x x
   at_rest x there = all_at (λ x. SettlesAt p p x x) p x (all_of_itself (SettlesAt p p) p stable) (among_filter stay p x there).0
 
-  -- a write that goes and one that stays do not both keep a read out
+  -- a write that goes and a write that stays do not both keep a read out
   not_both_keep : (r v w : Claimed) → Among r p → r.claim.write_half ≡ false → Among v p → goes v ≡ true → keeps_out r.claim v ≡ true → Among w xs → keeps_out r.claim w ≡ false
   not_both_keep r v w there read in_p gone keeps_v in_xs =
       let kept = among_filter stay p w in_xs in
@@ -103,7 +103,7 @@ module _ (groups : List Set) (goes : Claimed → Bool) (ever : Set) (p : List Cl
         ]
       ]
 
-  -- an unsatisfied read that what is gone kept waiting is kept out no more
+  -- an unsatisfied read that what is gone kept waiting is no longer kept out
   freed_read : (r : Claimed) → Among r p → IsClaim r.claim → r.claim.write_half ≡ false → meets left.written r.claim.reads ≡ true → is_kept_out xs r.claim ≡ false
   freed_read r there is read met =
       let found = passing (λ x. (goes x && (x.claim.write_half && is_active x)) && meets x.claim.writes r.claim.reads) p (sym (written_meets goes ever p r.claim.reads) ∙ met) in
@@ -114,7 +114,7 @@ module _ (groups : List Set) (goes : Claimed → Bool) (ever : Set) (p : List Cl
       and_from (v.claim.write_half && is_active v) (conflicts v.claim r.claim) first.1 (conflicts_with_read v.claim r.claim (is.read_only read) ∙ parts.1) in
       none_from (keeps_out r.claim) xs (λ w in_xs. not_both_keep r v w there read found.1 first.0 keeps in_xs)
 
-  -- another is kept out still
+  -- any other unsatisfied read is still kept out
   kept_read : (r : Claimed) → Among r p → IsClaim r.claim → r.claim.write_half ≡ false → is_kept_out p r.claim ≡ true → meets left.written r.claim.reads ≡ false → is_kept_out xs r.claim ≡ true
   kept_read r there is read out apart =
       let found = passing (keeps_out r.claim) p out in
@@ -137,7 +137,7 @@ module _ (groups : List Set) (goes : Claimed → Bool) (ever : Set) (p : List Cl
       (λ met. freed_read r there is read met ∙ ap not (sym met))
       (λ apart. kept_read r there is read (so_from (is_kept_out p r.claim) none.1) apart ∙ ap not (sym apart))
 
-  -- an entitled write that shares nothing with what is gone is held up still
+  -- an entitled write that shares nothing with what is gone is still held up
   held : (c : Claimed) → Among c xs → IsClaim c.claim → c.claim.write_half ≡ true → is_active c ≡ true → is_satisfied c ≡ false → meets left.freed c.claim.places ≡ false → is_held_up xs c.claim ≡ true
   held c in_xs is write active unsat apart =
       let none = or_parts (is_satisfied c) (is_active c && not (is_held_up p c.claim)) (sym ((at_rest c in_xs).satisfaction write) ∙ unsat) in

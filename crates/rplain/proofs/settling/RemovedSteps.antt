@@ -1,4 +1,4 @@
--- A finish and a rise leave claims of a settled list of which some are gone.
+-- A finish and a rise leave the claims of a settled list, without some of them.
 use Rattle.std.proofs.Common.{◌≡◌, Bool, not, filter, List, subst}
 use Rattle.rset.specs.Sets.{Set}
 use Rattle.rclaim.specs.declared.event.Event.{Event}

@@ -1,4 +1,4 @@
--- What requests have read so far, and whether anything was asked for so far: what these tell of the claims holds after a step too.
+-- What requests have read so far, and whether anything was asked for so far: what these say about the claims also holds after a step.
 use Rattle.std.proofs.Common.{◌≡◌, ℕ, Bool, true, false, not, nat_lt, ◌&&◌, ◌||◌, ◌==◌, cond, fold, List, [], ◌∷◌, ◌++◌, map, filter, refl, sym, ap, subst, ◌∙◌}
 use Rattle.std.proofs.lemmas.Bool.{or_parts}
 use Rattle.std.proofs.lemmas.List.Folds.{list_any-append}
@@ -125,7 +125,7 @@ pub past_unread : (read : Set) (c : Claim) (xs : List Claimed) → meets read c.
 past_unread read c xs apart within =
     ap (is_past xs c) (near_unread read c.places apart xs within) ∙ ap (λ n. (n == 0) || is_clear xs c empty) (len-empty nat_cmp)
 
--- ---- and what that settles to
+-- ---- what it settles to
 
 module _ (s : LockState) (e : Event) (sound : IsSound s) (comes : Comes s e) where
   pub within_next : (read : Set) → AreReadWithin read (changed s e).claims → AreReadWithin read (next s e).claims

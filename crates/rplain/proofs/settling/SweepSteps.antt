@@ -1,4 +1,4 @@
--- The pass over the claims that a removal leaves, claim by claim: what holds of the list when the pass has come to a place.
+-- The pass over the claims that a removal leaves, claim by claim: what holds of the list when the pass has reached a place.
 use Rattle.std.proofs.Common.{◌≡◌, ℕ, ◌+◌, ◌<◌, ◌≤◌, ◌==◌, Bool, true, false, cond, List, [], ◌∷◌, ◌++◌, length, get_or, take, drop, refl, sym, ap, subst, ◌∙◌, arith}
 use Rattle.std.proofs.Math.ListN.{set}
 use Rattle.std.proofs.lemmas.Bool.Decides.{nat_tests}
@@ -25,7 +25,7 @@ use Rattle.rplain.proofs.settling.Barred.{between}
 use Rattle.rplain.proofs.settling.OneSwept.{fold_zip}
 use Rattle.rplain.proofs.settling.Sweeping.{swept_at, reads_only, as_long}
 
--- the pass over the claims `first` has come to the place i: those before are settled, and this is seen of them and was told
+-- the pass over the claims `first` has reached the place i: those before are settled, this is seen of them, and this was reported
 pub record SweptTo (first xs : List Claimed) (i : ℕ) (seen : Seen) (told : ChangeLists) : Type 0 where
   pub told_to : ToldTo first (settled first) xs i told
   pub is_seen : seen ≡ seen_of (take i (settled first))
@@ -34,7 +34,7 @@ pub begins : (xs : List Claimed) (told : ChangeLists) → told ≡ no_changes �
 unfolding seen_of
 begins xs told none = record { told_to = told_begins xs (settled xs) told none; is_seen = refl }
 
--- a claim that is seen to stay
+-- a claim that is quickly seen to stay
 pub stays_swept : (left : Left) (seen : Seen) (xs : List Claimed) (x : Claimed) → remains left seen x ≡ true → swept left seen xs x ≡ x
 unfolding swept
 stays_swept left seen xs x stays = ap (λ b. cond b x (with_status x (swept_status left seen xs x))) stays
@@ -57,7 +57,7 @@ swept_same left seen xs x = at (remains left seen x)
     at true = refl
     at false = refl
 
--- a write is seen to stay where it is by the test of writes
+-- a write is quickly seen to stay exactly where the test of writes says so
 pub write_stays : (left : Left) (seen : Seen) (x : Claimed) → x.claim.write_half ≡ true → remains left seen x ≡ write_remains left seen x
 write_stays left seen x write = ap (λ b. cond b (write_remains left seen x) (read_remains left seen x)) write
 
@@ -134,7 +134,7 @@ pub seen_none : no_seen ≡ seen_of []
 unfolding seen_of
 seen_none = refl
 
--- it reads their claims and statuses alone
+-- it depends only on their claims and statuses
 pub seen_standing : (t u : List Claimed) → AllZip SameStanding t u → seen_of t ≡ seen_of u
 unfolding seen_of
 seen_standing t u same = fold_zip SameStanding with_seen with_seen
@@ -144,7 +144,7 @@ pub seen_more : (xs : List Claimed) (y : Claimed) → with_seen (seen_of xs) y �
 unfolding seen_of
 seen_more xs y = sym (fold-append with_seen no_seen xs (y ∷ []))
 
--- ---- where no claim is left, nothing is to settle
+-- ---- where no claim is left, there is nothing to settle
 
 no_claim : (xs : List Claimed) → (length xs == 0) ≡ true → [] ≡ xs
 no_claim xs none = sym (nil_from_length xs (grind (arith, nat_tests)))

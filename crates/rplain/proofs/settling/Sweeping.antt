@@ -130,7 +130,7 @@ module _ (xs : List Claimed) (left : Left) (is_left : IsLeft xs left) where
     reads : v.claim.write_half ≡ false → stands left u ≡ is_satisfied v
     writes : v.claim.write_half ≡ true → nat_lt v.claim.stamp n ≡ true → is_satisfied u ≡ is_satisfied v
 
-  -- it was passed
+  -- the pass is already past it
   beside_itself : (n : ℕ) (x y : Claimed) → Falls x y → Beside n y y
   beside_itself n x y f = record {
     claim = refl;
@@ -142,7 +142,7 @@ module _ (xs : List Claimed) (left : Left) (is_left : IsLeft xs left) where
     writes = λ w low. refl;
   }
 
-  -- it is to come
+  -- the pass has yet to reach it
   beside_later : (n : ℕ) (x y : Claimed) → Falls x y → n ≤ x.claim.stamp → Beside n x y
   beside_later n x y f late = record {
     claim = sym f.at.same;
@@ -177,7 +177,7 @@ module _ (xs : List Claimed) (left : Left) (is_left : IsLeft xs left) where
         ∙ near_same v.claim.write_half (stands left u) (is_satisfied v) (meets v.claim.reads s) all (union all v.claim.reads) b.reads)
         empty us vs zip
 
-  -- what is held up stays so
+  -- what is held up stays held up
   held_on : (c : Claim) → is_held_up xs c ≡ true → is_held_up t c ≡ true
   held_on c = some_second (SettlesAt xs t) _ _
       (λ x y a h.
@@ -225,13 +225,13 @@ module _ (xs : List Claimed) (left : Left) (is_left : IsLeft xs left) where
         (each_second Falls P (λ a b f. ap (λ (c : Claim). is_subset c.reads left.read) f.at.same ∙ f.was.within) was done before)
         (behind P was (x ∷ rest) (subst (λ (l : List Claimed). AreReadWithin left.read l) (sym all) is_left.within))
 
-    -- a write that is barred does not enter
+    -- a barred write does not enter
     barred_out : meets (bars_of done) x.claim.places ≡ true → may_enter t y.claim ≡ false
     barred_out h =
         sym (has_way_is t y.claim reads_only) ∙ ap (λ l. has_way l y.claim) (sym whole)
         ∙ barred_in done tail y well_whole (ap (λ c. meets (bars_of done) c.places) (sym same) ∙ h)
 
-    -- another enters where no read stands between
+    -- any other write enters where no read stands between
     way_is : meets (bars_of done) x.claim.places ≡ false → is_past_still left us x.claim ≡ may_enter t y.claim
     unfolding has_way
     way_is h =
@@ -330,7 +330,7 @@ module _ (xs : List Claimed) (left : Left) (is_left : IsLeft xs left) where
           at true is = refl
           at false is = refl
 
-  -- the same by places
+  -- the same, by place
   pub swept_at : (i : ℕ) (d : Claimed) (cur : List Claimed) (seen : Seen) → i < length xs → cur ≡ take i t ++ drop i xs → seen ≡ seen_of (take i t) → swept left seen cur (get_or xs i d) ≡ get_or t i d
   swept_at i d cur seen h is_cur is_seen =
       let long : length xs ≡ length t = length_all_zip Falls xs t falls in

@@ -1,4 +1,4 @@
--- A pass that changes the claims of a list one after another, and tells what changes of each.
+-- A pass that changes the claims of a list one after another, and reports the changes of each.
 use Rattle.std.proofs.Common.{◌≡◌, ℕ, ◌+◌, ◌<◌, ◌≤◌, List, [], ◌∷◌, ◌++◌, length, get_or, take, drop, refl, sym, ap, subst, ◌∙◌, arith}
 use Rattle.std.proofs.Math.ListN.{set, length-set}
 use Rattle.std.proofs.lemmas.List.{take_more, take_more_set, drop-set-lt, take_all, length-take-le}
@@ -10,8 +10,8 @@ use Rattle.rmodel.specs.declared.claimed.Claimed.{Claimed}
 use Rattle.rmodel.specs.Changes.{status_change, grant_change, status_changes, grant_changes, with_change}
 use Rattle.rplain.proofs.settling.ChangeSteps.{first_of_rest, statuses_more, grants_more, one_more}
 
--- the pass that makes the claims `last` of the claims `first` has come to the place i: those before are as they will be,
--- the rest is as it was, and this was told of those before
+-- the pass that turns the claims `first` into the claims `last` has reached the place i: those before are as they will be,
+-- the rest is as it was, and this was reported of those before
 pub record ToldTo (first last xs : List Claimed) (i : ℕ) (told : ChangeLists) : Type 0 where
   pub done : take i xs ≡ take i last
   pub rest : drop i xs ≡ drop i first
@@ -50,7 +50,7 @@ module _ (first last : List Claimed) (long : length last ≡ length first) (xs :
     pub as_at_first : get_or xs i d ≡ get_or first i d
     as_at_first = same.0
 
-    -- the pass goes on by one claim
+    -- the pass takes one more claim
     pub told_on : (y : Claimed) → y ≡ get_or last i d → ToldTo first last (set xs i y) (i + 1) (with_change told (get_or xs i d) y)
     told_on y made =
         let x = get_or xs i d in

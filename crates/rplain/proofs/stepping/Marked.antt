@@ -1,4 +1,4 @@
--- The marks of the seats, the count of read halves and the place of a seat's first claim: what they tell, and that they stay right.
+-- The marks of the seats, the count of read halves and the place of a seat's first claim: what they say, and that they stay right.
 use Rattle.std.proofs.Common.{◌≡◌, ◌≢◌, ℕ, ◌+◌, ◌-◌, ◌<◌, ◌≤◌, ◌==◌, nat_lt, Bool, true, false, not, ◌&&◌, ◌||◌, cond, List, [], ◌∷◌, ◌++◌, map, filter, find, length, get_or, Option, Some, None, refl, sym, ap, subst, ◌∙◌, arith}
 use mir.Val.{bool_byte}
 use Rattle.std.proofs.Math.ListN.{set}
@@ -134,7 +134,7 @@ some_stands p (x ∷ xs) = at (p x) (some_stands p xs)
     at true rest = lt-ltb 0 (length (x ∷ xs)) (omega arith)
     at false rest = later (position_or_len p xs) (length xs) (length (x ∷ xs)) (omega arith) ∙ rest
 
--- a seat has a place where it has a request
+-- a seat has a place exactly where it has a request
 pub placed_where : (p : Claimed → Bool) (xs : List Claimed) → is_some (position p xs) ≡ list_any p xs
 placed_where p xs = filled (nat_lt (position_or_len p xs) (length xs)) ∙ some_stands p xs
   where
@@ -173,7 +173,7 @@ module _ (seat : ℕ) (xs : List Claimed) where
 abbrev half_of : ℕ → Claimed → Bool
 half_of seat x = (x.claim.seat == seat) && is_read_half x.claim
 
--- behind a claim of a seat stands no read half of it
+-- no read half of a seat comes after a claim of that seat
 no_half_behind : (seat : ℕ) (x : Claimed) (xs : List Claimed) → AllByRecursion (Distinct x) xs → (x.claim.seat == seat) ≡ true → list_any (half_of seat) xs ≡ false
 no_half_behind seat x xs distinct is =
     none_from (half_of seat) xs (λ y there. false_from (half_of seat y) (λ half.
@@ -232,7 +232,7 @@ as_number false = refl
 abbrev half : Claimed → Bool
 half x = is_read_half x.claim
 
--- the claims that are no read halves are the rest
+-- the claims that are not read halves are the rest
 pub whole_are : (xs : List Claimed) → length xs - count_by half xs ≡ count_by (λ x. not (is_read_half x.claim)) xs
 whole_are xs = let both = sum xs in omega arith
   where
@@ -253,7 +253,7 @@ whole_are xs = let both = sum xs in omega arith
             by true one other = omega (arith, one, other, rest)
             by false one other = omega (arith, one, other, rest)
 
--- an issue adds one where it is of an upgrade
+-- an issue of an upgrade adds one
 pub issued_halves : (xs : List Claimed) (groups : List Set) (stamp seat : ℕ) (r : RequestFields)
     → count_by half (xs ++ map (waiting r.first) (claims_of groups stamp seat r)) ≡ count_by half xs + cond (is_upgrade r.kind) 1 0
 issued_halves xs groups stamp seat r = sum_by-append (λ x. cond (half x) 1 0) xs (map (waiting r.first) (claims_of groups stamp seat r)) ∙ ap (λ n. count_by half xs + n) (by r.kind)
@@ -265,7 +265,7 @@ issued_halves xs groups stamp seat r = sum_by-append (λ x. cond (half x) 1 0) x
     by Upgrade = refl
     by Nested = refl
 
--- of those of a seat there is one where its upgrade may rise
+-- a seat has one where its upgrade may rise
 one_half : (seat : ℕ) (xs : List Claimed) → EachPair Distinct xs → count_by (half_of seat) xs ≡ cond (may_rise xs seat) 1 0
 one_half seat [] distinct = refl
 one_half seat (x ∷ xs) distinct =
@@ -281,7 +281,7 @@ one_half seat (x ∷ xs) distinct =
         sum_none : (n : ℕ) → (0 + 0) + n ≡ n
         sum_none n = omega arith
 
--- where those of a seat go
+-- where those of a seat are removed
 halves_gone : (seat : ℕ) (goes : Claimed → Bool) → ((x : Claimed) → half x ≡ true → goes x ≡ is_of seat x) → (xs : List Claimed)
     → count_by half xs ≡ count_by half (filter (λ x. not (goes x)) xs) + count_by (half_of seat) xs
 halves_gone seat goes same [] = refl
@@ -331,7 +331,7 @@ risen_halves seat xs distinct rises =
     halves_gone seat (is_read_of seat) (λ x h. ap (λ b. (x.claim.seat == seat) && not b) (read_of_half x.claim h) ∙ and_true (x.claim.seat == seat)) xs
     ∙ ap (λ n. count_by half (filter (λ x. not (is_read_of seat x)) xs) + n) (one_half seat xs distinct ∙ ap (λ b. cond b 1 0) rises)
 
--- an accepted rise is one of an upgrade that may
+-- an accepted rise is that of an upgrade that may rise
 pub rises : (s : LockState) (seat : ℕ) → Accepts s (Rise seat) → may_rise s.claims seat ≡ true
 rises s seat accepted = from_not (may_rise s.claims seat) (passed _ _ _ (passed _ _ _ accepted).1).0
   where
@@ -339,7 +339,7 @@ rises s seat accepted = from_not (may_rise s.claims seat) (passed _ _ _ (passed 
     from_not true h = refl
     from_not false h = sym h
 
--- ---- and what an event leaves settles to the same claims
+-- ---- what an event leaves settles to the same claims
 
 pub next_same : (s : LockState) (e : Event) → IsSound s → Comes s e → AllZip SameClaim (changed s e).claims (next s e).claims
 next_same s e sound comes =

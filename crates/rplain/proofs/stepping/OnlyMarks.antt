@@ -1,4 +1,4 @@
--- No seat is marked but those of the claims: each mark goes with its request.
+-- Only the seats of claims are marked: a mark is removed with its request.
 use Rattle.std.proofs.Common.{◌≡◌, ℕ, ◌<◌, ◌==◌, true, false, not, ◌&&◌, ◌||◌, Bool, List, ◌++◌, map, filter, length, get_or, refl, sym, ap, subst, ◌∙◌, inl, inr, ⊎_elim, arith}
 use Rattle.std.proofs.Math.ListN.{set, replicate}
 use Rattle.std.proofs.lemmas.Bool.{and_parts, eqb-true, eq-eqb, cases_lt}
@@ -30,7 +30,7 @@ pub none_only : (n : ℕ) (xs : List Claimed) → AreOnlyMarks (replicate n fals
 none_only n xs = λ seat marked. contrary (get_or (replicate n false) seat false) marked
     (⊎_elim (λ less. get_or-replicate n seat false false less) (λ more. get_or_past (replicate n false) seat false (let same = length-replicate n false in omega arith)) (cases_lt seat n))
 
--- an issue brings a claim of its seat that is no read half
+-- an issue adds a claim of its seat that is not a read half
 issued_whole : (groups : List Set) (stamp seat : ℕ) (r : RequestFields) → list_any (is_whole_of seat) (map (waiting r.first) (claims_of groups stamp seat r)) ≡ true
 issued_whole groups stamp seat r = by r.kind
   where
@@ -56,7 +56,7 @@ issued_only marks xs groups stamp seat r only = λ k marked.
     let w = passing (is_whole_of k) xs (only k (sym (get_or-set_other marks seat k true false (unequal k seat other)) ∙ marked)) in
     any_among (is_whole_of k) (xs ++ ns) w.0 (in_append xs ns w.0 w.1) w.2)
 
--- a finish takes the mark of its seat
+-- a finish removes the mark of its seat
 pub finished_only : (marks : List Bool) (xs : List Claimed) (seat : ℕ) → seat < length marks → AreOnlyMarks marks xs → AreOnlyMarks (set marks seat false) (filter (λ x. not (is_of seat x)) xs)
 finished_only marks xs seat h only = λ k marked.
     both_cases (k == seat)
@@ -67,7 +67,7 @@ finished_only marks xs seat h only = λ k marked.
     any_among (is_whole_of k) (filter (λ x. not (is_of seat x)) xs) w.0
     (in_filter (λ x. not (is_of seat x)) xs w.0 w.1 (ap not (ap (λ j. j == seat) (eqb-true w.0.claim.seat k parts.0) ∙ other))) w.2)
 
--- a rise takes a read half alone
+-- a rise removes only a read half
 pub risen_only : (marks : List Bool) (xs : List Claimed) (seat : ℕ) → EachPair Distinct xs → may_rise xs seat ≡ true → AreOnlyMarks marks xs → AreOnlyMarks marks (filter (λ x. not (is_read_of seat x)) xs)
 risen_only marks xs seat distinct rises only = λ k marked.
     let w = passing (is_whole_of k) xs (only k marked) in
@@ -87,7 +87,7 @@ risen_only marks xs seat distinct rises only = λ k marked.
           | inr (inr h) ↦ contrary x.claim.write_half (h (sym same)).writes (not_false x.claim.write_half parts.1)
         ]
 
--- claims that stay but for how far they have come keep all marks
+-- claims that change only in how far they are keep all marks
 pub same_only : (marks : List Bool) (xs ys : List Claimed) → AllZip SameClaim xs ys → AreOnlyMarks marks xs → AreOnlyMarks marks ys
 same_only marks xs ys zip only = λ k marked.
     some_second SameClaim (is_whole_of k) (is_whole_of k) (λ x y same h. ap (λ (c : Claim). (c.seat == k) && not (is_read_half c)) same ∙ h) xs ys zip (only k marked)

@@ -24,7 +24,7 @@ use Rattle.rmodel.proofs.telling.ChangesTold.{changes_told}
 use Rattle.rmodel.proofs.settling.Settlement.{settles_settled}
 use Rattle.rmodel.proofs.reaching.Soundness.{SameClaim, same_claims, sound_changed}
 
--- an event that comes to the lock state that contracts see comes to the one that is kept
+-- an event that may come in the lock state that contracts see may come in the one that is kept
 pub kept_comes : (a : Inside) (m : Standing) (e : Event) → standing_of a ≡ m → Fits m.state e → Accepts m.state e → IsNormalEvent e → Comes (state_of a) e
 kept_comes a m e view fits accepted normal = record {
   fits = subst (λ (n : Standing). Fits n.state e) (sym view) fits;

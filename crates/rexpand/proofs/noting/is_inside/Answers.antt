@@ -8,7 +8,7 @@ use Rattle.rexpand.specs.declared.TheConstants.{BLOCKS}
 use Rattle.rexpand.proofs.NotedLemmas.{inside_by_number, inside_no_number}
 use Rattle.rexpand.proofs.noting.is_inside.Goals as goal
 
--- a number that is there, with what is known of it
+-- a number in the set, with what is known of it
 number_of : (P Q : ℕ → Type 0) (n : Option ℕ) → is_some n ≡ true → IfSome n P → IfSome n Q → (j : ℕ) × P j × Q j
 number_of P Q None there p q = contrary true refl (sym there)
 number_of P Q (Some j) there p q = (j, p, q)

@@ -4,7 +4,7 @@ use Rattle.rmodel.specs.Steps.{with_asked}
 use Rattle.rmodel.proofs.settling.Giving.{asks_nothing, none_by_number}
 use Rattle.rplain.proofs.give.give_last.Goals as goal
 
--- a list has one last claim, and one list before it
+-- the last claim of a list, and the list before it, are unique
 same_ends : (xs ys : List Claimed) (x y : Claimed) → xs ++ x ∷ [] ≡ ys ++ y ∷ [] → (xs ≡ ys) × (x ≡ y)
 same_ends [] [] x y e = (refl, cc)
 same_ends [] (b ∷ []) x y e = cc

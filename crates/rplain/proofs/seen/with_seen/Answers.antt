@@ -5,7 +5,7 @@ use Rattle.rset.proofs.SetLemmas.{union_empty_right}
 use Rattle.rmodel.specs.Claims.{is_active, is_satisfied}
 use Rattle.rplain.proofs.seen.with_seen.Goals as goal
 
--- a set of a claim that is a write, or else empty
+-- a set that is empty unless the claim is a write
 of_write : (write holds : Bool) (all set : Set) → (write ≡ false → set ≡ empty) → cond holds (union all set) all ≡ cond (write && holds) (union all set) all
 of_write true holds all set none = refl
 of_write false true all set none = ap (union all) (none refl) ∙ union_empty_right all

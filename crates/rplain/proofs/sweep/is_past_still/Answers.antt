@@ -12,7 +12,7 @@ use Rattle.rplain.specs.Sweep.{is_near, with_near, still_near}
 use Rattle.rplain.proofs.sweep.is_past_still.Goals as goal
 use Rattle.rplain.proofs.sweep.is_past_still.Goals.{then-not-meets, else-not-meets}
 
--- where no read near goes on waiting, none of them reads anything
+-- where no read near these resources keeps waiting, such reads read nothing
 none_near : (left : Left) (s : Set) (xs : List Claimed) → list_any (is_near left s) xs ≡ false → still_near left xs s ≡ empty
 unfolding still_near
 none_near left s xs none = each empty xs none

@@ -12,7 +12,7 @@ use Rattle.rplain.proofs.settling.ChangeSteps.{no_change}
 use Rattle.rplain.proofs.settling.SweepSteps.{stays_swept}
 use Rattle.rplain.proofs.sweep.sweep_at.Goals as goal
 
--- a claim that is seen to stay, whatever stands for one where there is none
+-- a claim that is quickly seen to stay, whatever the default is
 stays_at : (left : Left) (seen : Seen) (xs : List Claimed) (i : ℕ) (e d : Claimed) → i < length xs → remains left seen (get_or xs i e) ≡ true → swept left seen xs (get_or xs i d) ≡ get_or xs i d
 stays_at left seen xs i e d h stays = stays_swept left seen xs (get_or xs i d) (ap (remains left seen) (sym (get_or_default xs i e d h)) ∙ stays)
 

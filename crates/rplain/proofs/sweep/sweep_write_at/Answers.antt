@@ -11,7 +11,7 @@ use Rattle.rplain.proofs.settling.ChangeSteps.{no_change}
 use Rattle.rplain.proofs.settling.SweepSteps.{stays_swept, swept_same, write_stays}
 use Rattle.rplain.proofs.sweep.sweep_write_at.Goals as goal
 
--- a write that is seen to stay, whatever stands for one where there is none
+-- a write that is quickly seen to stay, whatever the default is
 stays_at : (left : Left) (seen : Seen) (xs : List Claimed) (i : ℕ) (e d : Claimed) → i < length xs → (get_or xs i e).claim.write_half ≡ true
     → write_remains left seen (get_or xs i e) ≡ true → swept left seen xs (get_or xs i d) ≡ get_or xs i d
 stays_at left seen xs i e d h write stays =

@@ -2,7 +2,7 @@ use Rattle.std.proofs.Common.{◌≡◌, drop}
 use Rattle.rvalue.specs.Acts.{value_within}
 use Rattle.rvalue.proofs.entry.apply_edits.Given as goal
 
--- the edits that are left make of the value what all make of the first
+-- the remaining edits turn the value into what all edits make of the first value
 abbrev pub invariant-loop-act : goal.invariant-loop-act
 invariant-loop-act g l =
     let after = g.T.Editable.after in

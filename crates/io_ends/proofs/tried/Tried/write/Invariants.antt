@@ -11,6 +11,6 @@ invariant-loop-self g l = record {
   more : l.initial.self.interruptions ≤ l.self.interruptions;
 }
 
--- each try that is made again is one interruption more
+-- each repeated try adds one interruption
 abbrev pub decreases-loop-self : goal.decreases-loop-self
 decreases-loop-self g l = 2 ^ 64 - 1 - l.self.interruptions

@@ -2,7 +2,7 @@ use Rattle.std.proofs.Common.{◌≡◌, drop}
 use Rattle.rvalue.specs.Histories.{value_of}
 use Rattle.rvalue.proofs.history.History.value_of.Given as goal
 
--- the entries that are left make of the value what all make of the opening
+-- the remaining entries turn the value into what all entries make of the opening value
 abbrev pub invariant-loop-entry : goal.invariant-loop-entry
 invariant-loop-entry g l =
     let after = g.T.Editable.after in
