@@ -18,12 +18,13 @@ use Rattle.rmodel.specs.declared.claimed.Claimed.{Claimed}
 use Rattle.rmodel.specs.Reached.{IsReached}
 use Rattle.rmodel.specs.State.{LockState}
 use Rattle.rmodel.specs.Steps.{Comes, AreAccepted, next, after}
-use Rattle.rmodel.proofs.reaching.Histories.{sizes_after, issued_after, after_push, accepted_push}
+use Rattle.rmodel.proofs.reaching.Histories.{sizes_after, issued_after, after_push, accepted_push, steps_push}
 use Rattle.rmodel.proofs.reaching.Reached.{reached_after, reached_opening}
 use Rattle.rdrill.specs.Draws.{next_draw, drill_groups, drill_opening, kind_drawn}
-use Rattle.rdrill.specs.Drill.{Drawn, drawn_issue, drawn_by, drawn_holding, drawn_for, drawn_in, seat_drawn, Drill, drawn, one_more, drill_of, drill_events, latest_after, latest_of, at_seat, IsAt, steps_of}
+use Rattle.rdrill.specs.Drill.{Drawn, drawn_issue, drawn_by, drawn_holding, drawn_for, drawn_in, seat_drawn, Drill, drawn, one_more, drill_of, drill_events, latest_after, latest_of, at_seat, IsAt}
+use Rattle.rmodel.specs.Watching.{steps_of}
 use Rattle.rwatch.specs.Seen.{Seen, told, told_all}
-use Rattle.std.proofs.lemmas.List.Sums.{fold_push}
+use Rattle.rwatch.proofs.Given.{given_push}
 use Rattle.rdrill.proofs.Latest.{HasLatest, latest_push, latest_next}
 use Rattle.rdrill.proofs.DrawnRequests.{IsDrawn}
 use Rattle.rdrill.proofs.Coming.{comes_in}
@@ -199,14 +200,6 @@ comes_at n s x y latest e few at is =
 
 -- ---- what watchers are given
 
-steps_push : (s : LockState) (es : List Event) (e : Event) → steps_of s (es ++ e ∷ []) ≡ steps_of s es ++ (e, changes_between (after s es) (next (after s es) e)) ∷ []
-steps_push s [] e = refl
-steps_push s (d ∷ es) e = ap (λ more. (d, changes_between s (next s d)) ∷ more) (steps_push (next s d) es e)
-
-told_push : (steps : List (Event × ChangeLists)) (step : Event × ChangeLists) (ws : List Seen) → map (told step.0 step.1) (map (told_all steps) ws) ≡ map (told_all (steps ++ step ∷ [])) ws
-told_push steps step [] = refl
-told_push steps step (w ∷ ws) = (λ i. sym (fold_push (λ v (next : Event × ChangeLists). told next.0 next.1 v) w steps step) i ∷ told_push steps step ws i)
-
 -- after one more event all were given one more step
 pub told_next : (n : ℕ) (s t : LockState) (x : ℕ) (latest : List (Option RequestFields)) (first ws us : List Seen) → IsAt n s x latest → t ≡ next s (drawn (drill_of n)).event
     → ws ≡ map (told_all (steps_of drill_opening (drill_events n))) first → us ≡ map (told (drawn (drill_of n)).event (changes_between s t)) ws
@@ -218,7 +211,7 @@ told_next n s t x latest first ws us at steps told_so tells =
     tells
     ∙ (λ i. map (told e (changes_between s (steps i))) (told_so i))
     ∙ (λ i. map (told e (changes_between (at.state i) (next (at.state i) e))) (map (told_all (steps_of drill_opening (drill_events n))) first))
-    ∙ told_push (steps_of drill_opening (drill_events n)) (e, changes_between o (next o e)) first
+    ∙ given_push (steps_of drill_opening (drill_events n)) (e, changes_between o (next o e)) first
     ∙ ap (λ steps. map (told_all steps) first) (sym (steps_push drill_opening (drill_events n) e))
     ∙ ap (λ m. map (told_all (steps_of drill_opening (drill_events m))) first) (sym (add-one n))
 

@@ -4,17 +4,16 @@ use Rattle.std.proofs.Common.{zero, suc}
 use Rattle.std.specs.List.{range_with_len}
 use Rattle.std.specs.FinSet.{union, difference}
 use Rattle.rset.specs.Sets.{Set, equals}
-use Rattle.rclaim.specs.Changes.{ChangeLists}
 use Rattle.rclaim.specs.Requests.{RequestFields}
 use Rattle.rclaim.specs.declared.event.Event.{Event}
 use Rattle.rclaim.specs.declared.event.Event.TheVariants.{Issue, Finish, Rise, Ask}
 use Rattle.rclaim.specs.declared.request.Kind.{Kind}
 use Rattle.rclaim.specs.declared.request.Kind.TheVariants.{Read, Write, Mixed, Upgrade, Nested}
 use Rattle.rmodel.specs.declared.granted.Granted.{Granted}
-use Rattle.rmodel.specs.Changes.{changes_between, status_in}
+use Rattle.rmodel.specs.Changes.{status_in}
 use Rattle.rmodel.specs.Holds.{holds_of, has_request}
 use Rattle.rmodel.specs.State.{LockState}
-use Rattle.rmodel.specs.Steps.{is_not_holding, next, after}
+use Rattle.rmodel.specs.Steps.{is_not_holding, after}
 use Rattle.rdrill.specs.Draws.{drill_seats, drill_pairs, modulus, next_draw, drill_opening, kind_drawn, request_for}
 
 -- an event that was drawn, and the drawing number after it
@@ -103,11 +102,6 @@ drill_of (suc n) = one_more (drill_of n)
 -- its events
 abbrev pub drill_events : ℕ → List Event
 drill_events n = (drill_of n).events
-
--- the steps of these events: each event, and what it changes
-abbrev pub steps_of : LockState → List Event → List (Event × ChangeLists)
-steps_of s [] = []
-steps_of s (e ∷ es) = (e, changes_between s (next s e)) ∷ steps_of (next s e) es
 
 -- the latest request of a seat, in a list by seats
 abbrev pub at_seat : List (Option RequestFields) → ℕ → Option RequestFields

@@ -7,7 +7,8 @@ ghost use Rattle.rmodel.specs.Holds.{holds_of};
 ghost use Rattle.rmodel.specs.Steps.{AreAccepted, Comes, next, after};
 ghost use Rattle.rwatch.specs.Seen.{told, told_all};
 ghost use Rattle.rdrill.specs.Draws.{drill_seats, modulus, drill_opening};
-ghost use Rattle.rdrill.specs.Drill.{Drawn, IsAt, may_act, acting, either, drawn_issue, all_held, drawn_by, drawn_in, drawn, latest_after, at_seat, drill_of, drill_events, steps_of};
+ghost use Rattle.rdrill.specs.Drill.{Drawn, IsAt, may_act, acting, either, drawn_issue, all_held, drawn_by, drawn_in, drawn, latest_after, at_seat, drill_of, drill_events};
+ghost use Rattle.rmodel.specs.Watching.{steps_of};
 
 use crate::dice::Dice;
 use crate::requests::{DRILL_PAIRS, drill_groups, kind_drawn, request_for};

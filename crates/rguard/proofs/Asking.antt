@@ -36,7 +36,7 @@ use Rattle.rstate.proofs.homes.Moved.{place_among}
 use Rattle.rguard.specs.declared.kind.GuardKind.{GuardKind}
 use Rattle.rguard.specs.declared.kind.GuardKind.TheVariants as kinds
 use Rattle.rguard.specs.LentGuards.{KeepsValues, KeepsHolding}
-use Rattle.rguard.specs.LentSeats.{SeatOf, bare}
+use Rattle.rguard.specs.Seats.{SeatOf, bare}
 use Rattle.rguard.specs.LentSections.{SectionFields, lock_seen, held_at, value_seen, value_edited, HasRoom, ActsAreRight, HoldsFrom, WaitsFrom}
 use Rattle.rguard.proofs.seats.Acting.{held_more}
 use Rattle.rguard.proofs.seats.Claims.{is_of, of_seat, may_ask_by, of_seat_and, claim_asked}

@@ -27,7 +27,7 @@ use Rattle.rstate.specs.Lent.{LentFields}
 use Rattle.rstate.proofs.histories.Following.{lock_push, reached_lawful}
 use Rattle.rstate.proofs.homes.Lists.{same_item, get_there}
 use Rattle.rguard.specs.LentGuards.{kind_for}
-use Rattle.rguard.specs.LentSeats.{SeatOf, IsOf, SuitsSeat, Goes, IsOneTurn, bare, is_busy}
+use Rattle.rguard.specs.Seats.{SeatOf, IsOf, SuitsSeat, Goes, IsOneTurn, bare, is_busy}
 use Rattle.rguard.specs.LentSections.{IsAs, Knows, WaitsFrom, HasRoomWithin, room_for, writes_at_most}
 use Rattle.rguard.proofs.Rooms.{room_issued}
 use Rattle.rguard.proofs.seats.Claims.{issued_next, may_rise_next, may_ask_next}

@@ -22,7 +22,7 @@ use Rattle.rstate.specs.Lent.{LentFields, IsLent}
 use Rattle.rstate.proofs.histories.Following.{event_of, lock_is_after}
 use Rattle.rstate.proofs.histories.Staying.{edits_none}
 use Rattle.rstate.proofs.homes.Lists.{same_item}
-use Rattle.rguard.specs.LentSeats.{SeatOf, is_busy}
+use Rattle.rguard.specs.Seats.{SeatOf, is_busy}
 use Rattle.rguard.specs.LentSections.{held_at, HasTaken, value_seen, ActsAreRight}
 use Rattle.rguard.proofs.seats.Finding.{Finds, holding_later}
 use Rattle.rguard.proofs.seats.Idle.{busy_push}

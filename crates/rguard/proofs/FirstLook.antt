@@ -1,5 +1,5 @@
 -- A seat issues a request, and looks in the same turn: as if it had left the state between the two.
-use Rattle.std.proofs.Common.{◌≡◌, ℕ, Bool, true, false, List, [], ◌∷◌, ◌++◌, length, Some, refl, sym, ap, subst, ◌∙◌, append-nil}
+use Rattle.std.proofs.Common.{◌≡◌, ℕ, Bool, true, false, [], ◌∷◌, ◌++◌, length, Some, refl, sym, ap, subst, ◌∙◌, append-nil}
 use Rattle.std.specs.Prelude.{slice_get, slice_set}
 use Rattle.rclaim.specs.Events.{seat_of}
 use Rattle.rclaim.specs.Requests.{RequestFields}
@@ -9,13 +9,13 @@ use Rattle.rmodel.specs.declared.granted.Granted.{Granted}
 use Rattle.rmodel.specs.Holds.{holds_of}
 use Rattle.rvalue.specs.Entries.{EntryFields}
 use Rattle.rstate.specs.Contents.{Contents, lock_of, AreTaken, is_ready, IsLentNow}
-use Rattle.rstate.specs.Histories.{Beginning, lock_after, IsLawfulFrom}
+use Rattle.rstate.specs.Histories.{lock_after, IsLawfulFrom}
 use Rattle.rstate.specs.Lent.{LentFields}
 use Rattle.rstate.specs.Moves.{HasRoomFor}
 use Rattle.rstate.proofs.histories.Following.{reached_lawful}
 use Rattle.rstate.proofs.homes.Lists.{same_item, get_here}
 use Rattle.rguard.specs.LentGuards.{IsReady, kind_for}
-use Rattle.rguard.specs.LentSeats.{SeatOf, IsOf, bare, is_busy}
+use Rattle.rguard.specs.Seats.{SeatOf, IsOf, bare, is_busy}
 use Rattle.rguard.specs.LentSections.{HasTaken, Knows, HoldsFrom, WaitsFrom, room_for}
 use Rattle.rguard.proofs.Beginning.{waits_first}
 use Rattle.rguard.proofs.Looking.{ready_seen, held_is, may_take_lent, may_take_room, holds_now}

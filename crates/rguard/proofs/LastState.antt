@@ -14,7 +14,7 @@ use Rattle.rstate.specs.Histories.{Beginning, HaveBeenTold, IsLawfulFrom}
 use Rattle.rstate.proofs.histories.Following.{reached_lawful}
 use Rattle.rstate.proofs.homes.Lists.{same_item}
 use Rattle.rguard.specs.Closing.{IsLeft, IsClosedBy, IsToldTo}
-use Rattle.rguard.specs.LentSeats.{SeatOf, IsOf, IsIdle, is_busy}
+use Rattle.rguard.specs.Seats.{SeatOf, IsOf, IsIdle, is_busy}
 use Rattle.rguard.proofs.Ending.{sizes}
 use Rattle.rguard.proofs.seats.Idle.{idle_has_none}
 

@@ -24,7 +24,7 @@ use Rattle.rstate.proofs.histories.Following.{lock_push}
 use Rattle.rstate.proofs.homes.Lists.{same_item, get_here}
 use Rattle.rguard.specs.LentSections.{no_loans, SectionFields, held_at, AreShows, value_seen, HoldsFrom, WaitsFrom}
 use Rattle.rguard.specs.declared.kind.GuardKind.TheVariants as kinds
-use Rattle.rguard.specs.LentSeats.{SeatOf}
+use Rattle.rguard.specs.Seats.{SeatOf}
 use Rattle.rguard.proofs.seats.Claims.{may_rise_by, of_seat_and}
 use Rattle.rguard.proofs.Ending.{follows, there_now}
 use Rattle.rguard.proofs.seats.Finding.{Finds, claim_later, holding_later, reached_now}

@@ -28,7 +28,7 @@ use Rattle.rstate.proofs.homes.Moved.{place_among}
 use Rattle.rguard.specs.declared.kind.GuardKind.{GuardKind}
 use Rattle.rguard.specs.declared.kind.GuardKind.TheVariants.{Read, Write, Rise, Nest}
 use Rattle.rguard.specs.LentGuards.{IsReady}
-use Rattle.rguard.specs.LentSeats.{SeatOf}
+use Rattle.rguard.specs.Seats.{SeatOf}
 use Rattle.rguard.specs.LentSections.{held_at, HasTaken, IsAs, value_seen, AreCopies, HasLent, Knows, ActsAreRight, HoldsFrom, WaitsFrom, HasRoom, HasRoomWithin, claim_reads, claim_writes}
 use Rattle.rguard.proofs.Rooms.{room_within}
 use Rattle.rguard.proofs.seats.Acting.{held_more, places_held, answers_same}

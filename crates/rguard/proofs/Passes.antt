@@ -1,13 +1,13 @@
 -- The passes of a gate: those of its seats, and after them that of its scribe.
 use Rattle.std.proofs.Common.{◌≡◌, ℕ, zero, suc, ◌+◌, ◌<◌, ◌≤◌, List, [], ◌∷◌, ◌++◌, length, Some, refl, sym, ap, subst, ◌∙◌, inl, inr, ◌⊎◌, arith, length-append}
-use Rattle.std.specs.Prelude.{slice_get, slice_index_or, All, Any}
+use Rattle.std.specs.Prelude.{slice_get, All, Any}
 use Rattle.std.proofs.lemmas.Bool.{cases_lt}
 use Rattle.std.proofs.lemmas.Option.{get_or_from_slice_get}
 use Rattle.rlock.specs.Known.{GateId, Site, newcomer}
 use Rattle.rstate.specs.Contents.{Contents}
 use Rattle.rstate.proofs.homes.Lists.{same_item}
-use Rattle.rguard.specs.LentScribes.{IsScribeOf}
-use Rattle.rguard.specs.LentSeats.{SeatOf, IsOf, IsIdle}
+use Rattle.rguard.specs.Scribes.{IsScribeOf}
+use Rattle.rguard.specs.Seats.{SeatOf, IsOf, IsIdle}
 
 get_front : {X : Type 0} (xs ys : List X) (k : ℕ) → k < length xs → slice_get xs k ≡ slice_get (xs ++ ys) k
 get_front [] ys k less = absurd (omega arith)

@@ -1,6 +1,6 @@
 -- The room that the claims of a seat need: at most what its request is about.
-use Rattle.std.proofs.Common.{◌≡◌, ℕ, zero, suc, ◌+◌, ◌≤◌, ◌==◌, Bool, true, false, cond, ◌&&◌, ◌||◌, List, [], ◌∷◌, ◌++◌, map, length, refl, sym, ap, subst, ◌∙◌, arith}
-use Rattle.std.proofs.lemmas.Bool.{true≢false, eq-eqb, eqb-true, and_parts, and_from}
+use Rattle.std.proofs.Common.{◌≡◌, ℕ, zero, suc, ◌+◌, ◌≤◌, ◌==◌, Bool, true, false, cond, ◌&&◌, ◌||◌, List, ◌∷◌, map, length, refl, sym, ap, ◌∙◌, arith}
+use Rattle.std.proofs.lemmas.Bool.{true≢false, eq-eqb, and_parts, and_from}
 use Rattle.std.proofs.lemmas.List.Folds.{list_any-append}
 use Rattle.std.specs.List.{list_any}
 use Rattle.std.specs.FinSet.{contains, difference, empty}
@@ -14,12 +14,12 @@ use Rattle.rclaim.specs.declared.request.Kind.TheVariants as kinds
 use Rattle.rmodel.specs.declared.claimed.Claimed.{Claimed}
 use Rattle.rmodel.specs.declared.granted.Granted.{Granted}
 use Rattle.rmodel.specs.Claims.{claims_by, claims_of, is_upgrade, waiting}
-use Rattle.rmodel.specs.Holds.{held_by, holds_of, has_request, nothing, Alone}
+use Rattle.rmodel.specs.Holds.{held_by, holds_of, has_request, Alone}
 use Rattle.rmodel.specs.Reached.{IsReached}
 use Rattle.rmodel.specs.State.{LockState}
 use Rattle.rmodel.specs.Steps.{Comes, next}
 use Rattle.rmodel.specs.WellFormed.{EachPair}
-use Rattle.rmodel.proofs.ListFacts.{contrary, passing, any_among}
+use Rattle.rmodel.proofs.ListFacts.{passing, any_among}
 use Rattle.rmodel.proofs.reaching.HeldBySeat.{all_of, held_within, holding}
 use Rattle.rmodel.proofs.reaching.OneOfSeat.{each_alone}
 use Rattle.rstate.specs.Lent.{LentFields}

@@ -3,7 +3,7 @@ use Rattle.std.proofs.Common.{◌≡◌, [], refl, sym, ap, subst, ◌∙◌, ap
 use mathlib.Core.List.{IsPrefix}
 use Rattle.rlock.specs.Known.{entered, left}
 use Rattle.rstate.specs.Contents.{Contents}
-use Rattle.rguard.specs.LentSeats.{SeatOf, IsOneTurn}
+use Rattle.rguard.specs.Seats.{SeatOf, IsOneTurn}
 
 -- it was one turn, without an entry
 pub read_turn : {V E : Type 0} (k : SeatOf V E) (found : Contents V E) (pass later : SeatOf V E) → IsPrefix k.seen found.entries → pass ≡ entered k found.entries → later ≡ left pass found.entries found

@@ -7,7 +7,7 @@ use Rattle.rvalue.specs.Entries.{EntryFields}
 use Rattle.rvalue.specs.Histories.{value_of}
 use Rattle.rwatch.specs.Seen.{Seen}
 use Rattle.rstate.specs.Histories.{Beginning, HaveBeenTold, IsLawfulFrom}
-use Rattle.rguard.specs.LentSeats.{SeatOf}
+use Rattle.rguard.specs.Seats.{SeatOf}
 
 -- The entries are lawful from how the lock began, and each resource has the value that they make of its opening value
 pub record IsLeft {V E : Type 0} (after : V → E → V) (taken : V → E → Bool) (number : V → ℕ) (b : Beginning V) (entries : List (EntryFields E)) (values : List V) : Type 0 where

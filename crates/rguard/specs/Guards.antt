@@ -10,7 +10,7 @@ use Rattle.rvalue.specs.Entries.{EntryFields}
 use Rattle.rstate.specs.Histories.{IsLawfulFrom}
 use Rattle.rguard.specs.declared.kind.GuardKind.{GuardKind}
 use Rattle.rguard.specs.declared.kind.GuardKind.TheVariants.{Nest}
-use Rattle.rguard.specs.LentSeats.{SeatOf, bare, Goes, IsOneTurn}
+use Rattle.rguard.specs.Seats.{SeatOf, bare, Goes, IsOneTurn}
 pub use Rattle.rguard.specs.LentGuards.{GuardFields, kind_for, AsSeen, Holding, HoldingToWrite, IsReady, HasValue, IsPartOf, KeepsValues, KeepsHolding}
 
 -- a wait: the same, and the kind of the guard that comes of it

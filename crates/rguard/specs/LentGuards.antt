@@ -14,7 +14,7 @@ use Rattle.rstate.specs.Histories.{Beginning, lock_after, writes_of}
 use Rattle.rstate.specs.Laws.{is_held_by}
 use Rattle.rguard.specs.declared.kind.GuardKind.{GuardKind}
 use Rattle.rguard.specs.declared.kind.GuardKind.TheVariants.{Read, Write, Rise, Nest}
-use Rattle.rguard.specs.LentSeats.{SeatOf}
+use Rattle.rguard.specs.Seats.{SeatOf}
 
 -- a guard: the lock, the seat, and what its section has done so far
 pub record GuardFields (V E : Type 0) : Type 0 where

@@ -25,7 +25,7 @@ use Rattle.rstate.specs.Histories.{Beginning, lock_after, reads_of, writes_of, I
 use Rattle.rstate.specs.Lent.{LentFields, IsLent, Once, has, places}
 use Rattle.rguard.specs.declared.kind.GuardKind.{GuardKind}
 use Rattle.rguard.specs.declared.kind.GuardKind.TheVariants.{Read, Write, Rise, Nest}
-use Rattle.rguard.specs.LentSeats.{SeatOf, Goes, IsOneTurn, bare}
+use Rattle.rguard.specs.Seats.{SeatOf, Goes, IsOneTurn, bare}
 use Rattle.rguard.specs.LentGuards.{GuardFields, IsReady}
 
 -- a section: the lock, the seat, what is lent to it, its own copies of what it has edited, and its acts

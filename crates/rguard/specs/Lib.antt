@@ -7,7 +7,5 @@ pub mod Resting
 pub mod Sections
 pub mod Copies
 pub mod LentGuards
-pub mod LentScribes
-pub mod LentSeats
 pub mod LentSections
 pub mod Closing

@@ -1,8 +1,8 @@
 //! What is left of a closed gate.
 ghost use Rattle.std.specs.Prelude.{◌≡◌, ℕ, ◌<◌, All, Any, map};
 ghost use Rattle.std.specs.Arc.{arc_value};
-ghost use Rattle.rguard.specs.LentScribes.{IsScribeOf};
-ghost use Rattle.rguard.specs.LentSeats.{IsOf, IsIdle};
+ghost use Rattle.rguard.specs.Scribes.{IsScribeOf};
+ghost use Rattle.rguard.specs.Seats.{IsOf, IsIdle};
 ghost use Rattle.rguard.specs.Closing.{IsClosedBy, IsToldTo};
 
 use crate::counted::CountedGate;

@@ -1,6 +1,6 @@
 //! A section that begins with a look in the turn of its issue.
 ghost use Rattle.std.specs.Prelude.{◌≡◌, true, false, [], IfOk, IfErr};
-ghost use Rattle.rguard.specs.LentSeats.{IsOf, IsIdle, SuitsSeat, Goes, IsOneTurn};
+ghost use Rattle.rguard.specs.Seats.{IsOf, IsIdle, SuitsSeat, Goes, IsOneTurn};
 ghost use Rattle.rguard.specs.LentGuards.{kind_for};
 ghost use Rattle.rguard.specs.LentSections.{Holds, Waits, HasIssued, room_for};
 

@@ -3,8 +3,8 @@ ghost use Rattle.std.specs.Prelude.{◌≡◌, ℕ, ◌+◌, ◌<◌, ◌≤◌,
 ghost use Rattle.rmodel.specs.Holds.{nothing};
 ghost use Rattle.rlock.specs.Known.{newcomer};
 ghost use Rattle.rstate.specs.Histories.{Beginning};
-ghost use Rattle.rguard.specs.LentScribes.{IsScribeOf};
-ghost use Rattle.rguard.specs.LentSeats.{IsOf, IsIdle};
+ghost use Rattle.rguard.specs.Scribes.{IsScribeOf};
+ghost use Rattle.rguard.specs.Seats.{IsOf, IsIdle};
 
 use crate::counted::CountedGate;
 use crate::scribe::Scribe;

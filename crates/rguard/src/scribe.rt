@@ -1,7 +1,7 @@
 //! A turn that reads the history.
 ghost use Rattle.std.specs.Prelude.{◌≡◌, ◌≤◌, ◌++◌, [], map, drop, length, IfOk, IfErr, OnOk, OnErr};
-ghost use Rattle.rguard.specs.LentSeats.{Goes, IsOneTurn};
-ghost use Rattle.rguard.specs.LentScribes.{IsScribeOf, HasReadLawful, events_from};
+ghost use Rattle.rguard.specs.Seats.{Goes, IsOneTurn};
+ghost use Rattle.rguard.specs.Scribes.{IsScribeOf, HasReadLawful, events_from};
 
 use crate::counted::CountedGate;
 use rclaim::Event;

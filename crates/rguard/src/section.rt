@@ -2,7 +2,7 @@
 ghost use Rattle.std.specs.Prelude.{◌≡◌, ◌<◌, true, ◌++◌, ◌∷◌, [], length, vec_capacity, IfOk, OnOk, OnErr};
 ghost use Rattle.rclaim.specs.declared.event.Event.TheVariants.{Finish};
 ghost use Rattle.rvalue.specs.declared.act.Act.TheVariants.{Edited, Shown};
-ghost use Rattle.rguard.specs.LentSeats.{Goes, IsOneTurn, IsIdle, bare};
+ghost use Rattle.rguard.specs.Seats.{Goes, IsOneTurn, IsIdle, bare};
 ghost use Rattle.rguard.specs.LentGuards.{Holding, HoldingToWrite, HasValue};
 ghost use Rattle.rguard.specs.LentSections.{Holds, Ends, guarded, may_edit};
 ghost use Rattle.rguard.specs.declared.kind.GuardKind.{GuardKind};

@@ -1,7 +1,7 @@
 //! The turns of a section: it begins to wait, looks, rises, and asks.
 ghost use Rattle.std.specs.Prelude.{◌≡◌, true, false, ◌∷◌, [], IfOk, IfErr, OnOk};
 ghost use Rattle.rclaim.specs.declared.event.Event.TheVariants.{Issue, Rise, Ask};
-ghost use Rattle.rguard.specs.LentSeats.{IsOf, IsIdle, SuitsSeat, Goes, IsOneTurn, ComesBack, bare};
+ghost use Rattle.rguard.specs.Seats.{IsOf, IsIdle, SuitsSeat, Goes, IsOneTurn, ComesBack, bare};
 ghost use Rattle.rguard.specs.LentGuards.{IsPartOf, IsReady, KeepsValues, KeepsHolding, kind_for};
 ghost use Rattle.rguard.specs.LentSections.{HasRoom, Holds, Waits, HasLooked, guarded, no_loans, room_for};
 ghost use Rattle.rguard.specs.declared.kind.GuardKind.{GuardKind};

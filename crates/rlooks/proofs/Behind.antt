@@ -1,5 +1,5 @@
 -- What a scribe has read on comes after what the feed was fed.
-use Rattle.std.proofs.Common.{◌≡◌, ℕ, Bool, List, [], ◌++◌, map, drop, length, Some, refl, sym, ap, subst, ◌∙◌, append_assoc}
+use Rattle.std.proofs.Common.{◌≡◌, ℕ, Bool, List, [], ◌++◌, drop, length, Some, sym, ap, subst, ◌∙◌, append_assoc}
 use Rattle.std.proofs.Math.Seq.{drop-append_seam}
 use Rattle.std.proofs.lemmas.List.{map-append, drop-map}
 use mathlib.Core.List.{IsPrefix}
@@ -7,7 +7,7 @@ use Rattle.rclaim.specs.declared.event.Event.{Event}
 use Rattle.rvalue.specs.Entries.{EntryFields}
 use Rattle.rmodel.specs.Steps.{after, AreAccepted}
 use Rattle.rmodel.proofs.reaching.Histories.{accepted_parts}
-use Rattle.rstate.specs.Histories.{Beginning, IsLawfulFrom, first_of}
+use Rattle.rstate.specs.Histories.{Beginning, first_of}
 use Rattle.rstate.proofs.histories.Following.{accepted_lawful}
 use Rattle.rstate.proofs.homes.Lists.{same_item}
 use Rattle.rlock.specs.Known.{Site}

@@ -1,8 +1,6 @@
 //! Workers that watch a runtime while its tasks run: one feeds a monitor, another only looks.
 #![tactic(auto)]
 
-#[cfg(test)]
-mod tests;
 mod worker;
 
 pub use worker::feed_once;

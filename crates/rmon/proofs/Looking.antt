@@ -1,10 +1,9 @@
 -- What a look at an image shows of its feed.
-use Rattle.std.proofs.Common.{◌≡◌, List, length, Option, Some, sym, ap, ◌∙◌, subst}
+use Rattle.std.proofs.Common.{◌≡◌, length, Some, sym, ap, ◌∙◌, subst}
 use mathlib.Core.List.{IsPrefix}
 use Rattle.rmodel.specs.Steps.{after, AreAccepted}
 use Rattle.rmon.specs.declared.image.Image.{Image}
 use Rattle.rmon.specs.declared.look.Look.{Look}
-use Rattle.rmon.specs.declared.rule.Opening.{Opening}
 use Rattle.rmon.specs.declared.rule.Told.{Told}
 use Rattle.rmon.specs.Opened.{opening_of}
 use Rattle.rmon.specs.Rules.{IsAfter}

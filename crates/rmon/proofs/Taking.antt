@@ -1,16 +1,15 @@
 -- What the changes of some events make of an image.
-use Rattle.std.proofs.Common.{◌≡◌, ℕ, zero, suc, ◌+◌, ◌<◌, arith, length, take, drop, get_or, Bool, true, ◌&&◌, nat_lt, List, [], ◌∷◌, ◌++◌, map, fold, refl, sym, ap, ◌∙◌, subst, cond}
+use Rattle.std.proofs.Common.{◌≡◌, ℕ, zero, suc, ◌<◌, arith, length, take, drop, get_or, true, ◌&&◌, nat_lt, List, [], ◌∷◌, ◌++◌, map, fold, refl, sym, ap, ◌∙◌, subst}
 use Rattle.std.proofs.lemmas.Bool.{lt-ltb, and_from}
 use Rattle.std.proofs.lemmas.List.{take-append-drop}
 use Rattle.std.specs.Prelude.{Result, Ok, Err, OnErr}
-use Rattle.rclaim.specs.Events.{seat_of}
 use Rattle.rclaim.specs.declared.event.Event.{Event}
 use Rattle.rclaim.specs.declared.event.Event.TheVariants.{Issue, Finish, Rise, Ask}
 use Rattle.rmodel.specs.Changes.{changes_between}
 use Rattle.rmodel.specs.State.{LockState}
 use Rattle.rmodel.specs.Steps.{Fits, Comes, AreAccepted, next, after}
 use Rattle.rplain.specs.Machine.{Standing}
-use Rattle.rmon.specs.Fitting.{fits, fits_part, is_accepted, is_no_refusal}
+use Rattle.rmon.specs.Fitting.{fits, is_accepted, is_no_refusal}
 use Rattle.rmon.specs.Fronts.{Reached}
 use Rattle.rmon.specs.Known.{Feeding, HasTaken}
 use Rattle.rmon.specs.Images.{stepped, absorbed}

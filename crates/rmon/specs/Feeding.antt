@@ -1,5 +1,5 @@
 -- How the fields of a feed give what contracts see of it.
-use Rattle.std.specs.Prelude.{◌≡◌, List, ◌++◌, map, drop, Option, Some}
+use Rattle.std.specs.Prelude.{◌≡◌, List, ◌++◌, map, drop, Some}
 use Rattle.left_right.specs.Sides.{view}
 use Rattle.rclaim.specs.declared.event.Event.{Event}
 use Rattle.rmodel.specs.Steps.{AreAccepted}

@@ -1,5 +1,5 @@
 -- Whether an event is one that a caller may ask for, as a test.
-use Rattle.std.specs.Prelude.{ℕ, ◌^◌, Bool, true, false, ◌&&◌, nat_lt, Option, Some, None}
+use Rattle.std.specs.Prelude.{◌^◌, Bool, true, false, ◌&&◌, nat_lt, Option, Some, None}
 use Rattle.rset.specs.Sets.{all_below}
 use Rattle.rclaim.specs.Events.{seat_of}
 use Rattle.rclaim.specs.declared.event.Event.{Event}

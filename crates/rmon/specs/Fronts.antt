@@ -1,5 +1,5 @@
 -- What contracts see of a front and of a note.
-use Rattle.std.specs.Prelude.{ℕ, true, List, refl}
+use Rattle.std.specs.Prelude.{true, List, refl}
 use Rattle.std.specs.Coded.{Coded, code_by, coded×, coded_list}
 use Rattle.logbook.specs.Pages.{Book, book_coded, Named}
 use Rattle.rclaim.specs.declared.event.Event.{Event}

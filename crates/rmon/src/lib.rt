@@ -13,8 +13,6 @@ mod image;
 mod look;
 mod monitor;
 mod rule;
-#[cfg(test)]
-mod tests;
 
 pub use feed::Feed;
 pub use look::Look;

@@ -2,7 +2,7 @@
 use Rattle.std.proofs.Common.{◌≡◌, List, [], ◌∷◌, length, map, refl, ◌∙◌, arith}
 use Rattle.rtrace_form.specs.Reports.{Report}
 use Rattle.rwatch.specs.Seen.{Seen, told_all}
-use Rattle.rdrill.specs.Drill.{steps_of}
+use Rattle.rmodel.specs.Watching.{steps_of}
 use Rattle.rtrace_replay.specs.Stepping.{IsAtHead}
 use Rattle.rtrace_replay.specs.declared.steps.Steps.{Steps}
 use Rattle.rnlp_cli.specs.Watched.{list_steps}

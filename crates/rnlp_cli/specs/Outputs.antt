@@ -18,7 +18,8 @@ use Rattle.rscript.specs.Texts as scripts_read
 use Rattle.rrun.specs.Reporting.{IsReportOf}
 use Rattle.rwatch.specs.Seen.{Seen, told_all}
 use Rattle.rdrill.specs.Draws.{drill_opening}
-use Rattle.rdrill.specs.Drill.{drill_events, steps_of}
+use Rattle.rdrill.specs.Drill.{drill_events}
+use Rattle.rmodel.specs.Watching.{steps_of}
 use Rattle.rdrill.specs.Summary.{summary_text}
 use Rattle.rnlp_cli.specs.declared.command.Command.{Command}
 use Rattle.rnlp_cli.specs.declared.command.Command.TheVariants.{Run, Replay, Audit, Bound, Drill}

@@ -7,7 +7,7 @@ use Rattle.rtrace_form.specs.Heads.{opening_of}
 use Rattle.rtrace_form.specs.Reports.{Entry, Report}
 use Rattle.rtrace_form.specs.Texts.{IsTextOf, report_text}
 use Rattle.rwatch.specs.Seen.{Seen, told_all}
-use Rattle.rdrill.specs.Drill.{steps_of}
+use Rattle.rmodel.specs.Watching.{steps_of}
 use Rattle.rnlp_cli.specs.Outputs.{told_drill}
 use Rattle.rnlp_cli.specs.declared.command.Command.{Command}
 use Rattle.rnlp_cli.specs.declared.command.Command.TheVariants.{Run, Replay, Audit, Bound, Drill}

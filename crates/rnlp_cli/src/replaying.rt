@@ -3,7 +3,7 @@ ghost use Rattle.std.specs.Prelude.{◌≡◌, ◌++◌, Some, List, [], map};
 ghost use Rattle.io_ends.specs.Faults.{Rose};
 ghost use Rattle.rmodel.specs.Steps.{AreAccepted};
 ghost use Rattle.rwatch.specs.Seen.{Seen, told_all};
-ghost use Rattle.rdrill.specs.Drill.{steps_of};
+ghost use Rattle.rmodel.specs.Watching.{steps_of};
 ghost use Rattle.rnlp_cli.specs.Writing.{IsAnswer, IsWritten};
 ghost use Rattle.rnlp_cli.specs.Told.{TellsBehind, Tells};
 ghost use Rattle.rnlp_cli.specs.Watched.{ReplayWatched};

@@ -24,4 +24,4 @@ pub use error::StreamErr as AuditErr;
 pub use lists::{read_events, read_report};
 pub use rtrace_form::{Code, Fault, Refusal, TextErr};
 pub use rtrace_read::{BoundTold, ReportReader, TakenRecord};
-pub use rtrace_write::{Report, write_parts};
+pub use rtrace_write::{Report, WriteErr, write_parts, write_report};

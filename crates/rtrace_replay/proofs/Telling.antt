@@ -8,15 +8,8 @@ use Rattle.rmodel.specs.Changes.{changes_between}
 use Rattle.rmodel.specs.State.{LockState}
 use Rattle.rmodel.specs.Steps.{AreAccepted, Comes, next}
 use Rattle.rwatch.specs.Seen.{Seen, told, told_all}
-use Rattle.rdrill.specs.Drill.{steps_of}
-
-untold : (ws : List Seen) → map (told_all []) ws ≡ ws
-untold [] = refl
-untold (w ∷ ws) = ap (λ vs. w ∷ vs) (untold ws)
-
-told_first : (step : Event × ChangeLists) (steps : List (Event × ChangeLists)) (ws : List Seen) → map (told_all (step ∷ steps)) ws ≡ map (told_all steps) (map (told step.0 step.1) ws)
-told_first step steps [] = refl
-told_first step steps (w ∷ ws) = ap (λ vs. told_all steps (told step.0 step.1 w) ∷ vs) (told_first step steps ws)
+use Rattle.rwatch.proofs.Given.{given_none, given_first}
+use Rattle.rmodel.specs.Watching.{steps_of}
 
 -- some events were given: those that are left are accepted, and once they are given too, all are
 pub record IsToldSo (first : LockState) (events : List Event) (watchers : List Seen) (s : LockState) (rest : List Event) (now : List Seen) : Type 0 where
@@ -41,9 +34,9 @@ module _ (first : LockState) (events : List Event) (watchers : List Seen) where
           accepted = subst (λ u. AreAccepted u (drop (i + 1) events)) (sym is) (subst (AreAccepted s) (rest_of events i d within) so.accepted).1;
           all = so.all
               ∙ ap (λ es. map (told_all (steps_of s es)) now) (rest_of events i d within)
-              ∙ told_first (e, changes_between s (next s e)) (steps_of (next s e) (drop (i + 1) events)) now
+              ∙ given_first (e, changes_between s (next s e)) (steps_of (next s e) (drop (i + 1) events)) now
               ∙ sym (λ j. map (told_all (steps_of (is j) (drop (i + 1) events))) ((told_one ∙ (λ k. map (told e (changes_between s (is k))) now)) j));
         }
 
   pub told_whole : (s : LockState) (i : ℕ) (now : List Seen) → length events ≤ i → IsToldSo first events watchers s (drop i events) now → now ≡ map (told_all (steps_of first events)) watchers
-  told_whole s i now behind so = sym (so.all ∙ ap (λ es. map (told_all (steps_of s es)) now) (drop_all i events behind) ∙ untold now)
+  told_whole s i now behind so = sym (so.all ∙ ap (λ es. map (told_all (steps_of s es)) now) (drop_all i events behind) ∙ given_none now)

@@ -3,7 +3,7 @@ ghost use Rattle.std.specs.Prelude.{◌≡◌, map};
 ghost use Rattle.rmodel.specs.Changes.{changes_between};
 ghost use Rattle.rmodel.specs.Steps.{AreAccepted, Comes, next};
 ghost use Rattle.rwatch.specs.Seen.{told_all};
-ghost use Rattle.rdrill.specs.Drill.{steps_of};
+ghost use Rattle.rmodel.specs.Watching.{steps_of};
 
 use rclaim::Event;
 use rmodel::Machine;

@@ -1,2 +1,3 @@
 pub mod Telling
 mod Hearing
+pub mod Given

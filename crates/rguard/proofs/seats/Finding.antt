@@ -18,7 +18,7 @@ use Rattle.rstate.specs.Laws.{is_held_by}
 use Rattle.rstate.proofs.histories.Following.{in_turn_parts, reached_lawful}
 use Rattle.rstate.proofs.histories.Staying.{held_along, value_along}
 use Rattle.rstate.proofs.homes.Lists.{same_item}
-use Rattle.rguard.specs.LentSeats.{SeatOf}
+use Rattle.rguard.specs.Seats.{SeatOf}
 use Rattle.rguard.specs.LentSections.{held_at, HasTaken, Knows}
 use Rattle.rguard.proofs.seats.Along.{AreOfOthers, maker, others_behind, claim_along, holding_along, none_given}
 

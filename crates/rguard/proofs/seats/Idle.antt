@@ -17,7 +17,7 @@ use Rattle.rvalue.specs.Entries.{EntryFields}
 use Rattle.rvalue.specs.InTurn.{AllInTurn}
 use Rattle.rstate.specs.Histories.{Beginning, lock_after, MayFollow, IsLawfulFrom}
 use Rattle.rstate.proofs.histories.Following.{lock_push, reached_push}
-use Rattle.rguard.specs.LentSeats.{busy_after, is_busy}
+use Rattle.rguard.specs.Seats.{busy_after, is_busy}
 use Rattle.rguard.proofs.seats.Along.{differs}
 use Rattle.rguard.proofs.seats.Claims.{is_of, of_seat, claim_next, claim_asked, rise_leaves, finished_next}
 

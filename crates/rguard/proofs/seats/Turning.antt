@@ -11,7 +11,7 @@ use Rattle.rvalue.specs.Entries.{EntryFields}
 use Rattle.rstate.specs.Contents.{Contents}
 use Rattle.rstate.specs.Histories.{Beginning, IsLawfulFrom}
 use Rattle.rstate.proofs.homes.Lists.{same_item}
-use Rattle.rguard.specs.LentSeats.{SeatOf, Goes, IsOneTurn}
+use Rattle.rguard.specs.Seats.{SeatOf, Goes, IsOneTurn}
 use Rattle.rguard.specs.LentSections.{HasTaken, Knows}
 use Rattle.rguard.proofs.seats.Along.{maker}
 use Rattle.rguard.proofs.seats.Finding.{Finds}

@@ -1,10 +1,12 @@
 -- Lists of accepted events: one more event, what stays, and that a step leads to one state.
-use Rattle.std.proofs.Common.{◌≡◌, ℕ, ◌+◌, ◌≤◌, List, [], ◌∷◌, ◌++◌, length, refl, ◌∙◌, arith}
+use Rattle.std.proofs.Common.{◌≡◌, ℕ, ◌+◌, ◌≤◌, List, [], ◌∷◌, ◌++◌, length, refl, ap, ◌∙◌, arith}
 use Rattle.rexpand.specs.Groups.{ReadGroups}
 use Rattle.rclaim.specs.declared.event.Event.{Event}
 use Rattle.rclaim.specs.declared.event.Event.TheVariants.{Issue, Finish, Rise, Ask}
+use Rattle.rmodel.specs.Changes.{changes_between}
 use Rattle.rmodel.specs.State.{LockState, opening}
 use Rattle.rmodel.specs.Steps.{next, after, Comes, AreAccepted}
+use Rattle.rmodel.specs.Watching.{steps_of}
 use Rattle.rmodel.specs.WellFormed.{IsSound}
 use Rattle.rmodel.proofs.reaching.Reached.{reached_after, reached_opening}
 
@@ -16,6 +18,11 @@ after_push s (d ∷ es) e = after_push (next s d) es e
 pub after_append : (s : LockState) (es ds : List Event) → after s (es ++ ds) ≡ after (after s es) ds
 after_append s [] ds = refl
 after_append s (e ∷ es) ds = after_append (next s e) es ds
+
+-- the steps of one more event
+pub steps_push : (s : LockState) (es : List Event) (e : Event) → steps_of s (es ++ e ∷ []) ≡ steps_of s es ++ (e, changes_between (after s es) (next (after s es) e)) ∷ []
+steps_push s [] e = refl
+steps_push s (d ∷ es) e = ap (λ more. (d, changes_between s (next s d)) ∷ more) (steps_push (next s d) es e)
 
 -- one more event that may come in the state so far
 pub accepted_push : (s : LockState) (es : List Event) (e : Event) → AreAccepted s es → Comes (after s es) e → AreAccepted s (es ++ e ∷ [])

@@ -1,38 +1,26 @@
 -- Watchers are given each step in the turn that adds its entry.
-use Rattle.std.proofs.Common.{◌≡◌, List, [], ◌∷◌, ◌++◌, map, fold, Option, Some, None, refl, sym, ap, subst, ◌∙◌}
-use Rattle.std.specs.Prelude.{option_map}
+use Rattle.std.proofs.Common.{◌≡◌, List, [], ◌∷◌, ◌++◌, map, Option, Some, None, refl, sym, ap, ◌∙◌}
 use Rattle.std.proofs.lemmas.List.{map-append}
-use Rattle.std.proofs.lemmas.List.Sums.{fold_push}
 use Rattle.rclaim.specs.Changes.{ChangeLists}
 use Rattle.rclaim.specs.declared.event.Event.{Event}
 use Rattle.rmodel.specs.Changes.{changes_between}
 use Rattle.rmodel.specs.State.{LockState}
 use Rattle.rmodel.specs.Steps.{next, after}
 use Rattle.rmodel.specs.Watching.{steps_of}
+use Rattle.rmodel.proofs.reaching.Histories.{steps_push}
 use Rattle.rvalue.specs.Entries.{EntryFields}
-use Rattle.rwatch.specs.Seen.{Seen, told, told_all, watched_next, watched_after}
+use Rattle.rwatch.specs.Seen.{Seen, watched_next, watched_after}
+use Rattle.rwatch.proofs.Given.{given_none, given_push}
 use Rattle.rstate.specs.Histories.{Beginning, first_of, lock_after, steps_in, HaveBeenTold}
 use Rattle.rstate.proofs.histories.Following.{event_of, lock_is_after}
 
-steps_push : (s : LockState) (es : List Event) (e : Event) → steps_of s (es ++ e ∷ []) ≡ steps_of s es ++ (e, changes_between (after s es) (next (after s es) e)) ∷ []
-steps_push s [] e = refl
-steps_push s (d ∷ es) e = ap (λ more. (d, changes_between s (next s d)) ∷ more) (steps_push (next s d) es e)
-
-each_push : (steps : List (Event × ChangeLists)) (step : Event × ChangeLists) (ws : List Seen) → map (told step.0 step.1) (map (told_all steps) ws) ≡ map (told_all (steps ++ step ∷ [])) ws
-each_push steps step [] = refl
-each_push steps step (w ∷ ws) = (λ i. sym (fold_push (λ v (next : Event × ChangeLists). told next.0 next.1 v) w steps step) i ∷ each_push steps step ws i)
-
 watched_push : (steps : List (Event × ChangeLists)) (step : Event × ChangeLists) (ws : Option (List Seen)) → watched_next step.0 step.1 (watched_after steps ws) ≡ watched_after (steps ++ step ∷ []) ws
 watched_push steps step None = refl
-watched_push steps step (Some ws) = ap Some (each_push steps step ws)
-
-untold : (ws : List Seen) → map (told_all []) ws ≡ ws
-untold [] = refl
-untold (w ∷ ws) = ap (λ vs. w ∷ vs) (untold ws)
+watched_push steps step (Some ws) = ap Some (given_push steps step ws)
 
 watched_first : (ws : Option (List Seen)) → ws ≡ watched_after [] ws
 watched_first None = refl
-watched_first (Some ws) = ap Some (sym (untold ws))
+watched_first (Some ws) = ap Some (sym (given_none ws))
 
 module _ {V E : Type 0} (b : Beginning V) where
   pub told_first : (entries : List (EntryFields E)) (watched : Option (List Seen)) → entries ≡ [] → watched ≡ b.watched → HaveBeenTold b entries watched

@@ -2,7 +2,8 @@ use Rattle.std.proofs.Common.{◌≡◌, ◌∙◌, map, ap, arith}
 use Rattle.rmodel.specs.Steps.{after}
 use Rattle.rwatch.specs.Seen.{told_all}
 use Rattle.rdrill.specs.Draws.{drill_opening}
-use Rattle.rdrill.specs.Drill.{drill_events, steps_of}
+use Rattle.rdrill.specs.Drill.{drill_events}
+use Rattle.rmodel.specs.Watching.{steps_of}
 use Rattle.rdrill.proofs.Running.{all_accepted, told_start, told_on}
 use Rattle.rdrill.proofs.drawing.drill.Goals as goal
 

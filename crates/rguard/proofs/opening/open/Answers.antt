@@ -2,7 +2,7 @@ use Rattle.std.proofs.Common.{◌≡◌, ◌<◌, ◌≤◌, refl, sym, ap, subs
 use Rattle.std.proofs.lemmas.Option.{get_or_from_slice_get}
 use Rattle.rlock.specs.Known.{Site}
 use Rattle.rstate.specs.Histories.{Beginning}
-use Rattle.rguard.specs.LentSeats.{SeatOf, IsOf, IsIdle}
+use Rattle.rguard.specs.Seats.{SeatOf, IsOf, IsIdle}
 use Rattle.rguard.proofs.opening.open.Goals as goal
 
 pub returns-in-Ok-clause-seats : goal.returns-in-Ok-clause-seats

@@ -4,7 +4,7 @@ use Rattle.rclaim.specs.Events.{seat_of}
 use Rattle.rlock.specs.Known.{IsTrueOf, entered}
 use Rattle.rvalue.specs.Entries.{EntryFields}
 use Rattle.rstate.specs.Contents.{Contents}
-use Rattle.rguard.specs.LentSeats.{SeatOf}
+use Rattle.rguard.specs.Seats.{SeatOf}
 use Rattle.rguard.proofs.Scribes.{read_turn}
 use Rattle.rguard.proofs.seats.Turning.{appends_none}
 use Rattle.rguard.proofs.scribe.read_on.Goals as goal

@@ -1,4 +1,4 @@
-use Rattle.std.proofs.Common.{◌≡◌, fold, refl, sym, ap, ◌∙◌, subst}
+use Rattle.std.proofs.Common.{fold, sym, ap, ◌∙◌, subst}
 use Rattle.left_right.specs.Sides.{view}
 use Rattle.rmodel.specs.Steps.{AreAccepted, after}
 use Rattle.rmon.specs.Images.{absorbed}

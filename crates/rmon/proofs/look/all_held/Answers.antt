@@ -1,4 +1,4 @@
-use Rattle.std.proofs.Common.{◌≡◌, ◌+◌, ◌≤◌, ap, sym, ◌∙◌, refl, arith, if◌then◌else◌}
+use Rattle.std.proofs.Common.{◌≡◌, ◌+◌, ◌≤◌, ap, sym, ◌∙◌, arith, if◌then◌else◌}
 use Rattle.rmodel.specs.Holds.{both, holds_of, is_nothing}
 use Rattle.rmon.proofs.Held.{held_next}
 use Rattle.rmon.proofs.look.all_held.Goals as goal

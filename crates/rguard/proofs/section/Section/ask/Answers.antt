@@ -2,7 +2,7 @@ use Rattle.std.proofs.Common.{◌≡◌, [], ◌∷◌, IfOk, IfErr, inl, inr, r
 use Rattle.std.proofs.lemmas.Result.{IfErr-weaker}
 use Rattle.rclaim.specs.declared.event.Event.TheVariants.{Ask}
 use Rattle.rguard.specs.LentGuards.{GuardFields, IsPartOf, KeepsValues, KeepsHolding}
-use Rattle.rguard.specs.LentSeats.{Goes, IsOneTurn, ComesBack, bare}
+use Rattle.rguard.specs.Seats.{Goes, IsOneTurn, ComesBack, bare}
 use Rattle.rguard.specs.LentSections.{guarded}
 use Rattle.rguard.proofs.section.Section.ask.Goals as goal
 

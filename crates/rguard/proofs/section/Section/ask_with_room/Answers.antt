@@ -13,7 +13,7 @@ use Rattle.rstate.specs.Moves.{HasRoomFor}
 use Rattle.rstate.proofs.homes.Lists.{same_item, get_here, get_beside}
 use Rattle.rguard.specs.declared.kind.GuardKind.TheVariants as kinds
 use Rattle.rguard.specs.LentGuards.{KeepsValues, KeepsHolding, IsPartOf}
-use Rattle.rguard.specs.LentSeats.{Goes, IsOneTurn, bare}
+use Rattle.rguard.specs.Seats.{Goes, IsOneTurn, bare}
 use Rattle.rguard.specs.LentSections.{SectionFields, HasRoom, Holds, guarded}
 use Rattle.rguard.proofs.Asking.{waits_of, ready_of, ask_fits, ask_accepted, waits_for_part, keeps_values, keeps_holding}
 use Rattle.rguard.proofs.seats.Finding.{Finds, finds, lock_is, holding_later}

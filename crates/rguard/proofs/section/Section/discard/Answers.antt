@@ -1,7 +1,7 @@
 use Rattle.std.proofs.Common.{[], ◌∷◌, List, sym, subst}
 use Rattle.rclaim.specs.declared.event.Event.TheVariants.{Finish}
 use Rattle.rvalue.specs.declared.act.Act.{Act}
-use Rattle.rguard.specs.LentSeats.{Goes, IsOneTurn, bare}
+use Rattle.rguard.specs.Seats.{Goes, IsOneTurn, bare}
 use Rattle.rguard.specs.LentSections.{SectionFields, Holds}
 use Rattle.rguard.proofs.LentEditing.{ends_bare}
 use Rattle.rguard.proofs.section.Section.discard.Goals as goal

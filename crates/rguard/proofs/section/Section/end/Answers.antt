@@ -6,7 +6,7 @@ use Rattle.rlock.specs.Known.{IsTrueOf, entered}
 use Rattle.rvalue.specs.Entries.{EntryFields}
 use Rattle.rstate.specs.Contents.{Contents}
 use Rattle.rstate.proofs.homes.Lists.{same_item, get_beside}
-use Rattle.rguard.specs.LentSeats.{Goes, IsOneTurn}
+use Rattle.rguard.specs.Seats.{Goes, IsOneTurn}
 use Rattle.rguard.specs.LentSections.{SectionFields, Ends}
 use Rattle.rguard.proofs.Ending.{finish_follows, finish_home, idle_now}
 use Rattle.rguard.proofs.seats.Finding.{Finds, finds}

@@ -8,7 +8,7 @@ use Rattle.rstate.specs.Contents.{Contents}
 use Rattle.rstate.proofs.homes.Lists.{same_item}
 use Rattle.rvalue.specs.declared.act.Act.{Act}
 use Rattle.rguard.specs.LentGuards.{kind_for}
-use Rattle.rguard.specs.LentSeats.{SeatOf, Goes, bare, is_busy}
+use Rattle.rguard.specs.Seats.{SeatOf, Goes, bare, is_busy}
 use Rattle.rguard.specs.LentSections.{WaitsFrom}
 use Rattle.rguard.proofs.Beginning.{may_issue, goes_on, takes_turn, waits_first}
 use Rattle.rguard.proofs.seats.Turning.{appends_one, appends_none}

@@ -1,4 +1,4 @@
-use Rattle.std.proofs.Common.{◌≡◌, ℕ, List, true, false, [], ◌∷◌, ◌++◌, refl, sym, ap, subst, ◌∙◌, append-nil}
+use Rattle.std.proofs.Common.{◌≡◌, ℕ, List, [], ◌∷◌, ◌++◌, refl, sym, ap, subst, ◌∙◌, append-nil}
 use Rattle.std.specs.Prelude.{slice_get}
 use Rattle.rclaim.specs.Events.{seat_of}
 use Rattle.rclaim.specs.declared.event.Event.TheVariants.{Issue}
@@ -8,7 +8,7 @@ use Rattle.rvalue.specs.declared.act.Act.{Act}
 use Rattle.rstate.specs.Contents.{Contents}
 use Rattle.rstate.proofs.homes.Lists.{same_item, get_beside}
 use Rattle.rguard.specs.LentGuards.{kind_for}
-use Rattle.rguard.specs.LentSeats.{SeatOf, Goes, bare, is_busy}
+use Rattle.rguard.specs.Seats.{SeatOf, Goes, bare, is_busy}
 use Rattle.rguard.specs.LentSections.{HoldsFrom, WaitsFrom}
 use Rattle.rguard.proofs.Beginning.{may_issue, goes_on, takes_turn}
 use Rattle.rguard.proofs.FirstLook.{waits_between, first_lent, first_room, not_ready, holds_first, ready_first}

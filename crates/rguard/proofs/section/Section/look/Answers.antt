@@ -7,7 +7,7 @@ use Rattle.rvalue.specs.Entries.{EntryFields}
 use Rattle.rstate.specs.Contents.{Contents, lock_of, is_ready, IsLentNow}
 use Rattle.rstate.specs.Histories.{lock_after, IsLawfulFrom}
 use Rattle.rstate.proofs.homes.Lists.{same_item, get_here, get_beside}
-use Rattle.rguard.specs.LentSeats.{SeatOf, Goes, IsOneTurn}
+use Rattle.rguard.specs.Seats.{SeatOf, Goes, IsOneTurn}
 use Rattle.rguard.specs.LentSections.{SectionFields, Waits}
 use Rattle.rguard.proofs.seats.Finding.{Finds, finds}
 use Rattle.rguard.proofs.Looking.{ready_seen, held_is, may_take_lent, may_take_room, waits_still, holds_now}

@@ -9,7 +9,7 @@ use Rattle.rvalue.specs.Entries.{EntryFields}
 use Rattle.rstate.specs.Contents.{Contents}
 use Rattle.rstate.proofs.homes.Lists.{same_item, get_beside}
 use Rattle.rguard.specs.declared.kind.GuardKind.TheVariants as kinds
-use Rattle.rguard.specs.LentSeats.{Goes, IsOneTurn}
+use Rattle.rguard.specs.Seats.{Goes, IsOneTurn}
 use Rattle.rguard.specs.LentSections.{SectionFields, Holds, WaitsFrom}
 use Rattle.rguard.proofs.seats.Finding.{Finds, finds}
 use Rattle.rguard.proofs.LentRising.{rise_follows, rise_home, waits_to_write}

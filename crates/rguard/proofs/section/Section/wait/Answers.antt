@@ -1,7 +1,7 @@
 use Rattle.std.proofs.Common.{◌≡◌, refl, sym, append-nil, ◌∙◌, ap, subst, ◌++◌, [], append_assoc}
 use Rattle.rlock.proofs.Entries.{IsPrefix-trans}
 use Rattle.rguard.specs.declared.kind.GuardKind.{GuardKind}
-use Rattle.rguard.specs.LentSeats.{SeatOf, Goes}
+use Rattle.rguard.specs.Seats.{SeatOf, Goes}
 use Rattle.rguard.specs.LentSections.{SectionFields, Waits}
 use Rattle.rguard.proofs.section.Section.wait.Goals as goal
 

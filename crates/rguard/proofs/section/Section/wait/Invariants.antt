@@ -1,6 +1,6 @@
 use Rattle.std.proofs.Common.{◌≡◌, []}
 use Rattle.rguard.specs.declared.kind.GuardKind.{GuardKind}
-use Rattle.rguard.specs.LentSeats.{Goes}
+use Rattle.rguard.specs.Seats.{Goes}
 use Rattle.rguard.specs.LentSections.{Waits}
 use Rattle.rguard.proofs.section.Section.wait.Given as goal
 

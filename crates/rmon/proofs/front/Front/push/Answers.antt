@@ -1,5 +1,4 @@
 use Rattle.std.proofs.Common.{◌≡◌, sym, ◌∙◌, ap}
-use Rattle.logbook.specs.Pages.{Book}
 use Rattle.rmon.proofs.Adding.{adds_moves}
 use Rattle.rmon.proofs.front.Front.push.Goals as goal
 

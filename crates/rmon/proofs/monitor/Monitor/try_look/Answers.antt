@@ -1,4 +1,4 @@
-use Rattle.std.proofs.Common.{◌≡◌, sym, ap, ◌∙◌}
+use Rattle.std.proofs.Common.{sym, ap, ◌∙◌}
 use Rattle.rmon.specs.declared.image.Image.{Image}
 use Rattle.rmon.proofs.Ruling.{looks}
 use Rattle.rmon.proofs.monitor.Monitor.try_look.Goals as goal

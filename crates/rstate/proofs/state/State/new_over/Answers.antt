@@ -1,4 +1,4 @@
-use Rattle.std.proofs.Common.{rules, List, map, length, replicate, ◌+◌, refl, sym, ap, subst, ◌∙◌}
+use Rattle.std.proofs.Common.{List, map, length, replicate, ◌+◌, refl, sym, ap, subst, ◌∙◌}
 use Rattle.rmodel.specs.Holds.{nothing}
 use Rattle.rmodel.specs.State.{LockState}
 use Rattle.rstate.specs.Shares.{whole}
