@@ -15,7 +15,7 @@ help_text =
     ++ (codes "  bound M      the same where no more than M requests, from 1 to 64, are incomplete at a time" ++ 10 ∷ [])
     ++ (codes "  drill N      draw N events, from 1 to 1000000, and write what was counted of them; it reads no input" ++ 10 ∷ [])
     ++ (codes "  --help, -h   write this text" ++ 10 ∷ [])
-    ++ (codes "  --version    write the versions of the formats and of the kit that proved the program" ++ 10 ∷ [])
+    ++ (codes "  --version    write the version of the program and those of the formats" ++ 10 ∷ [])
     ++ (10 ∷ [])
     ++ (codes "an example: rnlp run < bank.script > bank.report && rnlp audit < bank.report" ++ 10 ∷ [])
     ++ (10 ∷ [])
@@ -69,7 +69,7 @@ help_text =
 
 -- what `--version` writes
 unfoldable pub version_text : List ℕ
-version_text = (codes "rnlp 1" ++ 10 ∷ []) ++ (codes "proved with rattle-kit-13, logic dac8208d650f15bf" ++ 10 ∷ [])
+version_text = (codes "rnlp 1" ++ 10 ∷ []) ++ (codes "reads and writes version 1 of scripts, event lists and reports" ++ 10 ∷ [])
 
 -- what the program writes for words that ask about itself
 abbrev pub own_text : List (List ℕ) → Option (List ℕ)

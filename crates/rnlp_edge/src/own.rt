@@ -12,7 +12,7 @@ forms
   bound M      the same where no more than M requests, from 1 to 64, are incomplete at a time
   drill N      draw N events, from 1 to 1000000, and write what was counted of them; it reads no input
   --help, -h   write this text
-  --version    write the versions of the formats and of the kit that proved the program
+  --version    write the version of the program and those of the formats
 
 an example: rnlp run < bank.script > bank.report && rnlp audit < bank.report
 
@@ -65,7 +65,7 @@ codes of status 8, of the record with the number LINE
   9  the bound that it tells of a wait is wrong, and no record has another fault
 ";
 
-const VERSION: &str = "rnlp 1\nproved with rattle-kit-13, logic dac8208d650f15bf\n";
+const VERSION: &str = "rnlp 1\nreads and writes version 1 of scripts, event lists and reports\n";
 
 /// The text that the words ask for, if they ask about the program itself.
 pub fn own_text(words: &[String]) -> Option<&'static [u8]>
