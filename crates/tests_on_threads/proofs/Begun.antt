@@ -30,7 +30,7 @@ use Rattle.rrun.proofs.Doing.{may_do}
 use Rattle.rrun.proofs.Standing.{Stands, none_in, stands}
 use Rattle.tests_on_threads.specs.Begun.{single, nesting, raising, HasBegunLast}
 
-contains_single : (l : ℕ) → contains (single l) l ≡ true
+pub contains_single : (l : ℕ) → contains (single l) l ≡ true
 contains_single l = contains_insert empty l l ∙ or_left (l == l) (contains empty l) (eq-eqb l l refl)
 
 contains_other : (one other : ℕ) → contains (union (single one) (single other)) other ≡ true

@@ -92,7 +92,10 @@ fn read_twice<R: Wait + Abort, M: Machine>(
 }
 
 // Whether both readings at a runtime of their own gave what the writer had kept, and what is left of the runtime.
-fn left_by_readings<R: Wait + Abort>(rt: &R, alloc: Global) -> Result<(bool, Left), AllocError> {
+fn left_by_readings<R: Wait + Abort>(
+    rt: &R,
+    alloc: Global,
+) -> Result<(bool, Left<Ledger>), AllocError> {
     let a = ResourceSet::one(0);
     let (lock, mut seats) = opened(alloc, a, 2)?;
     let (kept, dropped) = read_twice(rt, alloc, &lock, a, &mut seats)?;

@@ -1,14 +1,19 @@
 //! A section whose value finds no memory for the copy that its first edit makes.
+ghost use Rattle.std.specs.Prelude.{◌≡◌, ◌<◌, length, IfOk};
+ghost use Rattle.rset.specs.declared.TheConstants.{RESOURCES};
 ghost use Rattle.rvalue.specs.Ledgers.{is_taken, value_after, untaken_leaves};
+ghost use Rattle.rguard.specs.Guards.{HoldingToWrite};
+ghost use Rattle.rguard.specs.Resting.{Rests, all_with};
 
-use rclaim::{Event, Kind, Request};
-use rexpand::Groups;
-use rguard::{Guard, Rnlp, Seat, WriteGuard};
+use crate::closing::{Left, closed, value_at};
+use crate::sections::{opened_over, pop_seat, push_seat, to_write, write_in};
+use rclaim::Event;
+use rguard::{Rnlp, Seat, WriteGuard};
 use rmodel::Machine;
-use rplain::Plain;
-use rset::ResourceSet;
+use rset::{RESOURCES, ResourceSet};
 use rvalue::{Act, Edit, Editable, Entry, Ledger};
 use std::alloc::{AllocError, Global};
+use std::process::Abort;
 use std::sync::Wait;
 use std::sync::atomic::{AtomicU64, Ordering};
 use std::test::Fail;
@@ -55,43 +60,22 @@ impl<'a> Editable for Rationed<'a> {
     }
 }
 
-type Runtime<'a> = Rnlp<Rationed<'a>, Plain>;
+// What is in each ledger at first.
+const BALANCE: u64 = 100;
 
-type Place<'a> = Seat<Rationed<'a>, Plain>;
-
-// A runtime over two of them, each with this balance, and its one seat.
-fn opened<'a>(
-    alloc: Global,
-    balance: u64,
-    left: &'a AtomicU64,
-) -> Result<(Runtime<'a>, Vec<Place<'a>>), AllocError> {
-    let groups = Groups::new(alloc, 2)?;
-    let machine = Plain::new(alloc, groups, 1, 1)?;
+// A rationed ledger for each resource.
+fn values_with(alloc: Global, left: &AtomicU64) -> Result<Vec<Rationed<'_>>, AllocError>
+    ensures { IfOk result (λ v. length v.items ≡ RESOURCES) }
+{
     let mut values = Vec::new(alloc);
-    for _ in 0..2 {
-        let ledger = Ledger { balance, edits: 0 };
+    for _ in 0..RESOURCES {
+        let ledger = Ledger {
+            balance: BALANCE,
+            edits: 0,
+        };
         values.push(Rationed { ledger, left })?;
     }
-    Runtime::new(alloc, machine, values, 1)
-}
-
-// A guard to write one resource.
-fn to_write<'b, 'a, R: Wait>(
-    rt: &R,
-    alloc: Global,
-    lock: &'b Runtime<'a>,
-    seat: Place<'a>,
-    place: u8,
-) -> Option<WriteGuard<'b, Rationed<'a>, Plain>> {
-    let set = ResourceSet::one(place);
-    let Ok(request) = Request::new(Kind::Write, set, set, set, 1, 0) else {
-        return None;
-    };
-    match lock.acquire(rt, alloc, seat, request) {
-        Ok(Guard::Write(guard)) => Some(guard),
-        Err(_) => None,
-        _ => unreachable!(),
-    }
+    Ok(values)
 }
 
 // Whether the entry ends a section with just this act, or with none.
@@ -111,42 +95,81 @@ fn ends_with(entry: &Entry<Edit>, added: Option<(u8, u64)>) -> bool {
     }
 }
 
-// Whether the first section's edit is refused and the section is broken off, and the second section, on the other
-// resource, takes its edit.
-fn goes_on<R: Wait>(rt: &R, alloc: Global, left: &AtomicU64) -> Option<bool> {
-    let Ok((lock, mut seats)) = opened(alloc, 100, left) else {
-        return None;
-    };
+// Whether this edit is refused, as its value finds no memory for its copy, and the ledger is still as it was lent.
+fn is_refused<M: Machine>(
+    alloc: Global,
+    guard: &mut WriteGuard<'_, Rationed<'_>, M>,
+    place: u8,
+    edit: Edit,
+) -> bool
+    requires { HoldingToWrite guard.old.seat place }
+    ensures { guard.new.seat ≡ guard.old.seat }
+{
+    match guard.edit(alloc, place, edit) {
+        Ok(_) => false,
+        Err(_) => {
+            let ledger = guard.get(place).ledger;
+            ledger.balance == BALANCE && ledger.edits == 0
+        }
+    }
+}
+
+// One section that is broken off: whether its edit of this resource is refused, and the ledger still as it was lent.
+fn refused_in<'a, R: Wait, M: Machine>(
+    rt: &R,
+    alloc: Global,
+    lock: &Rnlp<Rationed<'a>, M>,
+    seat: Seat<Rationed<'a>, M>,
+    group: ResourceSet,
+    place: u8,
+) -> (Seat<Rationed<'a>, M>, bool)
+    requires rests { Rests (all_with group) lock.now seat }
+    requires place { place < RESOURCES }
+    ensures { Rests (all_with group) lock.now result.0 }
+{
+    match to_write(rt, alloc, lock, seat, group, ResourceSet::one(place)) {
+        Ok(mut guard) => {
+            let refused = is_refused(alloc, &mut guard, place, Edit::Add(5));
+            (guard.discard(rt), refused)
+        }
+        Err(seat) => (seat, false),
+    }
+}
+
+// Whether the edit of a first section is refused, and a second section, on another resource, takes its edit; and what is
+// left of their runtime.
+fn left_by_sections<'a, R: Wait + Abort>(
+    rt: &R,
+    alloc: Global,
+    left: &'a AtomicU64,
+) -> Result<(bool, Left<Rationed<'a>>), AllocError> {
+    let both = ResourceSet::one(0).with(1);
+    let (lock, mut seats) = opened_over(alloc, both, values_with(alloc, left)?, 1)?;
     left.store(1, Ordering::SeqCst);
-    let seat = seats.pop()?;
-    let mut guard = to_write(rt, alloc, &lock, seat, 0)?;
-    let refused = guard.edit(alloc, 0, Edit::Add(5)).is_err();
-    let ledger = guard.get(0).ledger;
-    let as_lent = ledger.balance == 100 && ledger.edits == 0;
-    let seat = guard.discard(rt);
-    let mut guard = to_write(rt, alloc, &lock, seat, 1)?;
-    let taken = guard.edit(alloc, 1, Edit::Add(7)) == Ok(true);
-    let seat = match guard.finish(rt, alloc) {
-        Ok(seat) => seat,
-        Err((guard, _)) => guard.discard(rt),
-    };
-    let Ok(()) = seats.push(seat) else {
-        return None;
-    };
-    let (history, values, _) = lock.close(seats);
-    let entries = history.entries();
-    let told = entries.len() == 4
-        && ends_with(&entries[1], None)
-        && ends_with(&entries[3], Some((1, 7)));
-    let (a, b) = (values[0].ledger, values[1].ledger);
-    let balances = a.balance == 100 && a.edits == 0 && b.balance == 107 && b.edits == 1;
-    Some(refused && as_lent && taken && told && balances)
+    let seat = pop_seat(rt, &lock, both, &mut seats);
+    let (seat, refused) = refused_in(rt, alloc, &lock, seat, both, 0);
+    let second = ResourceSet::one(1);
+    let (seat, taken) = write_in(rt, alloc, &lock, seat, both, second, Edit::Add(7));
+    push_seat(&lock, both, &mut seats, seat)?;
+    Ok((refused && taken, closed(rt, lock, both, seats, 1)))
 }
 
 #[test]
 fn a_section_goes_on_whose_copy_was_refused(rt: HostRuntime) -> Result<(), Fail> {
-    let left = AtomicU64::new(0);
-    let right = goes_on(&rt, rt.alloc(), &left);
-    assert!(rt; right == Some(true));
+    let copies_left = AtomicU64::new(0);
+    let (right, left) = left_by_sections(&rt, rt.alloc(), &copies_left)?;
+    let entries = left.history.entries();
+    let first = value_at(&rt, &left, 0).ledger;
+    let second = value_at(&rt, &left, 1).ledger;
+    assert!(rt;
+        right
+            && entries.len() == 4
+            && ends_with(&entries[1], None)
+            && ends_with(&entries[3], Some((1, 7)))
+            && first.balance == BALANCE
+            && first.edits == 0
+            && second.balance == BALANCE + 7
+            && second.edits == 1
+    );
     Ok(())
 }

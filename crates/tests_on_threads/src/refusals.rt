@@ -10,7 +10,7 @@ use crate::sections::{OPENING, Place, Runtime, opened, pop_seat, push_seat};
 use rmodel::Machine;
 use rplain::Plain;
 use rset::ResourceSet;
-use rvalue::Edit;
+use rvalue::{Edit, Ledger};
 use std::alloc::{AllocError, Global};
 use std::process::Abort;
 use std::sync::Wait;
@@ -53,7 +53,10 @@ fn opened_again(
 }
 
 // Whether these sections at a runtime of their own read and wrote what they should, and what is left of the runtime.
-fn left_by_sections<R: Wait + Abort>(rt: &R, alloc: Global) -> Result<(bool, Left), AllocError> {
+fn left_by_sections<R: Wait + Abort>(
+    rt: &R,
+    alloc: Global,
+) -> Result<(bool, Left<Ledger>), AllocError> {
     let both = ResourceSet::one(0).with(1);
     let (lock, mut seats) = opened_again(alloc, both)?;
     let right = are_made(rt, alloc, &lock, both, &mut seats)?;

@@ -1,4 +1,4 @@
-//! Sections under guards at a runtime over ledgers.
+//! Sections under guards at a runtime: over values of any type, and over ledgers.
 ghost use Rattle.std.specs.Prelude.{◌≡◌, ℕ, ◌<◌, ◌≤◌, ◌≢◌, All, IsTrue, IfOk, OnOk, IfErr, length, [], ◌∷◌};
 ghost use Rattle.std.specs.FinSet.{empty, contains};
 ghost use Rattle.rset.specs.declared.TheConstants.{SEATS, RESOURCES};
@@ -10,7 +10,7 @@ use rguard::{Guard, ReadGuard, Rnlp, Seat, WriteGuard};
 use rmodel::Machine;
 use rplain::Plain;
 use rset::{RESOURCES, ResourceSet};
-use rvalue::{Edit, Ledger};
+use rvalue::{Edit, Editable, Ledger};
 use std::alloc::{AllocError, Global};
 use std::process::Abort;
 use std::sync::Wait;
@@ -35,20 +35,36 @@ pub fn opened(
     ensures count { IfOk result (λ r. r.0.passes ≡ seats) }
     ensures seats { IfOk result (λ r. All (Rests (all_with group) r.0) r.1.items) }
 {
+    let values = ledgers(alloc)?;
+    opened_over(alloc, group, values, seats)
+}
+
+/// A runtime over these values, one for each resource, where a set is declared, and its seats.
+pub fn opened_over<T: Editable>(
+    alloc: Global,
+    group: ResourceSet,
+    values: Vec<T>,
+    seats: u8,
+) -> Result<(Rnlp<T, Plain>, Vec<Seat<T, Plain>>), AllocError>
+    requires some { 0 < seats }
+    requires few { seats ≤ SEATS }
+    requires values { length values.items ≡ RESOURCES }
+    ensures count { IfOk result (λ r. r.0.passes ≡ seats) }
+    ensures seats { IfOk result (λ r. All (Rests (all_with group) r.0) r.1.items) }
+{
     let groups = declared(alloc, group)?;
     let machine = Plain::new(alloc, groups, seats, seats)?;
-    let values = ledgers(alloc)?;
-    let (lock, seats) = Runtime::new(alloc, machine, values, seats)?;
+    let (lock, seats) = Rnlp::new(alloc, machine, values, seats)?;
     Ok((lock, seats))
 }
 
 /// Takes the last seat out of a list of resting seats.
-pub fn pop_seat<M: Machine>(
+pub fn pop_seat<T: Editable, M: Machine>(
     rt: &impl Abort,
-    lock: &Runtime<M>,
+    lock: &Rnlp<T, M>,
     group: ResourceSet,
-    seats: &mut Vec<Place<M>>,
-) -> Place<M>
+    seats: &mut Vec<Seat<T, M>>,
+) -> Seat<T, M>
     requires { All (Rests (all_with group) lock.now) seats.old.items }
     ensures seat { Rests (all_with group) lock.now result }
     ensures rest { All (Rests (all_with group) lock.now) seats.new.items }
@@ -59,11 +75,11 @@ pub fn pop_seat<M: Machine>(
 }
 
 /// Adds a resting seat after others.
-pub fn push_seat<M: Machine>(
-    lock: &Runtime<M>,
+pub fn push_seat<T: Editable, M: Machine>(
+    lock: &Rnlp<T, M>,
     group: ResourceSet,
-    seats: &mut Vec<Place<M>>,
-    seat: Place<M>,
+    seats: &mut Vec<Seat<T, M>>,
+    seat: Seat<T, M>,
 ) -> Result<(), AllocError>
     requires seat { Rests (all_with group) lock.now seat }
     requires rest { All (Rests (all_with group) lock.now) seats.old.items }
@@ -99,14 +115,14 @@ fn ledgers(alloc: Global) -> Result<Vec<Ledger>, AllocError>
 }
 
 /// A guard to write these resources; or the seat, if there was no memory.
-pub fn to_write<'a, R: Wait, M: Machine>(
+pub fn to_write<'a, R: Wait, T: Editable, M: Machine>(
     rt: &R,
     alloc: Global,
-    lock: &'a Runtime<M>,
-    seat: Place<M>,
+    lock: &'a Rnlp<T, M>,
+    seat: Seat<T, M>,
     group: ResourceSet,
     set: ResourceSet,
-) -> Result<WriteGuard<'a, Ledger, M>, Place<M>>
+) -> Result<WriteGuard<'a, T, M>, Seat<T, M>>
     requires { Rests (all_with group) lock.now seat }
     ensures at { IfOk result (λ guard. IsAt (all_with group) lock.entry.now guard.seat × (guard.seat.number ≡ seat.number)) }
     ensures writes { IfOk result (λ guard. MayWriteAll set guard.seat) }
@@ -127,13 +143,13 @@ pub fn to_write<'a, R: Wait, M: Machine>(
 }
 
 /// A guard to read the resources that are declared together; or the seat, if there was no memory.
-pub fn to_read<'a, R: Wait, M: Machine>(
+pub fn to_read<'a, R: Wait, T: Editable, M: Machine>(
     rt: &R,
     alloc: Global,
-    lock: &'a Runtime<M>,
-    seat: Place<M>,
+    lock: &'a Rnlp<T, M>,
+    seat: Seat<T, M>,
     group: ResourceSet,
-) -> Result<ReadGuard<'a, Ledger, M>, Place<M>>
+) -> Result<ReadGuard<'a, T, M>, Seat<T, M>>
     requires { Rests (all_with group) lock.now seat }
     ensures at { IfOk result (λ guard. IsAt (all_with group) lock.entry.now guard.seat × (guard.seat.number ≡ seat.number)) }
     ensures reads { IfOk result (λ guard. HoldsAll group guard.seat) }
@@ -154,9 +170,9 @@ pub fn to_read<'a, R: Wait, M: Machine>(
 }
 
 /// Edits each of these resources, and answers whether each took the edit.
-pub fn edit_each<M: Machine>(
+pub fn edit_each<T: Editable<Edit = Edit>, M: Machine>(
     alloc: Global,
-    guard: &mut WriteGuard<'_, Ledger, M>,
+    guard: &mut WriteGuard<'_, T, M>,
     set: ResourceSet,
     edit: Edit,
 ) -> bool
@@ -184,14 +200,14 @@ pub fn sum_of<M: Machine>(guard: &ReadGuard<'_, Ledger, M>, set: ResourceSet) ->
 }
 
 /// Ends a section that writes. Answers whether all of it was done.
-pub fn ended<R: Wait, M: Machine>(
+pub fn ended<R: Wait, T: Editable, M: Machine>(
     rt: &R,
     alloc: Global,
-    lock: &Runtime<M>,
+    lock: &Rnlp<T, M>,
     group: ResourceSet,
-    guard: WriteGuard<'_, Ledger, M>,
+    guard: WriteGuard<'_, T, M>,
     done: bool,
-) -> (Place<M>, bool)
+) -> (Seat<T, M>, bool)
     requires { IsAt (all_with group) lock.now guard.seat }
     ensures { Rests (all_with group) lock.now result.0 × (result.0.number ≡ guard.entry.seat.number) }
 {
@@ -204,15 +220,15 @@ pub fn ended<R: Wait, M: Machine>(
 }
 
 /// One section that edits each of these resources. Answers whether all was done.
-pub fn write_in<R: Wait, M: Machine>(
+pub fn write_in<R: Wait, T: Editable<Edit = Edit>, M: Machine>(
     rt: &R,
     alloc: Global,
-    lock: &Runtime<M>,
-    seat: Place<M>,
+    lock: &Rnlp<T, M>,
+    seat: Seat<T, M>,
     group: ResourceSet,
     set: ResourceSet,
     edit: Edit,
-) -> (Place<M>, bool)
+) -> (Seat<T, M>, bool)
     requires { Rests (all_with group) lock.now seat }
     ensures { Rests (all_with group) lock.now result.0 × (result.0.number ≡ seat.number) }
 {

@@ -169,7 +169,7 @@ fn left_by<R: Threads + Wait + Abort + Sync>(
     group: ResourceSet,
     works: &[Work],
     sections: u32,
-) -> Result<Left, AllocError>
+) -> Result<Left<Ledger>, AllocError>
     requires some { 0 < length works.now }
     requires few { length works.now ≤ SEATS }
 {

@@ -3,7 +3,6 @@ use Rattle.std.specs.List.{AllByRecursion}
 use Rattle.rset.specs.Sets.{Set, rising}
 use Rattle.rguard.specs.Guards.{GuardFields, HoldingToWrite}
 use Rattle.rguard.specs.Seats.{SeatOf}
-use Rattle.rvalue.specs.declared.ledger.Ledger.{Ledger}
 use Rattle.rvalue.specs.declared.ledger.Edit.{Edit}
 use Rattle.rguard.proofs.Resting.{each_rising}
 use Rattle.tests_on_threads.proofs.sections.edit_each.Goals as goal
@@ -17,8 +16,8 @@ loop-l-init g c = (
 
 pub loop-l-preserved : goal.loop-l-preserved
 loop-l-preserved g c =
-    let seat : c.edit.new.self.seat ≡ c.loop-l.guard.seat = ap (λ (g : GuardFields Ledger Edit). g.seat) c.in-Ok-true.ensures.act in (
-      subst (λ (s : SeatOf Ledger Edit). AllByRecursion (λ place. HoldingToWrite s place) (rising c.next.new.self)) (sym seat)
+    let seat : c.edit.new.self.seat ≡ c.loop-l.guard.seat = ap (λ (g : GuardFields g.row.T.Denot Edit). g.seat) c.in-Ok-true.ensures.act in (
+      subst (λ (s : SeatOf g.row.T.Denot Edit). AllByRecursion (λ place. HoldingToWrite s place) (rising c.next.new.self)) (sym seat)
           (subst (λ (xs : List ℕ). AllByRecursion (λ place. HoldingToWrite c.loop-l.guard.seat place) xs) c.in-Some.ensures.steps c.loop-l.invariant.0).1,
       seat ∙ c.loop-l.invariant.1,
     )

@@ -4,8 +4,6 @@ use Rattle.rclaim.specs.Requests.{RequestFields}
 use Rattle.rguard.specs.Seats.{SuitsSeat}
 use Rattle.rguard.proofs.Having.{is_plain}
 use Rattle.rguard.proofs.Held.{reads_acquired}
-use Rattle.rvalue.specs.declared.ledger.Ledger.{Ledger}
-use Rattle.rvalue.specs.Ledgers.{value_after, is_taken}
 use Rattle.rguard.specs.Resting.{all_with}
 use Rattle.rguard.proofs.Resting.{suits_to_read, is_inside_itself}
 use Rattle.tests_on_threads.proofs.sections.to_read.Goals as goal
@@ -16,6 +14,6 @@ acquire-requires-clause-suits g c κs within =
 
 pub returns-in-Ok-Read-clause-reads : goal.returns-in-Ok-Read-clause-reads
 returns-in-Ok-Read-clause-reads g c = λ l there.
-    reads_acquired value_after is_taken (λ (ledger : Ledger). ledger.balance) c.args.lock.now c.args.seat c.in-Ok.request c.in-Ok-Read.guard c.in-Ok-Read.field-0 l
+    reads_acquired g.T.Editable.after g.T.Editable.taken g.T.Editable.number c.args.lock.now c.args.seat c.in-Ok.request c.in-Ok-Read.guard c.in-Ok-Read.field-0 l
     (ap (λ (r : RequestFields). is_plain r.kind) c.in-Ok.ensures.made) c.in-Ok-Read.field-0-is c.in-Ok-Read.ensures.ok c.seat.ensures.lawful c.seat.ensures.own
     (ap (λ (r : RequestFields). contains r.reads l) c.in-Ok.ensures.made ∙ there)

@@ -4,8 +4,6 @@ use Rattle.rclaim.specs.Requests.{RequestFields}
 use Rattle.rguard.specs.Seats.{SuitsSeat}
 use Rattle.rguard.proofs.Having.{is_plain}
 use Rattle.rguard.proofs.Held.{writes_acquired}
-use Rattle.rvalue.specs.declared.ledger.Ledger.{Ledger}
-use Rattle.rvalue.specs.Ledgers.{value_after, is_taken}
 use Rattle.rguard.specs.Resting.{all_with}
 use Rattle.rguard.proofs.Resting.{suits_to_write}
 use Rattle.tests_on_threads.proofs.sections.to_write.Goals as goal
@@ -16,6 +14,6 @@ acquire-requires-clause-suits g c κs within =
 
 pub returns-in-Ok-Write-clause-writes : goal.returns-in-Ok-Write-clause-writes
 returns-in-Ok-Write-clause-writes g c = λ l there.
-    writes_acquired value_after is_taken (λ (ledger : Ledger). ledger.balance) c.args.lock.now c.args.seat c.in-Ok.request c.in-Ok-Write.guard c.in-Ok-Write.field-0 l
+    writes_acquired g.T.Editable.after g.T.Editable.taken g.T.Editable.number c.args.lock.now c.args.seat c.in-Ok.request c.in-Ok-Write.guard c.in-Ok-Write.field-0 l
     (ap (λ (r : RequestFields). is_plain r.kind) c.in-Ok.ensures.made) c.in-Ok-Write.field-0-is c.in-Ok-Write.ensures.ok c.seat.ensures.lawful c.seat.ensures.own
     (ap (λ (r : RequestFields). contains r.writes l) c.in-Ok.ensures.made ∙ there)
