@@ -1,2 +1,3 @@
 mod Waiting
 mod Begun
+mod FedBeginning

@@ -10,11 +10,15 @@ mod looks;
 #[cfg(test)]
 mod nesting;
 #[cfg(test)]
+mod published;
+#[cfg(test)]
 mod rationed;
 #[cfg(test)]
 mod refusals;
 #[cfg(test)]
 mod rising;
+#[cfg(test)]
+mod rounds;
 #[cfg(test)]
 mod sections;
 #[cfg(test)]

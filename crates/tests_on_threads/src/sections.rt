@@ -92,7 +92,7 @@ pub fn push_seat<T: Editable, M: Machine>(
 }
 
 // All resources, with the set declared.
-fn declared(alloc: Global, group: ResourceSet) -> Result<Groups, AllocError>
+pub fn declared(alloc: Global, group: ResourceSet) -> Result<Groups, AllocError>
     ensures { IfOk result (λ groups. groups ≡ record { q = RESOURCES; groups = group ∷ [] }) }
 {
     let mut groups = Groups::new(alloc, RESOURCES as u8)?;
@@ -103,8 +103,8 @@ fn declared(alloc: Global, group: ResourceSet) -> Result<Groups, AllocError>
     }
 }
 
-// A ledger for each resource.
-fn ledgers(alloc: Global) -> Result<Vec<Ledger>, AllocError>
+/// A ledger for each resource.
+pub fn ledgers(alloc: Global) -> Result<Vec<Ledger>, AllocError>
     ensures { IfOk result (λ v. length v.items ≡ RESOURCES) }
 {
     let ledger = Ledger {
