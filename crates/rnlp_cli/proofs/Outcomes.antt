@@ -38,7 +38,7 @@ spells_none whole bytes fault report first spelled =
     some_none _ (sym first.2 ∙ subst (λ (rows : List Row). first_fault whole rows ≡ None) same (spelled_clean whole spelled.0 report spelled.2).0)
 
 -- and a text with the fault of a script spells no script
-spells_no_script : (bytes : List ℕ) (line : ℕ) (code : script_code.Code) (script : ScriptFields) → scripts_read.IsFirstFault bytes line code → scripts.IsTextOf bytes script → ⊥
+spells_no_script : (bytes : List ℕ) (line : ℕ) (code : script_code.ScriptCode) (script : ScriptFields) → scripts_read.IsFirstFault bytes line code → scripts.IsTextOf bytes script → ⊥
 spells_no_script bytes line code script first spelled =
     let same = rows_unique default_config st.StartRecord (strip_bom bytes) spelled.0 first.0 spelled.1 first.1 in
     some_none _ (sym first.2 ∙ subst (λ (rows : List Row). script_faults.first_fault rows ≡ None) same (script_clean spelled.0 script spelled.2).0)

@@ -103,16 +103,16 @@ IsOutput watchers (Some (Drill count)) bytes text = text ≡ drill_text count wa
 -- ---- refusals
 
 -- the line that is written about an input whose record at this line has this fault of a script
-abbrev pub script_line : ℕ → script_code.Code → List ℕ
+abbrev pub script_line : ℕ → script_code.ScriptCode → List ℕ
 script_line line code = line_text (codes "error" ∷ decimal line ∷ decimal (code_number code) ∷ [])
 
 -- the line of the first fault of an input: as a script, as an event list or as a report
 abbrev pub IsFaultLine : Option Command → List ℕ → List ℕ → Type 0
 IsFaultLine None bytes text = ⊥
-IsFaultLine (Some Run) bytes text = (line : ℕ) × (code : script_code.Code) × scripts_read.IsFirstFault bytes line code × (text ≡ script_line line code)
+IsFaultLine (Some Run) bytes text = (line : ℕ) × (code : script_code.ScriptCode) × scripts_read.IsFirstFault bytes line code × (text ≡ script_line line code)
 IsFaultLine (Some Replay) bytes text = (fault : Fault Code) × IsFirstFault false bytes fault × (text ≡ error_line fault)
 IsFaultLine (Some Audit) bytes text = (fault : Fault Code) × IsFirstFault true bytes fault × (text ≡ error_line fault)
-IsFaultLine (Some (Bound cap)) bytes text = (line : ℕ) × (code : script_code.Code) × scripts_read.IsFirstFault bytes line code × (text ≡ script_line line code)
+IsFaultLine (Some (Bound cap)) bytes text = (line : ℕ) × (code : script_code.ScriptCode) × scripts_read.IsFirstFault bytes line code × (text ≡ script_line line code)
 IsFaultLine (Some (Drill count)) bytes text = ⊥
 
 -- the status with which a command refuses an input

@@ -32,10 +32,10 @@ told_due (Some (what.Script line code)) = None
 -- line that was due there, if there is one
 abbrev pub IsFaultTold : Option Command → List ℕ → Option Told → Type 0
 IsFaultTold None bytes told = ⊥
-IsFaultTold (Some Run) bytes told = (line : ℕ) × (code : script_code.Code) × scripts_read.IsFirstFault bytes line code × (told ≡ Some (what.Script line code))
+IsFaultTold (Some Run) bytes told = (line : ℕ) × (code : script_code.ScriptCode) × scripts_read.IsFirstFault bytes line code × (told ≡ Some (what.Script line code))
 IsFaultTold (Some Replay) bytes told = (fault : Fault Code) × IsFirstFault false bytes fault × (told ≡ Some (what.List fault None))
 IsFaultTold (Some Audit) bytes told = (fault : Fault Code) × IsFirstFault true bytes fault × (told_fault told ≡ Some fault) × IsDueFor fault.code bytes fault (told_due told)
-IsFaultTold (Some (Bound cap)) bytes told = (line : ℕ) × (code : script_code.Code) × scripts_read.IsFirstFault bytes line code × (told ≡ Some (what.Script line code))
+IsFaultTold (Some (Bound cap)) bytes told = (line : ℕ) × (code : script_code.ScriptCode) × scripts_read.IsFirstFault bytes line code × (told ≡ Some (what.Script line code))
 IsFaultTold (Some (Drill count)) bytes told = ⊥
 
 -- what is reported once an output was written, whole or a front part: that the steps of a list were shown, if somebody
