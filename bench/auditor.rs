@@ -9,7 +9,7 @@ const LEDGER: Fault = (7, None);
 /// The greatest balance.
 const MOST: u128 = 1_000_000_000_000_000_000;
 
-/// What a section did that an event ends or raises: what it held, and whether its edits may stand behind the event.
+/// What a section did that an event ends or raises: what it held, and whether edits may follow the event.
 #[derive(Clone, Copy)]
 struct Acts {
     reads: u64,
@@ -17,7 +17,7 @@ struct Acts {
     edits: bool,
 }
 
-/// An act as it is told.
+/// An act as it is reported.
 pub enum Act<'a> {
     Show(usize, u64),
     Edit(&'a str, usize, u64, bool),
@@ -30,11 +30,11 @@ pub struct Auditor {
     /// Of each resource its balance, and how many edits were taken.
     pub ledgers: Vec<(u64, u64)>,
     ledgers_told: usize,
-    /// The lines that are due behind the last event, and how many of them were read.
+    /// The lines that are due after the last event, and how many of them were read.
     due: Vec<String>,
     read: usize,
     acts: Option<Acts>,
-    /// The record of each wait, and the bound that it tells.
+    /// The record of each wait, and the bound that it gives.
     waits: Vec<(usize, [u64; 3])>,
 }
 
@@ -57,7 +57,7 @@ impl Auditor {
         numbered(field, 't', self.judge.tasks).ok_or(NAME)
     }
 
-    /// Takes a record of the report, or tells its fault.
+    /// Takes a record of the report, or answers its fault.
     pub fn take(&mut self, record: usize, fields: &[&str]) -> Result<(), Fault> {
         match fields {
             ["show", resource, shown] => {
@@ -129,7 +129,7 @@ impl Auditor {
         Ok(())
     }
 
-    /// What stands behind the entries begins with the first ledger.
+    /// What follows the entries begins with the first ledger.
     fn leave_entries(&mut self) -> Result<(), Fault> {
         demand(!self.is_due(), CHANGE)?;
         let behind = matches!(self.judge.place, Place::Tasks | Place::Cap | Place::Events | Place::Ledgers);
@@ -163,7 +163,7 @@ impl Auditor {
     fn other(&mut self, fields: &[&str]) -> Result<(), Fault> {
         if self.is_due() {
             let place = std::mem::replace(&mut self.judge.place, Place::Ledgers);
-            let fault = self.judge.take(fields).expect_err("nothing may stand behind the ledgers");
+            let fault = self.judge.take(fields).expect_err("nothing may follow the ledgers");
             self.judge.place = place;
             return Err(if fault == ORDER { CHANGE } else { fault });
         }

@@ -72,7 +72,7 @@ impl Clerk {
         demand(from <= self.place && self.place <= to && self.section.is_some() == inside, 11)
     }
 
-    /// Takes a record of the script, or tells its code.
+    /// Takes a record of the script, or answers its code.
     pub fn take(&mut self, fields: &[&str]) -> Result<(), Code> {
         match fields {
             ["rnlp", "1"] => {

@@ -31,7 +31,7 @@ pub fn all(resources: usize) -> u64 {
     u64::MAX >> (64 - resources.clamp(1, 64))
 }
 
-/// Whether one more is declared of something than there may be. No other record is spoiled then, so that this one is told.
+/// Whether one more is declared of something than there may be. No other record is spoiled then, so that this one is reported.
 pub fn is_too_many(resources: usize, groups: usize, tasks: usize) -> bool {
     resources > 64 || groups > 256 || tasks > 64
 }

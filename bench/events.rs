@@ -1,5 +1,5 @@
 //! Event lists, each drawn from its number alone. About half of them have no fault. In the others some records are spoiled: a field is
-//! lost, added or exchanged, a record stands twice, at a wrong place or behind the end, an event is drawn without a look at who holds
+//! lost, added or exchanged, a record stands twice, at a wrong place or after the end, an event is drawn without a look at who holds
 //! what.
 use crate::draw::{all, is_too_many, SPOILT};
 use crate::judge::{Fault, Judge, Place};
@@ -145,7 +145,7 @@ impl List {
     }
 }
 
-/// The line that tells the fault of a record.
+/// The line of the fault of a record.
 pub fn error_line((record, (code, sub)): (usize, Fault)) -> String {
     match sub {
         Some(sub) => format!("error,{record},{code},{sub}\n"),

@@ -89,7 +89,7 @@ impl Judge {
         field.split('+').try_fold(0, |all, name| Ok(all | 1 << piece(name)?))
     }
 
-    /// Takes a record of the list, or tells its fault.
+    /// Takes a record of the list, or answers its fault.
     pub fn take(&mut self, fields: &[&str]) -> Result<(), Fault> {
         match fields {
             ["rnlp", version] => {

@@ -224,7 +224,7 @@ pub fn write_event(out: &mut impl Write, event: Event) -> Result<()> {
     }
 }
 
-/// What changed from the claims before to those now, as a report tells it.
+/// What changed from the claims before to those now, as a report says it.
 pub fn write_changes(out: &mut impl Write, before: &[Claim], now: &[Claim]) -> Result<()> {
     let was = |c: &Claim| before.iter().find(|b| b.stamp == c.stamp && b.write == c.write);
     for c in now {

@@ -118,7 +118,7 @@ impl Report {
         }
         let mut fields: Vec<String> = record.split(',').map(str::to_string).collect();
         let at = self.dice.below(fields.len());
-        // A name that is declared stays the letter with its number, by which it is told.
+        // A name that is declared stays the letter with its number, by which it is known.
         let declares = matches!(fields[0].as_str(), "resource" | "task");
         match self.dice.below(9) {
             0 if !declares => return,

@@ -99,7 +99,7 @@ impl Script {
         }
         let mut fields: Vec<String> = record.split(',').map(str::to_string).collect();
         let at = self.dice.below(fields.len());
-        // A name that is declared stays the letter with its number, by which it is told.
+        // A name that is declared stays the letter with its number, by which it is known.
         let declares = matches!(fields[0].as_str(), "resource" | "task");
         match self.dice.below(8) {
             0 => drop(fields.remove(at)),

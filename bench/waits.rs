@@ -111,7 +111,7 @@ impl Run {
         }
     }
 
-    /// The sections of its cover, where each claim has the length that is told.
+    /// The sections of its cover, where each claim has the length that is given.
     fn cover(&self, length: &HashMap<Id, u64>) -> Sections {
         let taken = |s: &Stretch| s.throughout.as_ref().map(|all| *all.iter().min().expect("one is satisfied throughout"));
         let reads: HashSet<_> = self.stretches.iter().filter_map(taken).collect();
@@ -121,7 +121,7 @@ impl Run {
     }
 }
 
-/// The history of a report as it is told; the bounds of waits are put into it at the end.
+/// The history of a report as it grows; the bounds of waits are put into it at the end.
 #[derive(Default)]
 pub struct History {
     text: Vec<u8>,
@@ -133,7 +133,7 @@ pub struct History {
 }
 
 impl History {
-    /// Takes an event, and tells it with what it changes and the waits that it ends.
+    /// Takes an event, and reports it with what it changes and the waits that it ends.
     pub fn take(&mut self, lock: &mut Lock, event: Event) -> Result<()> {
         let before = lock.claims.clone();
         lock.step(event);
@@ -167,12 +167,12 @@ impl History {
         Ok(())
     }
 
-    /// How much is told so far.
+    /// How much is reported so far.
     pub fn told(&self) -> usize {
         self.text.len()
     }
 
-    /// The lines that were told from there on, those of waits without their bounds.
+    /// The lines that were reported from there on, those of waits without their bounds.
     pub fn lines_from(&self, mut at: usize) -> Vec<String> {
         let mut parts = Vec::new();
         let ends = self.gaps.iter().map(|gap| gap.0).filter(|to| *to > at).chain([self.text.len()]);
@@ -184,13 +184,13 @@ impl History {
         parts
     }
 
-    /// The bounds of the waits that were told, by all needs.
+    /// The bounds of the reported waits, by all needs.
     pub fn bounds(&self, cap: usize) -> Vec<Sections> {
         let mut bounds = Bounds::of(&self.needs, cap);
         self.gaps.iter().map(|(_, claim, stage)| bounds.of_wait(claim, *stage)).collect()
     }
 
-    /// Writes what was told, with the bounds by all needs.
+    /// Writes what was reported, with the bounds by all needs.
     pub fn write(&self, out: &mut impl Write, cap: usize) -> Result<()> {
         let mut at = 0;
         for ((to, ..), (reads, writes, units)) in self.gaps.iter().zip(self.bounds(cap)) {
