@@ -9,25 +9,29 @@ use std::thread;
 
 const RECORDS: usize = 64;
 
+/// A record on lines of memory of its own, so that locks of different records do not slow each other.
+#[repr(align(128))]
+struct Record(RwLock<u64>);
+
 fn places(thread: usize, resources: usize, apart: bool) -> std::ops::Range<usize> {
     let first = if apart { thread * resources } else { 0 };
     first..first + resources
 }
 
 fn with_rwlocks(threads: usize, sections: usize, resources: usize, apart: bool) -> u64 {
-    let records: Vec<RwLock<u64>> = (0..RECORDS).map(|_| RwLock::new(0)).collect();
+    let records: Vec<Record> = (0..RECORDS).map(|_| Record(RwLock::new(0))).collect();
     thread::scope(|scope| {
         for t in 0..threads {
             let records = &records;
             scope.spawn(move || {
                 for _ in 0..sections {
-                    let mut held: Vec<_> = places(t, resources, apart).map(|l| records[l].write().unwrap()).collect();
+                    let mut held: Vec<_> = places(t, resources, apart).map(|l| records[l].0.write().unwrap()).collect();
                     held.iter_mut().for_each(|record| **record += 1);
                 }
             });
         }
     });
-    records.iter().map(|record| *record.read().unwrap()).sum()
+    records.iter().map(|record| *record.0.read().unwrap()).sum()
 }
 
 fn with_mutex(threads: usize, sections: usize, resources: usize, apart: bool) -> u64 {
