@@ -7,8 +7,8 @@ ghost use Rattle.rnlp_cli.specs.declared.explained.Told.{Told};
 ghost use Rattle.rnlp_edge.specs.Lines.{told_lines};
 ghost use Rattle.rnlp_edge.specs.Program.{KeepsTheHeadline, ProgramAnswer, ProgramTells, RunAnswer, RunTells, ShownAnswer, ShownTells, is_replay, is_unwatched};
 
+use crate::help::own_text;
 use crate::lines::lines_of;
-use crate::own::own_text;
 use crate::telling::explain;
 use io_ends::{Sink, Source};
 use rguard::Receipt;

@@ -4,9 +4,9 @@
 #![tactic(auto)]
 
 mod edge;
+mod help;
 mod lines;
 mod meanings;
-mod own;
 mod progress;
 mod telling;
 mod words;

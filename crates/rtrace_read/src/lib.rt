@@ -9,13 +9,13 @@ mod due;
 mod events;
 mod head;
 mod left;
+mod other_records;
 mod place;
-mod plain;
 mod reading;
-mod rows;
 mod taken;
+mod taking;
 
 pub use place::AT_LEDGERS;
 pub use reading::ReportReader;
-pub use rows::take;
 pub use taken::{BoundTold, TakenRecord};
+pub use taking::take;
