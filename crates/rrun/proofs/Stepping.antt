@@ -25,12 +25,15 @@ use Rattle.rscript.specs.declared.section.OpenSection.{OpenSection}
 use Rattle.rscript.specs.declared.statement.Statement.{Statement}
 use Rattle.rscript.specs.declared.statement.Statement.TheVariants as statement
 use Rattle.rguard.specs.Guards.{GuardFields, WaitFields, HasBegun, HasAsked, HasSeenLawful, HasSeenOwn, IsPartOf, kind_for}
-use Rattle.rguard.specs.Looks.{fields_of, kind_of, HasAwaited}
+use Rattle.rguard.specs.Looks.{fields_of, kind_of, HasAwaited, BeginsWithLook}
 use Rattle.rguard.specs.Seats.{SeatOf, IsIdle, Goes, bare}
 use Rattle.rguard.specs.LentSections.{may_edit}
 use Rattle.rguard.specs.declared.guard.Guard.{Guard}
 use Rattle.rguard.specs.declared.guard.Guard.TheVariants as guard
 use Rattle.rguard.specs.declared.kind.GuardKind.TheVariants as guards
+use Rattle.rguard.specs.declared.pending.Looked.{Looked}
+use Rattle.rguard.specs.declared.pending.Looked.TheVariants.{Ready, NotYet}
+use Rattle.rguard.proofs.AtOnce.{wait_at_once, begun_at_once, awaited_at_once}
 use Rattle.rguard.proofs.Going.{goes_nowhere, goes_on}
 use Rattle.rrun.specs.declared.desk.Desk.TheVariants.{Idle, Busy}
 use Rattle.rrun.specs.Desks.{IsGuardOf, HasStepped}
@@ -108,6 +111,20 @@ module _ {M : Type 0} where
           goes = goes_on seat wait.seat (fields_of later).seat (bare (events.Issue seat.number r) ∷ []) [] begins.goes awaited.goes;
           run = refl;
         }
+
+    -- a section begins that was granted in its own turn
+    pub has_begun_at_once : (site : Site) (seat : SeatOf Ledger Edit) (r : RequestFields) (looked : Looked Ledger M Edit) (began : Beginning Ledger) → looked ≡ Ready later → seat.opening ≡ Some began → BeginsWithLook site seat r looked
+        → IsNormal r → HasStepped {M = M} (Idle seat) (statement.Begin r) (Busy later)
+    has_begun_at_once site seat r looked began is opening begins normal =
+        let now : BeginsWithLook site seat r (Ready later) = subst (λ (l : Looked Ledger M Edit). BeginsWithLook site seat r l) is begins in
+        has_begun site seat r (wait_at_once site seat r later now.0) began opening (begun_at_once site seat r later now.0 now.1) (awaited_at_once site seat r later now.0) normal
+
+    -- a section begins that was not, and rested
+    pub has_begun_later : (site : Site) (seat : SeatOf Ledger Edit) (r : RequestFields) (looked : Looked Ledger M Edit) (wait rested : WaitFields Ledger Edit) (began : Beginning Ledger) → looked ≡ NotYet wait → rested ≡ wait
+        → seat.opening ≡ Some began → BeginsWithLook site seat r looked → HasAwaited rested later → IsNormal r → HasStepped {M = M} (Idle seat) (statement.Begin r) (Busy later)
+    has_begun_later site seat r looked wait rested began is same opening begins awaited normal =
+        let now : BeginsWithLook {M = M} site seat r (NotYet wait) = subst (λ (l : Looked Ledger M Edit). BeginsWithLook site seat r l) is begins in
+        has_begun site seat r wait began opening now.0 (subst (λ (w : WaitFields Ledger Edit). HasAwaited w later) same awaited) normal
 
     -- a nested section has asked for more
     pub has_asked : (before : GuardFields Ledger Edit) (section : OpenSection) (part : Set) (wait : WaitFields Ledger Edit) → IsGuardOf {M = M} section (guard.Nest before) → HasAsked before part wait → HasAwaited wait later

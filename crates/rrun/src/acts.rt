@@ -7,10 +7,11 @@ ghost use Rattle.rrun.specs.Working.{section_made, FitsAt};
 ghost use Rattle.rrun.specs.Desks.{IsGuardOf, HasStepped, HasLeft};
 
 use crate::desk::{At, Desk};
+use crate::guards::seat_of;
 use crate::pace::Pace;
 use crate::waiting::wait_for_guard;
 use rclaim::Request;
-use rguard::{Guard, Rnlp, Seat};
+use rguard::{Guard, Looked, Rnlp, Seat};
 use rmodel::Machine;
 use rscript::Statement;
 use rset::ResourceSet;
@@ -18,7 +19,7 @@ use rvalue::{Edit, Ledger};
 use std::alloc::{AllocError, Global};
 use std::sync::Wait;
 
-/// A section begins: its request is issued and waited for.
+/// A section begins: its request is issued and looked at in one turn, and waited for if it was not granted there.
 ///
 /// # Errors
 ///
@@ -39,9 +40,15 @@ pub(crate) fn begin<'a, R: Wait, M: Machine, G: Pace>(
     ensures ok { IfOk result (HasStepped (Desk.Idle seat) (Statement.Begin request)) }
     ensures err { IfErr result (λ e. HasLeft seat e.0) }
 {
-    match rnlp.begin(rt, alloc, seat, request) {
-        Ok(pending) => {
-            let guard = wait_for_guard(rt, pending, pace);
+    match rnlp.begin_and_look(rt, alloc, seat, request) {
+        Ok(Looked::Ready(guard)) => {
+            let _ = seat_of(&guard);
+            pace.section(at.task, at.section);
+            Ok(Desk::Busy(guard))
+        }
+        Ok(Looked::NotYet(pending)) => {
+            pace.turn();
+            let guard = wait_for_guard(rt, pending.rest(rt), pace);
             pace.section(at.task, at.section);
             Ok(Desk::Busy(guard))
         }

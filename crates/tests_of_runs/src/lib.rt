@@ -2,6 +2,8 @@
 #![tactic(auto)]
 
 #[cfg(test)]
+mod resting;
+#[cfg(test)]
 mod runs;
 #[cfg(test)]
 mod sections;

@@ -91,6 +91,24 @@ fn upgrades_rise_among_readers(rt: HostRuntime) -> Result<(), Fail> {
     Ok(())
 }
 
+// A script of eight tasks that each add 1 to one resource in 50 sections.
+fn push_adders(text: &mut Vec<u8>) -> Result<(), AllocError> {
+    text.extend_from_slice(b"rnlp,1\nresource,a\n")?;
+    for name in ["t1", "t2", "t3", "t4", "t5", "t6", "t7", "t8"] {
+        push_task(text, name, "write,a,1\nadd,a,1\nfinish\n", 50)?;
+    }
+    text.extend_from_slice(b"end\n")
+}
+
+#[test]
+fn eight_tasks_wait_for_one_resource(rt: HostRuntime) -> Result<(), Fail> {
+    let mut text = Vec::new(rt.alloc());
+    push_adders(&mut text)?;
+    let added = adds(&rt, rt.alloc(), text.as_slice(), 800, &[400]);
+    assert!(rt; added);
+    Ok(())
+}
+
 // A script of two tasks that ask, and two that hold what they ask for.
 fn push_asking(text: &mut Vec<u8>) -> Result<(), AllocError> {
     text.extend_from_slice(b"rnlp,1\nresource,a\nresource,b\n")?;
