@@ -1,10 +1,10 @@
 -- What entries that only add 1s do to the ledgers.
-use Rattle.std.proofs.Common.{◌≡◌, ℕ, zero, suc, ◌+◌, ◌-◌, ◌*◌, ◌<◌, ◌≤◌, ◌==◌, Bool, true, false, cond, List, [], ◌∷◌, ◌++◌, map, length, fold, refl, sym, ap, subst, ◌∙◌, arith, append-nil, append_assoc, length-append}
+use Rattle.std.proofs.Common.{◌≡◌, ℕ, zero, suc, ◌+◌, ◌-◌, ◌*◌, ◌/◌, ◌%◌, ◌<◌, ◌≤◌, ◌==◌, Bool, true, false, cond, List, [], ◌∷◌, ◌++◌, map, length, fold, refl, sym, ap, subst, ◌∙◌, inl, inr, arith, append-nil, append_assoc, length-append}
 use Rattle.std.specs.List.{AllByRecursion, range_with_len, sum_by}
-use Rattle.std.proofs.lemmas.Bool.{eqb-true}
+use Rattle.std.proofs.lemmas.Bool.{eqb-true, cases_eq, eq-eqb, ne_eqb}
 use Rattle.std.proofs.lemmas.List.Sums.{sum_by-cons, sum_by-append}
 use Rattle.rset.specs.declared.TheConstants.{RESOURCES}
-use Rattle.rclaim.specs.Requests.{RequestFields}
+use Rattle.rset.specs.Sets.{Set}
 use Rattle.rclaim.specs.declared.event.Event.TheVariants.{Issue, Finish}
 use Rattle.rmodel.proofs.ListFacts.{all_append}
 use Rattle.rvalue.specs.InTurn.{AllInTurn}
@@ -19,7 +19,9 @@ use Rattle.rvalue.specs.Entries.{EntryFields, is_finish, edits_of}
 use Rattle.rvalue.specs.Histories.{edits_on, value_of, EntryAnswersRightly}
 use Rattle.rvalue.proofs.ValueLemmas.{value_within-append, value_of-longer}
 use Rattle.rguard.specs.Seats.{bare}
-use Rattle.rguard.specs.Sections.{sections_of}
+use Rattle.bench_sections.specs.Sections.{one_added, request_of, acts_of}
+use Rattle.bench_sections.specs.Measure.{writes_at, write_count, entries_of}
+use Rattle.bench_sections.specs.declared.words.Asked.{Asked}
 use Rattle.bench_sections.proofs.Sums.{sum_of_none, sum_of_both, sum_at_one}
 
 -- the act adds 1 to the ledger of a resource, and is taken
@@ -115,23 +117,60 @@ edits_of_all (entry ∷ entries) adds =
 
 -- ---- the sections of a seat
 
-module _ (seat : ℕ) (request : RequestFields) (acts : List (Act Edit)) where
-  -- each entry of them adds 1s where the acts do
-  pub sections_add : AllByRecursion IsOne acts → (count : ℕ) → AllByRecursion AddsOnes (sections_of seat request acts count)
-  sections_add ones zero = tt
-  sections_add ones (suc count) =
-      all_append AddsOnes (sections_of seat request acts count) (bare (Issue seat request) ∷ record { event = Finish seat; acts = acts } ∷ []) (sections_add ones count)
-      (record { each = tt; ends = λ no. refl }, (record { each = ones; ends = λ no. absurd (cc) }, tt))
+-- one section more: one more writes if it does
+count_next : (reads : Bool) (k : ℕ) → cond reads (suc k / 10) (suc k) ≡ cond reads (k / 10) k + cond (cond reads (k % 10 == 9) true) 1 0
+count_next false k = omega arith
+count_next true k = elim (cases_eq (k % 10) 9) [
+  | inl same ↦ last same ∙ ap (λ (b : Bool). k / 10 + cond b 1 0) (sym (eq-eqb (k % 10) 9 same))
+  | inr other ↦ among other ∙ ap (λ (b : Bool). k / 10 + cond b 1 0) (sym (ne_eqb (k % 10) 9 other))
+]
+  where
+    last : k % 10 ≡ 9 → suc k / 10 ≡ k / 10 + 1
+    last same = omega arith
 
-  -- they have as many acts as the sections together
-  pub acts_of_sections : (count : ℕ) → sum_by act_count (sections_of seat request acts count) ≡ count * length acts
-  acts_of_sections zero = omega arith
-  acts_of_sections (suc count) =
-      sum_by-append act_count (sections_of seat request acts count) (bare (Issue seat request) ∷ record { event = Finish seat; acts = acts } ∷ [])
-      ∙ ap (λ n. n + (0 + 0 + length acts)) (acts_of_sections count) ∙ more count (length acts)
+    among : (k % 10 ≡ 9 → ⊥) → suc k / 10 ≡ k / 10 + 0
+    among other = omega arith
+
+module _ (asked : Asked) (set : Set) (seat : ℕ) where
+  -- each entry of them adds 1s where it has acts
+  pub entries_add : AllByRecursion IsOne (one_added set) → (count : ℕ) → AllByRecursion AddsOnes (entries_of asked set seat count)
+  entries_add ones zero = tt
+  entries_add ones (suc k) =
+      all_append AddsOnes (entries_of asked set seat k) (bare (Issue seat (request_of (writes_at asked k) set)) ∷ record { event = Finish seat; acts = acts_of (writes_at asked k) set } ∷ []) (entries_add ones k)
+      (record { each = tt; ends = λ no. refl }, (record { each = each (writes_at asked k); ends = λ no. absurd (cc) }, tt))
     where
-      more : (c n : ℕ) → c * n + (0 + 0 + n) ≡ suc c * n
-      more c n = omega arith
+      each : (writes : Bool) → AllByRecursion IsOne (acts_of writes set)
+      each true = ones
+      each false = tt
+
+  -- together they have the acts of those that write
+  pub acts_of_entries : (count : ℕ) → sum_by act_count (entries_of asked set seat count) ≡ write_count asked count * length (one_added set)
+  acts_of_entries zero = none asked.reads (length (one_added set))
+    where
+      none : (reads : Bool) (n : ℕ) → 0 ≡ cond reads (0 / 10) 0 * n
+      none true n = omega arith
+      none false n = omega arith
+  acts_of_entries (suc k) =
+      sum_by-append act_count (entries_of asked set seat k) (bare (Issue seat (request_of (writes_at asked k) set)) ∷ record { event = Finish seat; acts = acts_of (writes_at asked k) set } ∷ [])
+      ∙ (λ i. acts_of_entries k i + (0 + 0 + of_one (writes_at asked k) i))
+      ∙ more (write_count asked k) (length (one_added set)) (writes_at asked k) (count_next asked.reads k)
+    where
+      of_one : (writes : Bool) → length (acts_of writes set) ≡ cond writes (length (one_added set)) 0
+      of_one true = refl
+      of_one false = refl
+
+      one_more_of : (c n : ℕ) → c * n + (0 + 0 + n) ≡ suc c * n
+      one_more_of c n = omega arith
+
+      none_more_of : (c n : ℕ) → c * n + (0 + 0 + 0) ≡ (c + 0) * n
+      none_more_of c n = omega arith
+
+      next : (c : ℕ) → suc c ≡ c + 1
+      next c = omega arith
+
+      more : (c n : ℕ) (writes : Bool) {all : ℕ} → all ≡ c + cond writes 1 0 → c * n + (0 + 0 + cond writes n 0) ≡ all * n
+      more c n true is = one_more_of c n ∙ ap (λ m. m * n) (next c ∙ sym is)
+      more c n false is = none_more_of c n ∙ ap (λ m. m * n) (sym is)
 
 -- the edits of this many numbers from the first on, which are all resources
 pub ones_from : (n first : ℕ) → n ≤ RESOURCES - first → AllByRecursion IsOne (map (λ l. Edited l (Add 1) true) (range_with_len first n))

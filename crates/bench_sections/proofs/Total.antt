@@ -1,5 +1,5 @@
 -- What is left in the ledgers of a closed runtime whose seats have made all sections that were asked for.
-use Rattle.std.proofs.Common.{◌≡◌, ℕ, ◌+◌, ◌-◌, ◌*◌, ◌%◌, ◌^◌, ◌<◌, ◌≤◌, ◌==◌, length-append, List, [], ◌∷◌, ◌++◌, map, length, get_or, replicate, Some, true, refl, sym, ap, subst, ◌∙◌, arith, append-nil, append_assoc}
+use Rattle.std.proofs.Common.{◌≡◌, ℕ, ◌+◌, ◌-◌, ◌*◌, ◌/◌, ◌%◌, ◌^◌, ◌<◌, ◌≤◌, ◌==◌, Bool, false, cond, length-append, List, [], ◌∷◌, ◌++◌, map, length, get_or, replicate, Some, true, refl, sym, ap, subst, ◌∙◌, arith, append-nil, append_assoc}
 use Rattle.std.proofs.Math.Nat.{min-le_right, mul-le-mul_left, mul-le-mul_right}
 use Rattle.std.proofs.lemmas.Bool.{eq-eqb}
 use Rattle.std.proofs.lemmas.List.{length-map}
@@ -26,12 +26,11 @@ use Rattle.rstate.specs.Histories.{Beginning, MayFollow}
 use Rattle.rguard.specs.Closing.{IsClosedBy, IsLeft}
 use Rattle.rguard.specs.Seats.{SeatOf}
 use Rattle.rguard.proofs.Closed.{each_opens, each_listed, seats_there}
-use Rattle.rguard.specs.Sections.{write_of, sections_of}
 use Rattle.bench_sections.specs.Sections.{one_added}
-use Rattle.bench_sections.specs.Measure.{first_record, record_count, ones_asked, HasMadeAll, IsSumLeft}
+use Rattle.bench_sections.specs.Measure.{first_record, record_count, write_count, entries_of, ones_asked, HasMadeAll, IsSumLeft}
 use Rattle.bench_sections.specs.declared.words.Asked.{Asked}
 use Rattle.bench_sections.proofs.Sums.{sum_alike, sum_of_map, sum_by_number}
-use Rattle.bench_sections.proofs.Ones.{IsOne, AddsOnes, act_count, ledger_after, grows_by_one, edits_of_all, sections_add, acts_of_sections, ones_from}
+use Rattle.bench_sections.proofs.Ones.{IsOne, AddsOnes, act_count, ledger_after, grows_by_one, edits_of_all, entries_add, acts_of_entries, ones_from}
 
 abbrev balance : Ledger → ℕ
 balance ledger = ledger.balance
@@ -57,11 +56,19 @@ module _ (b : Beginning Ledger) (values_are : b.values ≡ replicate RESOURCES o
 -- what is asked for fits in 64 bits
 ones_fit : (asked : Asked) → asked.threads ≤ SEATS → asked.sections < 2 ^ 32 → ones_asked asked < 2 ^ 64
 ones_fit asked few fits =
-    let each = sum_by-le (λ n. asked.sections * record_count asked n) (asked.sections * RESOURCES) (range_with_len 0 asked.threads) (λ k d less. of_one (get_or (range_with_len 0 asked.threads) k d)) in
+    let each = sum_by-le (λ n. write_count asked asked.sections * record_count asked n) (asked.sections * RESOURCES) (range_with_len 0 asked.threads) (λ k d less. of_one (get_or (range_with_len 0 asked.threads) k d)) in
     within (ones_asked asked) (length (range_with_len 0 asked.threads)) asked.threads asked.sections (length-range_with_len 0 asked.threads) few fits each
   where
-    of_one : (n : ℕ) → asked.sections * record_count asked n ≤ asked.sections * RESOURCES
-    of_one n = mul-le-mul_left asked.sections (let all : record_count asked n ≤ RESOURCES - first_record asked n = min-le_right asked.resources (RESOURCES - first_record asked n) in omega arith)
+    some_write : (reads : Bool) (count : ℕ) → cond reads (count / 10) count ≤ count
+    some_write true count = omega arith
+    some_write false count = omega arith
+
+    of_one : (n : ℕ) → write_count asked asked.sections * record_count asked n ≤ asked.sections * RESOURCES
+    of_one n =
+        let within : record_count asked n ≤ RESOURCES - first_record asked n = min-le_right asked.resources (RESOURCES - first_record asked n) in
+        let few_records : asked.sections * record_count asked n ≤ asked.sections * RESOURCES = mul-le-mul_left asked.sections (omega arith) in
+        let few_writes : write_count asked asked.sections * record_count asked n ≤ asked.sections * record_count asked n = mul-le-mul_right (record_count asked n) (some_write asked.reads asked.sections) in
+        omega arith
 
     within : (s n t c : ℕ) → n ≡ t → t ≤ SEATS → c < 2 ^ 32 → s ≤ n * (c * RESOURCES) → s < 2 ^ 64
     within s n t c same few fits most =
@@ -94,7 +101,7 @@ module _ (asked : Asked) (site : Site) (seats : List (SeatOf Ledger Edit)) (made
     abbrev it : HasNumber n
     it = with_number n less
 
-    own : by n ≡ sections_of it.seat.number (write_of it.all.set) (one_added it.all.set) asked.sections
+    own : by n ≡ entries_of asked it.all.set it.seat.number asked.sections
     own = ap by (sym it.number) ∙ it.closes.own ∙ it.all.sections.made
 
     its_ones : AllByRecursion IsOne (one_added it.all.set)
@@ -103,13 +110,13 @@ module _ (asked : Asked) (site : Site) (seats : List (SeatOf Ledger Edit)) (made
         (ones_from (record_count asked it.seat.number) (first_record asked it.seat.number) (min-le_right asked.resources (RESOURCES - first_record asked it.seat.number)))
 
     by_adds : AllByRecursion AddsOnes (by n)
-    by_adds = subst (AllByRecursion AddsOnes) (sym own) (sections_add it.seat.number (write_of it.all.set) (one_added it.all.set) its_ones asked.sections)
+    by_adds = subst (AllByRecursion AddsOnes) (sym own) (entries_add asked it.all.set it.seat.number its_ones asked.sections)
 
-    by_count : sum_by act_count (by n) ≡ asked.sections * record_count asked n
+    by_count : sum_by act_count (by n) ≡ write_count asked asked.sections * record_count asked n
     by_count =
-        ap (λ (es : List (EntryFields Edit)). sum_by act_count es) own ∙ acts_of_sections it.seat.number (write_of it.all.set) (one_added it.all.set) asked.sections
-        ∙ ap (λ m. asked.sections * m) (length-map (rising it.all.set) (λ l. Edited l (Add 1) true) ∙ ap (λ (xs : List ℕ). length xs) it.all.sections.records ∙ length-range_with_len (first_record asked it.seat.number) (record_count asked it.seat.number))
-        ∙ ap (λ m. asked.sections * record_count asked m) it.number
+        ap (λ (es : List (EntryFields Edit)). sum_by act_count es) own ∙ acts_of_entries asked it.all.set it.seat.number asked.sections
+        ∙ ap (λ m. write_count asked asked.sections * m) (length-map (rising it.all.set) (λ l. Edited l (Add 1) true) ∙ ap (λ (xs : List ℕ). length xs) it.all.sections.records ∙ length-range_with_len (first_record asked it.seat.number) (record_count asked it.seat.number))
+        ∙ ap (λ m. write_count asked asked.sections * record_count asked m) it.number
 
   abbrev first : HasNumber 0
   first = with_number 0 some
@@ -153,7 +160,7 @@ module _ (asked : Asked) (site : Site) (seats : List (SeatOf Ledger Edit)) (made
       ∙ ap (λ (f : ℕ → ℕ). sum_by f (range_with_len 0 RESOURCES)) (λ i l. balance_at l i)
       ∙ edits_of_all end.entries all_add
       ∙ sym (sum_by_number (λ (entry : EntryFields Edit). seat_of entry.event) act_count asked.threads end.entries there)
-      ∙ sum_alike (λ n. sum_by act_count (by n)) (λ n. asked.sections * record_count asked n) asked.threads 0 (λ n low high. by_count n (omega arith))
+      ∙ sum_alike (λ n. sum_by act_count (by n)) (λ n. write_count asked asked.sections * record_count asked n) asked.threads 0 (λ n low high. by_count n (omega arith))
 
   -- and the sum modulo 2^64 is just that
   pub sum_is : asked.threads ≤ SEATS → asked.sections < 2 ^ 32 → sum ≡ ones_asked asked

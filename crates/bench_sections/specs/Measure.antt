@@ -1,20 +1,20 @@
 -- What the threads are asked to do, what their seats have done, and what is left in the ledgers.
-use Rattle.std.specs.Prelude.{◌≡◌, ℕ, ◌-◌, ◌*◌, ◌%◌, ◌^◌, ◌<◌, min, Bool, IsTrue, if◌then◌else◌, List, [], replicate, sum_by, All, Any}
+use Rattle.std.specs.Prelude.{◌≡◌, ℕ, ◌-◌, ◌*◌, ◌/◌, ◌%◌, ◌^◌, ◌<◌, ◌==◌, min, Bool, true, IsTrue, zero, suc, if◌then◌else◌, List, [], ◌∷◌, ◌++◌, replicate, sum_by, All, Any}
 use Rattle.std.specs.List.{range_with_len}
 use Rattle.rset.specs.declared.TheConstants.{RESOURCES}
 use Rattle.rset.specs.Sets.{Set, rising}
 use Rattle.rexpand.specs.Groups.{no_groups}
+use Rattle.rclaim.specs.declared.event.Event.TheVariants.{Issue, Finish}
 use Rattle.rlock.specs.Known.{Site}
 use Rattle.rvalue.specs.declared.ledger.Ledger.{Ledger}
 use Rattle.rvalue.specs.declared.ledger.Edit.{Edit}
 use Rattle.rvalue.specs.Ledgers.{opening_ledger, is_taken, value_after}
 use Rattle.rvalue.specs.Entries.{EntryFields}
 use Rattle.rguard.specs.Closing.{IsClosedBy}
-use Rattle.rguard.specs.Seats.{SeatOf}
+use Rattle.rguard.specs.Seats.{SeatOf, bare}
 use Rattle.rguard.specs.Guards.{AsSeen}
 use Rattle.rguard.specs.Resting.{Rests}
-use Rattle.rguard.specs.Sections.{write_of, sections_of}
-use Rattle.bench_sections.specs.Sections.{one_added}
+use Rattle.bench_sections.specs.Sections.{request_of, acts_of}
 use Rattle.bench_sections.specs.declared.words.Asked.{Asked}
 
 -- the numbers of the records from this one on: this many, as far as there are any
@@ -30,10 +30,24 @@ first_record asked n = if asked.apart then n * asked.resources else 0
 abbrev pub record_count : Asked → ℕ → ℕ
 record_count asked n = min asked.resources (RESOURCES - first_record asked n)
 
--- how many 1s the sections that are asked for add: for each thread, the number of its sections times the number of its
--- records
+-- whether the section with this number writes: each one, or the last of each ten
+abbrev pub writes_at : Asked → ℕ → Bool
+writes_at asked k = if asked.reads then k % 10 == 9 else true
+
+-- how many of this many sections write
+abbrev pub write_count : Asked → ℕ → ℕ
+write_count asked count = if asked.reads then count / 10 else count
+
+-- how many 1s the sections that are asked for add: for each thread, the number of its sections that write times the
+-- number of its records
 abbrev pub ones_asked : Asked → ℕ
-ones_asked asked = sum_by (λ n. asked.sections * record_count asked n) (range_with_len 0 asked.threads)
+ones_asked asked = sum_by (λ n. write_count asked asked.sections * record_count asked n) (range_with_len 0 asked.threads)
+
+-- the entries of a seat's first sections, this many: of each the issue of its request and its finish
+abbrev pub entries_of : Asked → Set → ℕ → ℕ → List (EntryFields Edit)
+entries_of asked set seat zero = []
+entries_of asked set seat (suc k) =
+    entries_of asked set seat k ++ (bare (Issue seat (request_of (writes_at asked k) set)) ∷ record { event = Finish seat; acts = acts_of (writes_at asked k) set } ∷ [])
 
 -- the lock of the seat began with an opening ledger for each resource
 abbrev pub OpensWithLedgers : SeatOf Ledger Edit → Type 0
@@ -48,14 +62,14 @@ abbrev pub HasCapOfSeats : SeatOf Ledger Edit → Type 0
 HasCapOfSeats seat = AsSeen seat (λ b. b.cap ≡ b.seats)
 
 -- a resting seat that has made this many whole sections and nothing else, each of which added 1 to each of the records
--- of its thread, the members of this set
+-- of its thread, the members of this set, or read
 pub record HasMade (asked : Asked) (site : Site) (set : Set) (count : ℕ) (seat : SeatOf Ledger Edit) : Type 0 where
   pub rests : Rests (no_groups RESOURCES) site seat
   pub opens : OpensWithLedgers seat
   pub records : rising set ≡ records_from (first_record asked seat.number) asked.resources
-  pub made : seat.mine ≡ sections_of seat.number (write_of set) (one_added set) count
+  pub made : seat.mine ≡ entries_of asked set seat.number count
 
--- a seat that has made all sections that are asked for, each of which wrote this set
+-- a seat that has made all sections that are asked for; those that write wrote this set
 pub record HasMadeAll (asked : Asked) (site : Site) (seat : SeatOf Ledger Edit) : Type 0 where
   pub set : Set
   pub sections : HasMade asked site set asked.sections seat

@@ -9,7 +9,8 @@ use Rattle.bench_sections.specs.declared.words.Asked.{Asked}
 abbrev pub Tells : List ℕ → ℕ → Type 0
 Tells word number = IsNumeral 10 (without_leading_plus word) × (digits_value 10 (without_leading_plus word) ≡ number)
 
--- what five words ask for: after the program's name, three numbers and a word, which is `apart` or means `hot`
+-- what five words ask for: after the program's name, three numbers and a word, which is `apart` or `reads`, or means
+-- `hot`
 pub record IsAskedBy (threads sections resources place : List ℕ) (asked : Asked) : Type 0 where
   pub threads_are : Tells threads asked.threads
   pub some : 0 < asked.threads
@@ -19,6 +20,7 @@ pub record IsAskedBy (threads sections resources place : List ℕ) (asked : Aske
   pub resources_are : Tells resources asked.resources
   pub few : asked.resources ≤ RESOURCES
   pub apart_is : asked.apart ≡ bytes_eq place (codes "apart")
+  pub reads_is : asked.reads ≡ bytes_eq place (codes "reads")
 
 -- no other words ask for anything
 abbrev pub AsksFor : List (List ℕ) → Asked → Type 0

@@ -8,9 +8,9 @@ ghost use Rattle.rguard.specs.Seats.{SeatOf};
 ghost use Rattle.rvalue.specs.declared.ledger.Ledger.{Ledger};
 ghost use Rattle.rvalue.specs.declared.ledger.Edit.{Edit};
 ghost use Rattle.rguard.specs.Resting.{Rests};
-ghost use Rattle.bench_sections.specs.Measure.{records_from, first_record, ones_asked, IsNew, HasCapOfSeats, HasMade, HasRun, HasMadeAll, IsSumLeft};
+ghost use Rattle.bench_sections.specs.Measure.{records_from, first_record, writes_at, ones_asked, IsNew, HasCapOfSeats, HasMade, HasRun, HasMadeAll, IsSumLeft};
 
-use crate::section::add_in;
+use crate::section::made_in;
 use crate::words::Asked;
 use rexpand::Groups;
 use rguard::{Rnlp, Seat};
@@ -69,6 +69,13 @@ fn resources_from(first: u32, count: u8) -> ResourceSet
     set
 }
 
+// Whether the section with this number writes.
+fn writes_at(asked: &Asked, k: u32) -> bool
+    ensures { result ≡ writes_at asked.now k }
+{
+    !asked.reads || k % 10 == 9
+}
+
 // All sections of a thread.
 fn run_job<R: Wait, M: Machine>(
     rt: &R,
@@ -82,10 +89,10 @@ fn run_job<R: Wait, M: Machine>(
 {
     let mut seat = job.seat.take().unwrap();
     let mut done = true;
-    for _made in 0..asked.sections {
-        let (next, added) = add_in(rt, alloc, lock, seat, job.set);
+    for k in 0..asked.sections {
+        let (next, made) = made_in(rt, alloc, lock, seat, job.set, writes_at(asked, k));
         seat = next;
-        done = done && added;
+        done = done && made;
     }
     job.seat = Some(seat);
     job.done = done;

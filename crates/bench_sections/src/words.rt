@@ -15,10 +15,12 @@ pub struct Asked {
     pub threads: u8,
     /// How many sections each of them makes.
     pub sections: u32,
-    /// How many records each section writes.
+    /// How many records a section writes.
     pub resources: u8,
     /// Whether each thread has records of its own.
     pub apart: bool,
+    /// Whether only each tenth section writes; the others then read.
+    pub reads: bool,
 }
 
 /// What the words of the command line ask for, if they ask for anything.
@@ -49,5 +51,6 @@ fn asked_in(words: &[String]) -> Option<Asked>
         sections,
         resources,
         apart: place.as_str() == "apart",
+        reads: place.as_str() == "reads",
     })
 }

@@ -4,8 +4,8 @@ use Rattle.bench_sections.proofs.measure.run_job.Goals as goal
 
 pub returns : goal.returns
 returns g c =
-    let all : c.loop-made._made ≡ c.args.asked.now.sections = omega arith in
+    let all : c.loop-k.k ≡ c.args.asked.now.sections = omega arith in
     record {
-      rests = c.loop-made.invariant.0;
-      made = λ done. record { set = c.args.job.now.set; sections = subst (λ (n : ℕ). HasMade c.args.asked.now c.args.lock.now c.args.job.now.set n c.loop-made.seat) all (c.loop-made.invariant.1 done) };
+      rests = c.loop-k.invariant.0;
+      made = λ done. record { set = c.args.job.now.set; sections = subst (λ (n : ℕ). HasMade c.args.asked.now c.args.lock.now c.args.job.now.set n c.loop-k.seat) all (c.loop-k.invariant.1 done) };
     }
