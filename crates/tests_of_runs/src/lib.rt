@@ -11,3 +11,5 @@ mod sections;
 mod stopping;
 #[cfg(test)]
 mod tools;
+#[cfg(test)]
+mod waking;
