@@ -11,5 +11,3 @@ mod sections;
 mod stopping;
 #[cfg(test)]
 mod tools;
-#[cfg(test)]
-mod waking;
