@@ -1,4 +1,5 @@
-"""What stress and wakes share: scripts that are drawn at random, with sections of every kind, and runs of them that are audited."""
+"""What stress, tally and wakes share: scripts that are drawn at random, with sections of every kind, and runs of them that are audited."""
+import random
 import subprocess
 
 
@@ -64,6 +65,13 @@ def script(draw, resources, tasks, many):
             lines += records
             events += made
     return "\n".join(lines + ["end", ""]), events
+
+
+def long_script(number):
+    """A script of up to 50 sections a task, drawn from its number, and how many events its run has."""
+    draw = random.Random(number)
+    resources, tasks = draw.randint(1, 64), draw.randint(2, 64)
+    return script(draw, resources, tasks, lambda: draw.randrange(51))
 
 
 def answer(program, word, text, limit):
