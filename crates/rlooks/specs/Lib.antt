@@ -1,1 +1,5 @@
+pub mod Kept
+pub mod Lookouts
+pub mod Looks
+pub mod Watches
 pub mod Workers

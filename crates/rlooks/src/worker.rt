@@ -1,5 +1,5 @@
 // One round of the worker that feeds.
-ghost use Rattle.std.specs.Prelude.{◌≡◌, IfOk, IfErr};
+ghost use Rattle.std.specs.Prelude.{◌≡◌, IfOk, IfErr, OnOk, OnErr};
 ghost use mathlib.Core.List.{IsPrefix};
 ghost use Rattle.rstate.specs.Histories.{Beginning};
 ghost use Rattle.rlooks.specs.Workers.{Feeds, IsLookFrom};
@@ -15,7 +15,7 @@ use std::sync::Wait;
 ///
 /// # Errors
 ///
-/// Out of memory. The scribe comes back.
+/// Out of memory. The scribe comes back, and the monitor is as it was.
 pub fn feed_once<R: Wait, T: Editable, M: Machine>(
     rt: &R,
     alloc: Global,
@@ -27,8 +27,10 @@ pub fn feed_once<R: Wait, T: Editable, M: Machine>(
     requires { (b : Beginning T) × Feeds T.after T.taken T.number rnlp.now b scribe feed.old monitor.old }
     ensures feeds { IfOk result (λ r. (b : Beginning T) → Feeds T.after T.taken T.number rnlp.now b scribe feed.old monitor.old → Feeds T.after T.taken T.number rnlp.now b r.0 feed.new monitor.new) }
     ensures look { IfOk result (λ r. (b : Beginning T) → Feeds T.after T.taken T.number rnlp.now b scribe feed.old monitor.old → IsLookFrom b monitor.old monitor.new r.1) }
+    ensures its { OnOk result ((monitor.new.feed ≡ monitor.old.feed) × (monitor.new.opening ≡ monitor.old.opening)) }
     ensures fed { IfOk result (λ r. IsPrefix feed.new.fed monitor.new.seen) }
     ensures err { IfErr result (λ e. (b : Beginning T) → Feeds T.after T.taken T.number rnlp.now b scribe feed.old monitor.old → Feeds T.after T.taken T.number rnlp.now b e.0 feed.new monitor.new) }
+    ensures same { OnErr result (monitor.new ≡ monitor.old) }
 {
     let mut events = Vec::new(alloc);
     let from = feed.fed() as usize;
