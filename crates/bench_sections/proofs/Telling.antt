@@ -43,6 +43,6 @@ five_asked f (a ∷ b ∷ c ∷ d ∷ e ∷ []) threads sections resources place
     (subst (λ x. IsAskedBy (f b) (f c) (f d) x asked) (sym (ap f p)) is)))
 five_asked f (a ∷ b ∷ c ∷ d ∷ e ∷ g ∷ more) threads sections resources place asked five t s r p is = absurd (omega arith)
 
--- a word that parses tells no other number
+-- a word that parses means no other number
 pub told_once : {E : Type 0} (k : ℕ) (word : List ℕ) (r : Result ℕ E) (n m : ℕ) → ParsesUnsigned k 10 word r → r ≡ Ok n → Tells word m → m ≡ n
 told_once k word r n m parsed is tells = sym tells.1 ∙ (told k word r n parsed is).0.1
