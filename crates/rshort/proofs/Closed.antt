@@ -1,4 +1,4 @@
--- A text may be cut before the end of a line that stands outside of quotation marks: its records are those of both parts.
+-- A text may be cut before the end of a line that stands outside quotation marks: its records are those of both parts.
 use Rattle.std.proofs.Common.{◌≡◌, ℕ, ◌==◌, Bool, true, false, ◌||◌, cond, List, [], ◌∷◌, ◌++◌, Option, Some, None, ◌⊎◌, inl, inr, refl, sym, ap, subst, ◌∙◌}
 use Rattle.csv.specs.Machine.{Read, next_record, is_end, step, start_record, start_field, in_field, fields_after, field_after}
 use Rattle.csv.specs.Reading.{AreRecords, Reached, default_config}
@@ -8,7 +8,7 @@ use Rattle.csv.specs.declared.parser.State.{State}
 use Rattle.csv.specs.declared.parser.State.TheVariants as st
 use Rattle.rtrace_form.specs.Records.{Row}
 use Rattle.rtrace_form.proofs.facts.Choices.{some_none}
-use Rattle.rshort.specs.Closed.{state_behind, IsOutside}
+use Rattle.rshort.specs.Closed.{state_after, IsOutside}
 
 -- between two records
 abbrev IsBetween : State → Type 0
@@ -101,7 +101,7 @@ between_same st.AfterQuote ys at = absurd at
 between_same st.InEscape ys at = absurd at
 between_same st.InComment ys at = absurd at
 
--- the end of a line, and where it leads behind a record
+-- the end of a line, and where it leads after a record
 record IsLineEnd (e : ℕ) (t : State) : Type 0 where
   skips : step default_config st.StartRecord e ≡ (st.StartRecord, act.Skip)
   skips_cr : step default_config st.AfterCr e ≡ (st.StartRecord, act.Skip)
@@ -111,11 +111,11 @@ record IsLineEnd (e : ℕ) (t : State) : Type 0 where
   between : IsBetween t
 
 module _ (e : ℕ) (t : State) (line : IsLineEnd e t) (ys : List ℕ) where
-  -- what is read of a text alone, and of the same with the end of a line and `ys` behind it
+  -- what is read of a text alone, and of the same with the end of a line and `ys` after it
   abbrev Ends : Option Read → Option Read → Type 0
   Ends None more = more ≡ next_record default_config st.StartRecord [] [] ys
   Ends (Some r) more =
-      ((more ≡ Some (r.0, r.1, r.2 ++ e ∷ ys)) × IsBetween r.1 × IsOutside (state_behind r.1 r.2)) ⊎ ((r.1 ≡ st.StartRecord) × (r.2 ≡ []) × (more ≡ Some (r.0, t, ys)))
+      ((more ≡ Some (r.0, r.1, r.2 ++ e ∷ ys)) × IsBetween r.1 × IsOutside (state_after r.1 r.2)) ⊎ ((r.1 ≡ st.StartRecord) × (r.2 ≡ []) × (more ≡ Some (r.0, t, ys)))
 
   -- what the end of a line does
   after : Row → List ℕ → State × Action → Option Read
@@ -133,8 +133,8 @@ module _ (e : ℕ) (t : State) (line : IsLineEnd e t) (ys : List ℕ) where
   at_end st.InEscape row field fits out = absurd out
   at_end st.InComment row field fits out = absurd out
 
-  by_step : (xs : List ℕ) → ((s : State) (row : Row) (field : List ℕ) → Fits s row field → IsOutside (state_behind s xs) → Ends (next_record default_config s row field xs) (next_record default_config s row field (xs ++ e ∷ ys)))
-      → (c : ℕ) (s : State) (a : Action) (row : Row) (field : List ℕ) → Leads c row field (s, a) → IsOutside (state_behind s xs)
+  by_step : (xs : List ℕ) → ((s : State) (row : Row) (field : List ℕ) → Fits s row field → IsOutside (state_after s xs) → Ends (next_record default_config s row field xs) (next_record default_config s row field (xs ++ e ∷ ys)))
+      → (c : ℕ) (s : State) (a : Action) (row : Row) (field : List ℕ) → Leads c row field (s, a) → IsOutside (state_after s xs)
       → Ends (cond (is_end a) (Some (fields_after a row field, s, xs)) (next_record default_config s (fields_after a row field) (field_after a c field) xs))
       (cond (is_end a) (Some (fields_after a row field, s, xs ++ e ∷ ys)) (next_record default_config s (fields_after a row field) (field_after a c field) (xs ++ e ∷ ys)))
   by_step xs later c s act.Skip row field to out = later s row field to out
@@ -142,7 +142,7 @@ module _ (e : ℕ) (t : State) (line : IsLineEnd e t) (ys : List ℕ) where
   by_step xs later c s act.EndField row field to out = later s (row ++ field ∷ []) [] to out
   by_step xs later c s act.EndRecord row field to out = inl (refl, to, out)
 
-  ends : (xs : List ℕ) (s : State) (row : Row) (field : List ℕ) → Fits s row field → IsOutside (state_behind s xs) → Ends (next_record default_config s row field xs) (next_record default_config s row field (xs ++ e ∷ ys))
+  ends : (xs : List ℕ) (s : State) (row : Row) (field : List ℕ) → Fits s row field → IsOutside (state_after s xs) → Ends (next_record default_config s row field xs) (next_record default_config s row field (xs ++ e ∷ ys))
   unfolding next_record
   ends [] s row field fits out = at_end s row field fits out
   ends (c ∷ xs) s row field fits out = by_step xs (ends xs) c (step default_config s c).0 (step default_config s c).1 row field (leads s row field c fits) out
@@ -172,31 +172,31 @@ module _ (e : ℕ) (t : State) (line : IsLineEnd e t) (ys : List ℕ) where
   none_left s xs [] is empty h = refl
   none_left s xs (row ∷ rows) is empty h = absurd (some_none ((λ i. next_record default_config (sym is i) [] [] (sym empty i)) ∙ h.2.1))
 
-  module _ (behind : List Row) (rest : AreRecords default_config st.StartRecord ys behind) where
+  module _ (after : List Row) (rest : AreRecords default_config st.StartRecord ys after) where
     join_first : (row : Row) (rows : List Row) (s : State) (xs : List ℕ) (p : Read) → row ≡ p.0 → AreRecords default_config p.1 p.2 rows
-        → (IsBetween p.1 → IsOutside (state_behind p.1 p.2) → AreRecords default_config p.1 (p.2 ++ e ∷ ys) (rows ++ behind)) → Ends (Some p) (next_record default_config s [] [] (xs ++ e ∷ ys))
-        → AreRecords default_config s (xs ++ e ∷ ys) (row ∷ (rows ++ behind))
-    join_first row rows s xs p is are later (inl h) = with_first s (xs ++ e ∷ ys) row (rows ++ behind) (p.0, p.1, p.2 ++ e ∷ ys) h.0 is (later h.1 h.2)
+        → (IsBetween p.1 → IsOutside (state_after p.1 p.2) → AreRecords default_config p.1 (p.2 ++ e ∷ ys) (rows ++ after)) → Ends (Some p) (next_record default_config s [] [] (xs ++ e ∷ ys))
+        → AreRecords default_config s (xs ++ e ∷ ys) (row ∷ (rows ++ after))
+    join_first row rows s xs p is are later (inl h) = with_first s (xs ++ e ∷ ys) row (rows ++ after) (p.0, p.1, p.2 ++ e ∷ ys) h.0 is (later h.1 h.2)
     join_first row rows s xs p is are later (inr h) =
-        with_first s (xs ++ e ∷ ys) row (rows ++ behind) (p.0, t, ys) h.2 is
-        (subst (λ (others : List Row). AreRecords default_config t ys (others ++ behind)) (sym (none_left p.1 p.2 rows h.0 h.1 are)) (same_records t st.StartRecord ys ys behind (between_same t ys line.between) rest))
+        with_first s (xs ++ e ∷ ys) row (rows ++ after) (p.0, t, ys) h.2 is
+        (subst (λ (others : List Row). AreRecords default_config t ys (others ++ after)) (sym (none_left p.1 p.2 rows h.0 h.1 are)) (same_records t st.StartRecord ys ys after (between_same t ys line.between) rest))
 
-    joined : (rows : List Row) (s : State) (xs : List ℕ) → IsBetween s → IsOutside (state_behind s xs) → AreRecords default_config s xs rows → AreRecords default_config s (xs ++ e ∷ ys) (rows ++ behind)
+    joined : (rows : List Row) (s : State) (xs : List ℕ) → IsBetween s → IsOutside (state_after s xs) → AreRecords default_config s xs rows → AreRecords default_config s (xs ++ e ∷ ys) (rows ++ after)
     unfolding Reached
     joined [] s xs at out are =
         let none : next_record default_config s [] [] xs ≡ None = (λ i. next_record default_config (are.2.0 i) [] [] (are.2.1 i)) ∙ are.3 in
-        same_records s st.StartRecord (xs ++ e ∷ ys) ys behind (subst (λ (o : Option Read). Ends o (next_record default_config s [] [] (xs ++ e ∷ ys))) none (ends xs s [] [] (fits_between s at) out)) rest
+        same_records s st.StartRecord (xs ++ e ∷ ys) ys after (subst (λ (o : Option Read). Ends o (next_record default_config s [] [] (xs ++ e ∷ ys))) none (ends xs s [] [] (fits_between s at) out)) rest
     joined (row ∷ rows) s xs at out are =
         let later : AreRecords default_config are.2.0.1 are.2.0.2 rows = (are.0, are.1, are.2.3, are.3) in
         join_first row rows s xs are.2.0 are.2.2 later (λ between outside. joined rows are.2.0.1 are.2.0.2 between outside later)
         (subst (λ (o : Option Read). Ends o (next_record default_config s [] [] (xs ++ e ∷ ys))) are.2.1 (ends xs s [] [] (fits_between s at) out))
 
 -- at both ends of a line
-pub cut_before : (e : ℕ) → (e ≡ 10) ⊎ (e ≡ 13) → (xs ys : List ℕ) (rows behind : List Row) → IsOutside (state_behind st.StartRecord xs) → AreRecords default_config st.StartRecord xs rows → AreRecords default_config st.StartRecord ys behind
-    → AreRecords default_config st.StartRecord (xs ++ e ∷ ys) (rows ++ behind)
-cut_before e (inl is) xs ys rows behind out first rest =
-    subst (λ (b : ℕ). AreRecords default_config st.StartRecord (xs ++ b ∷ ys) (rows ++ behind)) (sym is)
-    (joined 10 st.StartRecord (record { skips = refl; skips_cr = refl; start = refl; bare = refl; quoted = refl; between = tt }) ys behind rest rows st.StartRecord xs tt out first)
-cut_before e (inr is) xs ys rows behind out first rest =
-    subst (λ (b : ℕ). AreRecords default_config st.StartRecord (xs ++ b ∷ ys) (rows ++ behind)) (sym is)
-    (joined 13 st.AfterCr (record { skips = refl; skips_cr = refl; start = refl; bare = refl; quoted = refl; between = tt }) ys behind rest rows st.StartRecord xs tt out first)
+pub cut_before : (e : ℕ) → (e ≡ 10) ⊎ (e ≡ 13) → (xs ys : List ℕ) (rows after : List Row) → IsOutside (state_after st.StartRecord xs) → AreRecords default_config st.StartRecord xs rows → AreRecords default_config st.StartRecord ys after
+    → AreRecords default_config st.StartRecord (xs ++ e ∷ ys) (rows ++ after)
+cut_before e (inl is) xs ys rows after out first rest =
+    subst (λ (b : ℕ). AreRecords default_config st.StartRecord (xs ++ b ∷ ys) (rows ++ after)) (sym is)
+    (joined 10 st.StartRecord (record { skips = refl; skips_cr = refl; start = refl; bare = refl; quoted = refl; between = tt }) ys after rest rows st.StartRecord xs tt out first)
+cut_before e (inr is) xs ys rows after out first rest =
+    subst (λ (b : ℕ). AreRecords default_config st.StartRecord (xs ++ b ∷ ys) (rows ++ after)) (sym is)
+    (joined 13 st.AfterCr (record { skips = refl; skips_cr = refl; start = refl; bare = refl; quoted = refl; between = tt }) ys after rest rows st.StartRecord xs tt out first)

@@ -1,11 +1,11 @@
 -- Records that are cut have the codes that they had.
-use Rattle.std.proofs.Common.{◌≡◌, ℕ, ◌+◌, ◌<◌, ◌==◌, ◌&&◌, ◌||◌, not, Bool, true, false, cond, List, [], ◌∷◌, drop, length, Option, Some, None, nat_le, inl, inr, refl, sym, ap, subst, ◌∙◌, arith}
+use Rattle.std.proofs.Common.{◌≡◌, ℕ, ◌==◌, ◌&&◌, ◌||◌, not, Bool, true, false, cond, List, [], ◌∷◌, drop, length, Option, Some, None, nat_le, inl, inr, refl, sym, ap, subst, ◌∙◌, arith}
 use Rattle.std.specs.Prelude.{option_map, is_none, find}
 use Rattle.std.specs.List.{list_all}
-use Rattle.std.proofs.lemmas.Bool.{true≢false, leb-true, false_from_ne_true}
+use Rattle.std.proofs.lemmas.Bool.{true≢false, and_parts, not-true, leb-true, false_from_ne_true}
 use Rattle.rset.specs.Names.{is_name, knows}
 use Rattle.rset.specs.declared.TheConstants.{RESOURCES, SEATS}
-use Rattle.rset.proofs.NameLemmas.{table_names}
+use Rattle.rset.proofs.NameLemmas.{table_names, table_length}
 use Rattle.rclaim.specs.declared.request.Kind.TheVariants as kinds
 use Rattle.rtrace_form.specs.Records.{Row}
 use Rattle.rtrace_form.specs.Fields.{Names, AreTables, Field, Said, Fresh, OneResource, OneTask, Members, Number, Length, Limit, Values, is_as_long, is_said, are_said, has_form, is_counted, all_counted, paired, read}
@@ -20,14 +20,14 @@ use Rattle.rtrace_form.specs.declared.word.Word.TheVariants as word
 use Rattle.rtrace_form.specs.declared.fault.Code.{Code}
 use Rattle.rtrace_form.specs.declared.fault.Code.TheVariants.{BadField}
 use Rattle.rtrace_form.proofs.facts.Choices.{some_none}
-use Rattle.rshort.specs.Cut.{IsCut, AreCut, HasTooMany, IsCutRow}
-use Rattle.rshort.proofs.Pieces.{SameOrLong, same_or_long, same_word, same_is_number, same_number, same_length, same_cap, same_number_in, same_set, no_name}
+use Rattle.rshort.specs.Cut.{has_joint, IsCut, AreCut, HasTooMany, IsCutRow}
+use Rattle.rshort.proofs.Pieces.{IsBad, SameOrBad, same_or_bad, same_word, same_is_number, same_number, same_length, same_cap, same_number_in, same_set, no_name}
 
 -- ---- what a record is
 
--- no word is longer than 20 bytes
+-- no word is longer than 20 bytes, or has a `+`
 abbrev is_short_word : Field → Bool
-is_short_word (Said w) = nat_le (length w) 20
+is_short_word (Said w) = nat_le (length w) 20 && not (has_joint w)
 is_short_word _ = true
 
 abbrev IsShort : List Field → Type 0
@@ -67,8 +67,10 @@ short_words (word.Wait stage.Ask) = ((refl, (refl, (refl, (refl, (refl, (refl, (
 short_words word.Ledger = ((refl, (refl, (refl, (refl, tt)))), refl)
 short_words word.End = ((refl, tt), refl)
 
-same_said : (f : Field) (x y : List ℕ) → is_short_word f ≡ true → IsCut 0 x y → is_said f x ≡ is_said f y
-same_said (Said w) x y short is = same_word w x y (leb-true (length w) 20 short) (same_or_long 0 x y is)
+same_said : (f : Field) (x y : List ℕ) → is_short_word f ≡ true → IsCut x y → is_said f x ≡ is_said f y
+same_said (Said w) x y short is =
+    let parts = and_parts (nat_le (length w) 20) (not (has_joint w)) short in
+    same_word w x y (leb-true (length w) 20 parts.0) (not-true (has_joint w) parts.1) (same_or_bad x y is)
 same_said Fresh x y short is = refl
 same_said OneResource x y short is = refl
 same_said OneTask x y short is = refl
@@ -121,10 +123,10 @@ too_many whole row many = found_none (λ w. is_as_long (fields_of w) row && are_
 
 -- ---- what it says
 
-same_counted : (f : Field) (x y : List ℕ) → IsCut 0 x y → is_counted f x ≡ is_counted f y
-same_counted Number x y is = same_is_number x y (same_or_long 0 x y is)
-same_counted Length x y is = ap (λ (o : Option ℕ). not (is_none o)) (same_length x y (same_or_long 0 x y is))
-same_counted Limit x y is = ap (λ (o : Option ℕ). not (is_none o)) (same_cap x y (same_or_long 0 x y is))
+same_counted : (f : Field) (x y : List ℕ) → IsCut x y → is_counted f x ≡ is_counted f y
+same_counted Number x y is = same_is_number x y (same_or_bad x y is)
+same_counted Length x y is = ap (λ (o : Option ℕ). not (is_none o)) (same_length x y (same_or_bad x y is))
+same_counted Limit x y is = ap (λ (o : Option ℕ). not (is_none o)) (same_cap x y (same_or_bad x y is))
 same_counted (Said w) x y is = refl
 same_counted Fresh x y is = refl
 same_counted OneResource x y is = refl
@@ -158,17 +160,17 @@ module _ (names : Names) (tables : AreTables names) where
   tasks : list_all is_name names.tasks ≡ true
   tasks = table_names SEATS names.tasks tables.tasks
 
-  same_first : (f : Field) (fs : List Field) (x : List ℕ) (row : Row) (y : List ℕ) (cut : Row) → IsCut 0 x y → (SameFresh fs row cut → read names fs row ≡ read names fs cut)
+  same_first : (f : Field) (fs : List Field) (x : List ℕ) (row : Row) (y : List ℕ) (cut : Row) → IsCut x y → (SameFresh fs row cut → read names fs row ≡ read names fs cut)
       → SameFresh (f ∷ fs) (x ∷ row) (y ∷ cut) → read names (f ∷ fs) (x ∷ row) ≡ read names (f ∷ fs) (y ∷ cut)
   unfolding read
   same_first (Said w) fs x row y cut is rest same = rest same
   same_first Fresh fs x row y cut is rest same = λ i. option_map (λ (b : Values fs). (same.0 i, b)) (rest same.1 i)
-  same_first OneResource fs x row y cut is rest same = λ i. paired (same_number_in names.resources resources x y (same_or_long 0 x y is) i) (rest same i)
-  same_first OneTask fs x row y cut is rest same = λ i. paired (same_number_in names.tasks tasks x y (same_or_long 0 x y is) i) (rest same i)
-  same_first Members fs x row y cut is rest same = λ i. paired (same_set names.resources resources x y is i) (rest same i)
-  same_first Number fs x row y cut is rest same = λ i. paired (same_number x y (same_or_long 0 x y is) i) (rest same i)
-  same_first Length fs x row y cut is rest same = λ i. paired (same_length x y (same_or_long 0 x y is) i) (rest same i)
-  same_first Limit fs x row y cut is rest same = λ i. paired (same_cap x y (same_or_long 0 x y is) i) (rest same i)
+  same_first OneResource fs x row y cut is rest same = λ i. paired (same_number_in names.resources resources x y (same_or_bad x y is) i) (rest same i)
+  same_first OneTask fs x row y cut is rest same = λ i. paired (same_number_in names.tasks tasks x y (same_or_bad x y is) i) (rest same i)
+  same_first Members fs x row y cut is rest same = λ i. paired (same_set names.resources resources (table_length RESOURCES names.resources tables.resources) x y is i) (rest same i)
+  same_first Number fs x row y cut is rest same = λ i. paired (same_number x y (same_or_bad x y is) i) (rest same i)
+  same_first Length fs x row y cut is rest same = λ i. paired (same_length x y (same_or_bad x y is) i) (rest same i)
+  same_first Limit fs x row y cut is rest same = λ i. paired (same_cap x y (same_or_bad x y is) i) (rest same i)
 
   same_read : (fs : List Field) (row cut : Row) → AreCut row cut → SameFresh fs row cut → read names fs row ≡ read names fs cut
   unfolding read
@@ -180,9 +182,11 @@ module _ (names : Names) (tables : AreTables names) where
 
 -- ---- its code
 
--- the codes are the same, and where there is none both say the same
+-- the codes are the same, and where there is none both mean the same, and say it
 abbrev pub HasItsCode : Bool → SoFar → Row → Row → Type 0
-HasItsCode whole s row cut = (code_of whole s row ≡ code_of whole s cut) × (code_of whole s row ≡ None → with_row whole s row ≡ with_row whole s cut)
+HasItsCode whole s row cut =
+    (code_of whole s row ≡ code_of whole s cut) × (code_of whole s row ≡ None → with_row whole s row ≡ with_row whole s cut)
+    × (code_of whole s row ≡ None → meaning whole (names_in s) row ≡ meaning whole (names_in s) cut)
 
 module _ (whole : Bool) (s : SoFar) (tables : AreTables (names_in s)) (row cut : Row) (are : AreCut row cut) where
   -- where it says the same
@@ -191,6 +195,7 @@ module _ (whole : Bool) (s : SoFar) (tables : AreTables (names_in s)) (row cut :
   when_same o is same = (
     ap (code_by whole s row) is ∙ by_word o same ∙ ap (code_by whole s cut) (sym is ∙ same_word_in whole row cut are),
     λ none. ap (with_meaning whole s) (ap (meant_as (names_in s) row) is ∙ same ∙ ap (meant_as (names_in s) cut) (sym is ∙ same_word_in whole row cut are)),
+    λ none. ap (meant_as (names_in s) row) is ∙ same ∙ ap (meant_as (names_in s) cut) (sym is ∙ same_word_in whole row cut are),
   )
     where
       by_word : (o : Option Word) → meant_as (names_in s) row o ≡ meant_as (names_in s) cut o → code_by whole s row o ≡ code_by whole s cut o
@@ -207,6 +212,7 @@ module _ (whole : Bool) (s : SoFar) (tables : AreTables (names_in s)) (row cut :
   unfolding code_of
   when_bad w is bad cut_bad = (
     ap (code_by whole s row) is ∙ bad ∙ sym (ap (code_by whole s cut) (sym (same_word_in whole row cut are) ∙ is) ∙ cut_bad),
+    λ none. absurd (some_none (sym none ∙ ap (code_by whole s row) is ∙ bad)),
     λ none. absurd (some_none (sym none ∙ ap (code_by whole s row) is ∙ bad)),
   )
 
@@ -225,54 +231,54 @@ bad_field whole s w row line says bad =
     one_of false true = refl
     one_of false false = refl
 
-bad_name : (limit : ℕ) (names : List (List ℕ)) (name : List ℕ) → 20 < length name → (not (is_name name) || knows names name || (length names == limit)) ≡ true
-bad_name limit names name long = ap (λ (b : Bool). not b || knows names name || (length names == limit)) (no_name name long)
+bad_name : (limit : ℕ) (names : List (List ℕ)) (name : List ℕ) → IsBad name → (not (is_name name) || knows names name || (length names == limit)) ≡ true
+bad_name limit names name bad = ap (λ (b : Bool). not b || knows names name || (length names == limit)) (no_name name bad)
 
 resource : (whole : Bool) (s : SoFar) → AreTables (names_in s) → (row cut : Row) → AreCut row cut → word_in whole row ≡ Some word.Resource → HasItsCode whole s row cut
 unfolding read
 resource whole s tables [] cut are is = plain whole s tables [] cut are word.Resource is tt
 resource whole s tables (a ∷ []) cut are is = plain whole s tables (a ∷ []) cut are word.Resource is (subst (SameFresh (fields_of word.Resource) (a ∷ [])) (sym are.2) tt)
-resource whole s tables (a ∷ x ∷ row) cut are is = at (same_or_long 0 x are.4.0 are.4.3)
+resource whole s tables (a ∷ x ∷ row) cut are is = at (same_or_bad x are.4.0 are.4.3)
   where
     shape : cut ≡ are.0 ∷ are.4.0 ∷ are.4.1
     shape = are.2 ∙ ap (λ (r : Row). are.0 ∷ r) are.4.2
 
-    long_name : (row rest : Row) → AreCut row rest → word_in whole (a ∷ x ∷ row) ≡ Some word.Resource → AreCut (a ∷ x ∷ row) cut → cut ≡ are.0 ∷ are.4.0 ∷ rest
-        → (20 < length x) × (20 < length are.4.0) → HasItsCode whole s (a ∷ x ∷ row) cut
-    long_name [] rest none is both cut_is long =
+    bad_name_in : (row rest : Row) → AreCut row rest → word_in whole (a ∷ x ∷ row) ≡ Some word.Resource → AreCut (a ∷ x ∷ row) cut → cut ≡ are.0 ∷ are.4.0 ∷ rest
+        → IsBad x × IsBad are.4.0 → HasItsCode whole s (a ∷ x ∷ row) cut
+    bad_name_in [] rest none is both cut_is long =
         when_bad whole s tables (a ∷ x ∷ []) cut both word.Resource is
         (bad_field whole s word.Resource (a ∷ x ∷ []) (HasResource x) refl (bad_name RESOURCES s.resources x long.0))
         (bad_field whole s word.Resource cut (HasResource are.4.0) (ap (λ (r : Row). meant_as (names_in s) r (Some word.Resource)) (cut_is ∙ ap (λ (r : Row). are.0 ∷ are.4.0 ∷ r) none)) (bad_name RESOURCES s.resources are.4.0 long.1))
-    long_name (y ∷ ys) rest some is both cut_is long =
+    bad_name_in (y ∷ ys) rest some is both cut_is long =
         when_same whole s tables (a ∷ x ∷ y ∷ ys) cut both (Some word.Resource) is
         (sym (ap (λ (r : Row). meant_as (names_in s) r (Some word.Resource)) (cut_is ∙ ap (λ (r : Row). are.0 ∷ are.4.0 ∷ r) some.2)))
 
-    at : SameOrLong 0 x are.4.0 → HasItsCode whole s (a ∷ x ∷ row) cut
+    at : SameOrBad x are.4.0 → HasItsCode whole s (a ∷ x ∷ row) cut
     at (inl same) = plain whole s tables (a ∷ x ∷ row) cut are word.Resource is (subst (SameFresh (fields_of word.Resource) (a ∷ x ∷ row)) (sym shape) (same, tt))
-    at (inr long) = let a : 20 < 0 + length x = long.0 in let b : 20 < 0 + length are.4.0 = long.1 in long_name row are.4.1 are.4.4 is are shape (omega (arith, a), omega (arith, b))
+    at (inr bad) = bad_name_in row are.4.1 are.4.4 is are shape bad
 
 task : (whole : Bool) (s : SoFar) → AreTables (names_in s) → (row cut : Row) → AreCut row cut → word_in whole row ≡ Some word.Task → HasItsCode whole s row cut
 unfolding read
 task whole s tables [] cut are is = plain whole s tables [] cut are word.Task is tt
 task whole s tables (a ∷ []) cut are is = plain whole s tables (a ∷ []) cut are word.Task is (subst (SameFresh (fields_of word.Task) (a ∷ [])) (sym are.2) tt)
-task whole s tables (a ∷ x ∷ row) cut are is = at (same_or_long 0 x are.4.0 are.4.3)
+task whole s tables (a ∷ x ∷ row) cut are is = at (same_or_bad x are.4.0 are.4.3)
   where
     shape : cut ≡ are.0 ∷ are.4.0 ∷ are.4.1
     shape = are.2 ∙ ap (λ (r : Row). are.0 ∷ r) are.4.2
 
-    long_name : (row rest : Row) → AreCut row rest → word_in whole (a ∷ x ∷ row) ≡ Some word.Task → AreCut (a ∷ x ∷ row) cut → cut ≡ are.0 ∷ are.4.0 ∷ rest
-        → (20 < length x) × (20 < length are.4.0) → HasItsCode whole s (a ∷ x ∷ row) cut
-    long_name [] rest none is both cut_is long =
+    bad_name_in : (row rest : Row) → AreCut row rest → word_in whole (a ∷ x ∷ row) ≡ Some word.Task → AreCut (a ∷ x ∷ row) cut → cut ≡ are.0 ∷ are.4.0 ∷ rest
+        → IsBad x × IsBad are.4.0 → HasItsCode whole s (a ∷ x ∷ row) cut
+    bad_name_in [] rest none is both cut_is long =
         when_bad whole s tables (a ∷ x ∷ []) cut both word.Task is
         (bad_field whole s word.Task (a ∷ x ∷ []) (HasTask x) refl (bad_name SEATS s.tasks x long.0))
         (bad_field whole s word.Task cut (HasTask are.4.0) (ap (λ (r : Row). meant_as (names_in s) r (Some word.Task)) (cut_is ∙ ap (λ (r : Row). are.0 ∷ are.4.0 ∷ r) none)) (bad_name SEATS s.tasks are.4.0 long.1))
-    long_name (y ∷ ys) rest some is both cut_is long =
+    bad_name_in (y ∷ ys) rest some is both cut_is long =
         when_same whole s tables (a ∷ x ∷ y ∷ ys) cut both (Some word.Task) is
         (sym (ap (λ (r : Row). meant_as (names_in s) r (Some word.Task)) (cut_is ∙ ap (λ (r : Row). are.0 ∷ are.4.0 ∷ r) some.2)))
 
-    at : SameOrLong 0 x are.4.0 → HasItsCode whole s (a ∷ x ∷ row) cut
+    at : SameOrBad x are.4.0 → HasItsCode whole s (a ∷ x ∷ row) cut
     at (inl same) = plain whole s tables (a ∷ x ∷ row) cut are word.Task is (subst (SameFresh (fields_of word.Task) (a ∷ x ∷ row)) (sym shape) (same, tt))
-    at (inr long) = let a : 20 < 0 + length x = long.0 in let b : 20 < 0 + length are.4.0 = long.1 in long_name row are.4.1 are.4.4 is are shape (omega (arith, a), omega (arith, b))
+    at (inr bad) = bad_name_in row are.4.1 are.4.4 is are shape bad
 
 -- no field declares a name
 abbrev DeclareNone : List Field → Type 0
@@ -338,5 +344,6 @@ has_its_code whole s row cut tables (inr many) = both_none (too_many whole row m
     both_none : word_in whole row ≡ None → word_in whole cut ≡ None → HasItsCode whole s row cut
     both_none is cut_is = (
       ap (code_by whole s row) is ∙ sym (ap (code_by whole s cut) cut_is),
+      λ none. absurd (some_none (sym none ∙ ap (code_by whole s row) is)),
       λ none. absurd (some_none (sym none ∙ ap (code_by whole s row) is)),
     )

@@ -30,7 +30,7 @@ tables_with whole s (Waits seat which cover bound) are good = record { resources
 tables_with whole s (Leaves place ledger) are good = record { resources = are.resources; tasks = are.tasks }
 tables_with whole s Ends are good = record { resources = are.resources; tasks = are.tasks }
 
-tables_more : (whole : Bool) (s : SoFar) (row : Row) → AreTables (names_in s) → code_of whole s row ≡ None → AreTables (names_in (with_row whole s row))
+pub tables_more : (whole : Bool) (s : SoFar) (row : Row) → AreTables (names_in s) → code_of whole s row ≡ None → AreTables (names_in (with_row whole s row))
 unfolding with_row
 tables_more whole s row are none =
     let c = clean whole s row none in

@@ -1,7 +1,13 @@
+pub mod Gathered
 pub mod Pieces
 pub mod Cuts
 pub mod Faults
 pub mod Texts
-pub mod Behind
+pub mod Joints
+pub mod Cutting
 pub mod Closed
 pub mod Endings
+pub mod Marks
+pub mod Quoteless
+pub mod Again
+pub mod Readings

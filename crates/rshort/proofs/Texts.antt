@@ -1,5 +1,5 @@
--- Texts that are cut: whatever comes behind them, their records are.
-use Rattle.std.proofs.Common.{◌≡◌, ℕ, ◌+◌, ◌<◌, ◌==◌, true, false, cond, List, [], ◌∷◌, ◌++◌, length, Option, Some, None, inl, inr, refl, sym, ap, subst, ◌∙◌, arith, length-append}
+-- Texts that are cut: whatever comes after them, their records are.
+use Rattle.std.proofs.Common.{◌≡◌, ◌⊎◌, ℕ, zero, suc, ◌+◌, ◌<◌, ◌==◌, true, false, cond, List, [], ◌∷◌, ◌++◌, length, Option, Some, None, inl, inr, refl, sym, ap, subst, ◌∙◌, arith, length-append, append_assoc}
 use Rattle.std.specs.Bool.{MatchBool}
 use Rattle.std.proofs.lemmas.Bool.{true≢false}
 use Rattle.csv.specs.Machine.{Read, next_record, ends_at_end, is_end, step, fields_after, field_after, Feeds}
@@ -10,41 +10,70 @@ use Rattle.csv.specs.declared.parser.State.{State}
 use Rattle.csv.specs.declared.parser.State.TheVariants as st
 use Rattle.rtrace_form.specs.Records.{Row}
 use Rattle.rtrace_form.proofs.facts.Choices.{some_is, some_none}
-use Rattle.rshort.specs.Cut.{piece_behind, IsCut, AreCut, IsCutRow, AreCutRows, piece_in, IsCutPart, IsCutText}
+use Rattle.rshort.specs.Cut.{piece_after, LacksBytes, LacksPiece, IsCutTimes, IsCut, AreCut, IsCutRow, AreCutRows, piece_in, IsCutPart, IsCutText}
 
 -- ---- fields and records
 
-cut_itself : (n : ℕ) (field : List ℕ) → IsCut n field field
-cut_itself n [] = refl
-cut_itself n (c ∷ field) = inr (field, refl, cut_itself (piece_behind n c) field)
+lacks_none : (n : ℕ) (field : List ℕ) → LacksBytes n field field
+lacks_none n [] = refl
+lacks_none n (c ∷ field) = inr (field, refl, lacks_none (piece_after n c) field)
 
-are_themselves : (row : Row) → AreCut row row
+pub are_themselves : (row : Row) → AreCut row row
 are_themselves [] = refl
-are_themselves (x ∷ row) = (x, row, refl, cut_itself 0 x, are_themselves row)
+are_themselves (x ∷ row) = (x, row, refl, (0, refl), are_themselves row)
 
-rows_themselves : (rows : List Row) → AreCutRows rows rows
+pub rows_themselves : (rows : List Row) → AreCutRows rows rows
 rows_themselves [] = refl
 rows_themselves (row ∷ rows) = (row, rows, refl, inl (are_themselves row), rows_themselves rows)
 
 -- one byte more in both
-cut_more : (n c : ℕ) (field cut : List ℕ) → IsCut n field cut → IsCut n (field ++ c ∷ []) (cut ++ c ∷ [])
-cut_more n c [] cut is = inr ([], ap (λ (xs : List ℕ). xs ++ c ∷ []) is, refl)
-cut_more n c (b ∷ field) cut (inl left) = inl (left.0, left.1, cut_more n c field cut left.2)
-cut_more n c (b ∷ field) cut (inr kept) = inr (kept.0 ++ c ∷ [], ap (λ (xs : List ℕ). xs ++ c ∷ []) kept.1, cut_more (piece_behind n b) c field kept.0 kept.2)
+bytes_more : (n c : ℕ) (field cut : List ℕ) → LacksBytes n field cut → LacksBytes n (field ++ c ∷ []) (cut ++ c ∷ [])
+bytes_more n c [] cut is = inr ([], ap (λ (xs : List ℕ). xs ++ c ∷ []) is, refl)
+bytes_more n c (b ∷ field) cut (inl left) = inl (left.0, left.1, bytes_more n c field cut left.2)
+bytes_more n c (b ∷ field) cut (inr kept) = inr (kept.0 ++ c ∷ [], ap (λ (xs : List ℕ). xs ++ c ∷ []) kept.1, bytes_more (piece_after n b) c field kept.0 kept.2)
+
+piece_more : (c : ℕ) (field cut : List ℕ) → LacksPiece field cut → LacksPiece (field ++ c ∷ []) (cut ++ c ∷ [])
+piece_more c field cut is = record {
+  front = is.front;
+  piece = is.piece;
+  rest = is.rest ++ c ∷ [];
+  whole = ap (λ (xs : List ℕ). xs ++ c ∷ []) is.whole ∙ append_assoc is.front (43 ∷ (is.piece ++ 43 ∷ is.rest)) (c ∷ []) ∙ ap (λ (xs : List ℕ). is.front ++ 43 ∷ xs) (append_assoc is.piece (43 ∷ is.rest) (c ∷ []));
+  left = ap (λ (xs : List ℕ). xs ++ c ∷ []) is.left ∙ append_assoc is.front (43 ∷ is.rest) (c ∷ []);
+  two = is.two;
+  one = is.one;
+  nothing = is.nothing;
+}
+
+once_more : (c : ℕ) (field cut : List ℕ) → LacksBytes 0 field cut ⊎ LacksPiece field cut → LacksBytes 0 (field ++ c ∷ []) (cut ++ c ∷ []) ⊎ LacksPiece (field ++ c ∷ []) (cut ++ c ∷ [])
+once_more c field cut (inl is) = inl (bytes_more 0 c field cut is)
+once_more c field cut (inr is) = inr (piece_more c field cut is)
+
+times_more : (n c : ℕ) (field cut : List ℕ) → IsCutTimes n field cut → IsCutTimes n (field ++ c ∷ []) (cut ++ c ∷ [])
+times_more zero c field cut is = ap (λ (xs : List ℕ). xs ++ c ∷ []) is
+times_more (suc n) c field cut is = (is.0 ++ c ∷ [], times_more n c field is.0 is.1, once_more c is.0 cut is.2)
+
+cut_more : (c : ℕ) (field cut : List ℕ) → IsCut field cut → IsCut (field ++ c ∷ []) (cut ++ c ∷ [])
+cut_more c field cut is = (is.0, times_more is.0 c field cut is.1)
 
 -- one byte more that is left out
-cut_off : (n c : ℕ) (field cut : List ℕ) → IsCut n field cut → 20 < piece_in n cut → (c == 43) ≡ false → IsCut n (field ++ c ∷ []) cut
-cut_off n c [] cut is long plain = inl (subst (λ (xs : List ℕ). 20 < piece_in n xs) is long, plain, is)
-cut_off n c (b ∷ field) cut (inl left) long plain = inl (left.0, left.1, cut_off n c field cut left.2 long plain)
-cut_off n c (b ∷ field) cut (inr kept) long plain =
-    inr (kept.0, kept.1, cut_off (piece_behind n b) c field kept.0 kept.2 (subst (λ (xs : List ℕ). 20 < piece_in n xs) kept.1 long) plain)
+last_lacks : (n c : ℕ) (field : List ℕ) → 20 < piece_in n field → (c == 43) ≡ false → LacksBytes n (field ++ c ∷ []) field
+last_lacks n c [] long plain = inl (long, plain, refl)
+last_lacks n c (b ∷ field) long plain = inr (field, refl, last_lacks (piece_after n b) c field long plain)
+
+cut_off : (c : ℕ) (field cut : List ℕ) → IsCut field cut → 20 < piece_in 0 cut → (c == 43) ≡ false → IsCut (field ++ c ∷ []) cut
+cut_off c field cut is long plain = let more = cut_more c field cut is in (suc more.0, (cut ++ c ∷ [], more.1, inl (last_lacks 0 c cut long plain)))
 
 pub part_off : (row cut : Row) (field left : List ℕ) (c : ℕ) → IsCutPart row field cut left → 20 < piece_in 0 left → (c == 43) ≡ false → IsCutPart row (field ++ c ∷ []) cut left
-part_off row cut field left c (inl is) long plain = inl (is.0, cut_off 0 c field left is.1 long plain)
+part_off row cut field left c (inl is) long plain = inl (is.0, cut_off c field left is.1 long plain)
 part_off row cut field left c (inr many) long plain = inr many
 
+-- a `+` after a piece that says nothing new, which is left out
+pub part_lacks : (row cut : Row) (field left short : List ℕ) → IsCutPart row field cut left → LacksPiece (left ++ 43 ∷ []) short → IsCutPart row (field ++ 43 ∷ []) cut short
+part_lacks row cut field left short (inl is) lacks = let more = cut_more 43 field left is.1 in inl (is.0, (suc more.0, (left ++ 43 ∷ [], more.1, inr lacks)))
+part_lacks row cut field left short (inr many) lacks = inr many
+
 -- one field more
-are_more : (row cut : Row) (x y : List ℕ) → AreCut row cut → IsCut 0 x y → AreCut (row ++ x ∷ []) (cut ++ y ∷ [])
+are_more : (row cut : Row) (x y : List ℕ) → AreCut row cut → IsCut x y → AreCut (row ++ x ∷ []) (cut ++ y ∷ [])
 are_more [] cut x y are is = (y, [], ap (λ (r : Row). r ++ y ∷ []) are, is, refl)
 are_more (a ∷ row) cut x y are is = (are.0, are.1 ++ y ∷ [], ap (λ (r : Row). r ++ y ∷ []) are.2, are.3, are_more row are.1 x y are.4 is)
 
@@ -63,7 +92,7 @@ ended row cut field left (inr many) =
 
 -- a field that ends, in a record that does not
 pub field_ended : (row cut : Row) (field left : List ℕ) → IsCutPart row field cut left → IsCutPart (row ++ field ∷ []) [] (cut ++ left ∷ []) []
-field_ended row cut field left (inl is) = inl (are_more row cut field left is.0 is.1, refl)
+field_ended row cut field left (inl is) = inl (are_more row cut field left is.0 is.1, (0, refl))
 field_ended row cut field left (inr many) =
     let a = longer row field in
     let b = longer cut left in
@@ -72,19 +101,19 @@ field_ended row cut field left (inr many) =
     inr (omega (arith, a, m), omega (arith, b, n))
 
 pub copied : (row cut : Row) (field left : List ℕ) (c : ℕ) → IsCutPart row field cut left → IsCutPart row (field ++ c ∷ []) cut (left ++ c ∷ [])
-copied row cut field left c (inl is) = inl (is.0, cut_more 0 c field left is.1)
+copied row cut field left c (inl is) = inl (is.0, cut_more c field left is.1)
 copied row cut field left c (inr many) = inr many
 
 -- ---- the next record
 
--- the next records of both are cut, and what is behind them is the same
+-- the next records of both are cut, and what is after them is the same
 abbrev AreCutReads : Option Read → Option Read → Type 0
 AreCutReads None None = Unit {0}
 AreCutReads None (Some b) = ⊥
 AreCutReads (Some a) None = ⊥
 AreCutReads (Some a) (Some b) = IsCutRow a.0 b.0 × (a.1 ≡ b.1) × (a.2 ≡ b.2)
 
--- what is read behind a place, of both
+-- what is read after a place, of both
 abbrev Later : List ℕ → Type 0
 Later xs = (s : State) (row cut : Row) (field left : List ℕ) → IsCutPart row field cut left → AreCutReads (next_record default_config s row field xs) (next_record default_config s cut left xs)
 

@@ -1,16 +1,16 @@
--- Fronts of texts that end outside of quotation marks.
-use Rattle.std.specs.Prelude.{◌≡◌, ◌⊎◌, List, ℕ, [], ◌∷◌, Some, slice_get, take}
+-- Fronts of texts that end outside quotation marks.
+use Rattle.std.specs.Prelude.{◌≡◌, ◌⊎◌, List, ℕ, [], ◌∷◌, Some, slice_get, take, if◌then◌else◌}
 use Rattle.csv.specs.Machine.{step}
-use Rattle.csv.specs.Reading.{default_config}
+use Rattle.csv.specs.Reading.{default_config, is_bom}
 use Rattle.csv.specs.declared.parser.State.{State}
 use Rattle.csv.specs.declared.parser.State.TheVariants as st
 
--- where a reader stands behind these bytes
-abbrev pub state_behind : State → List ℕ → State
-state_behind s [] = s
-state_behind s (c ∷ bytes) = state_behind (step default_config s c).0 bytes
+-- the state of a reader after these bytes
+abbrev pub state_after : State → List ℕ → State
+state_after s [] = s
+state_after s (c ∷ bytes) = state_after (step default_config s c).0 bytes
 
--- outside of quotation marks
+-- outside quotation marks
 abbrev pub IsOutside : State → Type 0
 IsOutside st.StartRecord = Unit {0}
 IsOutside st.AfterCr = Unit {0}
@@ -19,9 +19,16 @@ IsOutside st.InField = Unit {0}
 IsOutside st.AfterQuote = Unit {0}
 IsOutside _ = ⊥
 
--- an end of a line, outside of quotation marks
+-- an end of a line, outside quotation marks
 pub record IsEnd (bytes : List ℕ) (at : ℕ) : Type 0 where
   pub byte : ℕ
   pub ends : (byte ≡ 10) ⊎ (byte ≡ 13)
   pub there : slice_get bytes at ≡ Some byte
-  pub outside : IsOutside (state_behind st.StartRecord (take at bytes))
+  pub outside : IsOutside (state_after st.StartRecord (take at bytes))
+
+-- the length of the byte order mark of a text
+abbrev pub mark_in : List ℕ → ℕ
+mark_in [] = 0
+mark_in (a ∷ []) = 0
+mark_in (a ∷ b ∷ []) = 0
+mark_in (a ∷ b ∷ c ∷ rest) = if is_bom a b c then 3 else 0

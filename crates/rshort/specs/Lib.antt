@@ -1,4 +1,5 @@
 pub mod Cut
 pub mod Steps
+pub mod Joints
 pub mod Cutters
 pub mod Closed

@@ -10,7 +10,7 @@ use Rattle.rtrace_form.specs.Records.{Row}
 use Rattle.rtrace.specs.Coming.{Came, HasEnded, CameWhole, CameOf, BreaksOff}
 use Rattle.rtrace_form.specs.declared.fault.Fault.{Fault}
 use Rattle.rtrace.specs.Errors.{error_of, StreamCameOf, StreamBreaksOff}
-use Rattle.rtrace.specs.Feeding.{IsFed, KnowsFront}
+use Rattle.rtrace.specs.Feeding.{IsFed, FaultsStay, KnowledgeStays, KnowsFront}
 use Rattle.rtrace.specs.declared.error.StreamErr.{StreamErr}
 use Rattle.rtrace.specs.declared.error.StreamErr.TheVariants as stream
 use Rattle.rtrace.specs.Windows.{held, IsSound, Gains}
@@ -146,9 +146,10 @@ module _ {C T : Type 0} (code : List Row → Row → Option C) (is_done : List R
       took_most o p f.text w.limit f.came (omega arith)
 
   -- a source broke off behind a piece more
-  pub feeding_broken : (o p : Option (List ℕ)) (w v : Window) (taker : T) (line : ℕ) (piece : List ℕ) → (f : IsFeeding code Knows o p w v taker line) → KnowsFront Knows (f.text ++ piece) taker
-  feeding_broken o p w v taker line piece f =
-      known_in_front code is_done no_end Knows (f.text ++ piece) (held v ++ piece) taker line (fed_more code is_done no_end Knows f.text (held v) piece taker line f.fed)
+  pub feeding_broken : FaultsStay code is_done no_end → KnowledgeStays code Knows → (o p : Option (List ℕ)) (w v : Window) (taker : T) (line : ℕ) (piece : List ℕ) → (f : IsFeeding code Knows o p w v taker line)
+      → KnowsFront Knows (f.text ++ piece) taker
+  feeding_broken faults_stay knowledge_stays o p w v taker line piece f =
+      known_in_front code is_done no_end Knows faults_stay knowledge_stays (f.text ++ piece) (held v ++ piece) taker line (fed_more code is_done no_end Knows f.text (held v) piece taker line f.fed)
 
 -- all that was left came
 pub came_whole : (o p : Option (List ℕ)) (text : List ℕ) → Came o p text → HasEnded o p → CameWhole o p text

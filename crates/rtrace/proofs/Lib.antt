@@ -5,7 +5,7 @@ pub mod BoundSteps
 pub mod WaitSteps
 pub mod ToldSteps
 pub mod Keeping
-pub mod Splits
+pub mod CutRows
 pub mod Windows
 pub mod Gaining
 pub mod Feeding

@@ -10,3 +10,4 @@ pub mod Keys
 pub mod KeyFacts
 pub mod Kept
 pub mod Knows
+pub mod CountFacts

@@ -10,25 +10,27 @@ ghost use Rattle.rtrace.specs.Feeding.{IsFed, StandsBrokenOff};
 ghost use Rattle.rtrace.specs.Windows.{held, IsSound};
 
 use crate::error::{StreamErr, error_of, text_error_of};
+use crate::shortened::Shortened;
 use crate::window::Window;
 use csv::ByteRecord;
 use io_ends::Source;
-use rtrace_form::{Records, TextErr, end_at, take_part};
+use rtrace_form::{TextErr, end_at, take_part};
 use std::alloc::Global;
 
-/// Takes all records of the text that a source has left, or tells its first fault, and holds no more of the text than a
-/// window. The source is read to its end, of which at most one byte more than `limit` is taken; so a fault of the source, and
-/// that it is too long, are told before a fault of the text. The taker knows in the end that all records were taken.
+/// Takes all records of the text that a source has left, or reports its first fault, and holds a window of the text. The
+/// source is read to its end, of which at most one byte more than `limit` is taken; so a fault of the source, and that it is
+/// too long, are reported before a fault of the text. At the end the taker knows that all records were taken.
 ///
-/// Where a quotation mark stands in the text, all of it is held from there on.
+/// Of a record that does not end within a window, what cannot change its meaning is left out: of a piece of a field all
+/// after 20 bytes, of a set the pieces that say nothing new, of a record all after nine fields.
 ///
 /// # Errors
 ///
-/// The source failed, or had more than `limit` bytes: then the taker knows the records of a front of what came, or stands where
-/// one of them was refused. How long that front is is not said: it may have no record. The first fault of a text that is none
-/// of the taker's kind, and then the taker stands where the faulty record would be due (`StandsAt`). Or want of memory: then
-/// nothing is said of the taker.
-pub fn take_source<S: Source, T: Records>(
+/// The source failed, or had more than `limit` bytes: then the taker knows the first records of what came, or stands where
+/// one of them was refused. How many it knows is not said: it may be none. The first fault of a text that is none of the
+/// taker's kind, and then the taker stands where the faulty record would be due (`StandsAt`). Or memory ran out: then nothing
+/// is said of the taker.
+pub fn take_source<S: Source, T: Shortened>(
     alloc: Global,
     source: &mut S,
     limit: u64,
@@ -42,7 +44,7 @@ pub fn take_source<S: Source, T: Records>(
         → (text : List ℕ) × CameWhole (S.left source.old) (S.left source.new) text × StandsAt T.knows T.stays text fault.line taker.new }
     ensures broken { IfErr result (λ e. IsOfSource e → (text : List ℕ) × Came (S.left source.old) (S.left source.new) text × StandsBrokenOff T.knows T.stays text taker.new) }
 
-    // A fault has its cause, and no fault goes untold. `TooLong` is answered exactly where one byte above the limit was taken.
+    // A fault has its cause, and no fault goes unreported. `TooLong` is answered exactly where one byte above the limit was taken.
     ensures fault { IsErrOf result StreamErr.ReadFault → Rose (S.faults source.old) (S.faults source.new) }
     ensures quiet { ¬ IsErrOf result StreamErr.ReadFault → S.faults source.new ≡ S.faults source.old }
     ensures too_long { IsErrOf result StreamErr.TooLong → Took (S.left source.old) (S.left source.new) (limit + 1) }
@@ -55,7 +57,7 @@ pub fn take_source<S: Source, T: Records>(
 }
 
 // Reads window after window, and takes the records of each.
-fn feed<S: Source, T: Records>(
+fn feed<S: Source, T: Shortened>(
     alloc: Global,
     source: &mut S,
     window: &mut Window,
@@ -91,9 +93,9 @@ fn feed<S: Source, T: Records>(
     }
 }
 
-// Takes the records of the lines that are held whole, where they may be cut off, and answers the number of the record that
-// would follow them.
-fn take_lines<T: Records>(
+// Takes the records that are held whole, where they may be cut off, and answers the number of the record that would follow
+// them. Where none is held whole, what is held is made shorter.
+fn take_lines<T: Shortened>(
     alloc: Global,
     window: &mut Window,
     fields: &mut ByteRecord,
@@ -112,7 +114,10 @@ fn take_lines<T: Records>(
     ensures room { length window.new.bytes.items ≡ length window.old.bytes.items }
 {
     let Some(cut) = window.cut() else {
-        return Ok(from);
+        return match window.shorten(alloc) {
+            Ok(()) => Ok(from),
+            Err(_) => Err(TextErr::Memory),
+        };
     };
     match take_part(alloc, &window.bytes[..cut], fields, from, taker) {
         Ok(line) => {
@@ -124,7 +129,7 @@ fn take_lines<T: Records>(
 }
 
 // Takes the records of all that is held of a text that has ended.
-fn take_rest<T: Records>(
+fn take_rest<T: Shortened>(
     alloc: Global,
     window: &Window,
     fields: &mut ByteRecord,
@@ -149,7 +154,7 @@ fn take_rest<T: Records>(
     }
 }
 
-// The error of a source whose text was refused. It is read to its end first, since what is wrong there is told before.
+// The error of a source whose text was refused. It is read to its end first, since what is wrong there is reported before.
 fn refused<S: Source, C: Copy>(window: &mut Window, source: &mut S, e: TextErr<C>) -> StreamErr<C>
     requires sound { IsSound window.old }
     requires room { 0 < length window.old.bytes.items }

@@ -15,6 +15,7 @@ mod kept_bounds;
 mod key;
 mod lists;
 mod owned;
+mod shortened;
 mod told_bounds;
 mod window;
 

@@ -1,11 +1,13 @@
 // What was read of a source and not yet taken.
-ghost use Rattle.std.specs.Prelude.{◌≡◌, ◌≢◌, ◌≤◌, ◌<◌, ◌+◌, ◌++◌, ◌∷◌, [], ℕ, List, length, take, drop, slice_get, Some, IfOk, IfErr, IfSome, OnOk, OnErr, IsErrOf, true, false};
+ghost use Rattle.std.specs.Prelude.{◌≡◌, ◌≢◌, ◌≤◌, ◌<◌, ◌+◌, ◌++◌, ◌∷◌, [], ℕ, List, length, take, drop, Some, IfOk, IfErr, IfSome, OnOk, OnErr, IsErrOf, true, false};
 ghost use Rattle.io_ends.specs.Faults.{Rose};
 ghost use Rattle.io_ends.specs.declared.reading.ReadErr.TheVariants.{ReadFault};
 ghost use Rattle.rtrace.specs.Coming.{Came, HasEnded, BreaksOff};
-ghost use Rattle.rtrace.specs.Windows.{held, IsSound, Gains, IsCut};
+ghost use Rattle.rshort.specs.Cut.{IsShortened, MayBeCut};
+ghost use Rattle.rtrace.specs.Windows.{held, IsSound, Gains};
 
 use io_ends::{Failed, ReadErr, Source};
+use rshort::{cut_place, shorten};
 use std::alloc::{AllocError, Global};
 
 /// How many bytes a window has at first.
@@ -41,7 +43,7 @@ impl Window {
     ///
     /// # Errors
     ///
-    /// The source failed, a byte more than may be was taken of it, or want of memory.
+    /// The source failed, a byte above the limit was taken, or memory ran out.
     pub(crate) fn fill<S: Source>(&mut self, source: &mut S) -> Result<bool, ReadErr>
         requires { IsSound self.old }
         ensures gained { IfOk result (λ _. (piece : List ℕ) × Gains self.old self.new piece × Came (S.left source.old) (S.left source.new) piece) }
@@ -69,7 +71,7 @@ impl Window {
     ///
     /// # Errors
     ///
-    /// The source failed, or a byte more than may be was taken of it.
+    /// The source failed, or a byte above the limit was taken.
     pub(crate) fn drain<S: Source>(&mut self, source: &mut S) -> Result<(), ReadErr>
         requires sound { IsSound self.old }
         requires room { 0 < length self.old.bytes.items }
@@ -91,7 +93,7 @@ impl Window {
         }
     }
 
-    // Reads once, behind what is held, and answers how many bytes came: none exactly at the end.
+    // Reads once, after what is held, and answers how many bytes came: none exactly at the end.
     fn read<S: Source>(&mut self, source: &mut S) -> Result<usize, ReadErr>
         requires sound { IsSound self.old }
         requires room { self.old.filled < length self.old.bytes.items }
@@ -117,17 +119,37 @@ impl Window {
         Ok(given)
     }
 
-    /// Where the front of what is held may be cut off: before the last end of a line, where no quotation mark stands in it,
-    /// since what a line break in quotes means is not known from the front alone.
+    /// Where the beginning of what is held may be cut off: before the last end of a record that is found in it.
     pub(crate) fn cut(&self) -> Option<usize>
         requires { IsSound self.now }
-        ensures { IfSome result (IsCut self.now) }
+        ensures within { IfSome result (λ cut. cut ≤ self.now.filled) }
+        ensures cut { IfSome result (MayBeCut (held self.now)) }
     {
-        let held = &self.bytes[..self.filled];
-        if held.contains(&b'"') {
-            return None;
+        cut_place(&self.bytes[..self.filled])
+    }
+
+    /// Makes what is held shorter, where no record ends in it and at least half of it cannot change what the record means.
+    ///
+    /// # Errors
+    ///
+    /// Out of memory.
+    pub(crate) fn shorten(&mut self, alloc: Global) -> Result<(), AllocError>
+        requires { IsSound self.old }
+        ensures held { IsShortened (held self.old) (held self.new) }
+        ensures sound { IsSound self.new }
+        ensures same { (self.new.taken ≡ self.old.taken) × (self.new.limit ≡ self.old.limit) }
+        ensures room { length self.new.bytes.items ≡ length self.old.bytes.items }
+    {
+        let Some(short) = shorten(alloc, &self.bytes[..self.filled])? else {
+            return Ok(());
+        };
+        // Where less is left out the window grows instead, so that each byte is looked at only a few times.
+        if short.len() > self.filled / 2 {
+            return Ok(());
         }
-        last_line_end(held)
+        put_front(&mut self.bytes, &short);
+        self.filled = short.len();
+        Ok(())
     }
 
     /// Holds no more what stands in front of the cut.
@@ -144,18 +166,6 @@ impl Window {
     }
 }
 
-// The place of the last end of a line.
-fn last_line_end(bytes: &[u8]) -> Option<usize>
-    ensures { IfSome result (λ at. (at < length bytes.now) × (slice_get bytes.now at ≡ Some 10)) }
-{
-    for at in (0..bytes.len()).rev() {
-        if bytes[at] == b'\n' {
-            return Some(at);
-        }
-    }
-    None
-}
-
 // Makes the bytes longer than what is filled, by as much again, if they are not.
 fn lengthen(bytes: &mut Vec<u8>, filled: usize) -> Result<(), AllocError>
     requires { filled ≤ length bytes.old.items }
@@ -168,6 +178,15 @@ fn lengthen(bytes: &mut Vec<u8>, filled: usize) -> Result<(), AllocError>
     }
     let longer = filled.checked_add(filled.max(WINDOW)).ok_or(AllocError)?;
     bytes.resize(longer, 0)
+}
+
+// Writes bytes over the beginning of the buffer.
+fn put_front(buffer: &mut [u8], bytes: &[u8])
+    requires { length bytes.now ≤ length buffer.old }
+    ensures front { take (length bytes.now) buffer.new ≡ bytes.now }
+    ensures len { length buffer.new ≡ length buffer.old }
+{
+    buffer[..bytes.len()].copy_from_slice(bytes);
 }
 
 // One read of so many bytes at most into the buffer, from a place on.

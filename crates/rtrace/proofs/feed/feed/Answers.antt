@@ -1,13 +1,16 @@
-use Rattle.std.proofs.Common.{◌++◌, Err, inl, inr, sym, ap, subst, ◌∙◌}
+use Rattle.std.proofs.Common.{◌++◌, Err, inl, inr, refl, sym, ap, subst, ◌∙◌}
 use Rattle.rtrace_form.specs.Takers.{HasTaken}
 use Rattle.rtrace_form.proofs.texts.Place.{err_is}
 use Rattle.rtrace.specs.Errors.{error_of, IsBad}
 use Rattle.rtrace.specs.declared.error.StreamErr.{StreamErr}
 use Rattle.rtrace.proofs.Errors.{is_fault, none_of_source}
 use Rattle.rtrace.proofs.Windows.{came_more}
-use Rattle.rtrace.proofs.Gaining.{IsFeeding, feeding_more, feeding_lines, feeding_broken, came_whole, within_limit, ended_more, to_stream, broken_off, on_ok}
-use Rattle.rtrace.proofs.feed.feed.Given.{Over}
+use Rattle.rtrace.proofs.Gaining.{feeding_none, feeding_more, feeding_lines, feeding_broken, came_whole, within_limit, ended_more, to_stream, broken_off, on_ok}
 use Rattle.rtrace.proofs.feed.feed.Goals as goal
+
+pub loop-window-init : goal.loop-window-init
+loop-window-init g c =
+    (feeding_none g.T.Records.code g.T.Records.is_done g.T.Records.no_end g.T.Records.knows (g.S.Source.left c.args.source.now) c.args.window.now c.args.taker.now c.requires.knows c.requires.held c.requires.taken c.requires.sound, refl)
 
 pub take_rest-requires-clause-fed : goal.take_rest-requires-clause-fed
 take_rest-requires-clause-fed g c =
@@ -150,5 +153,5 @@ returns-in-Err-clause-broken g c = λ is.
     let b = c.in-Err.ensures.broken in (
       at.text ++ b.0,
       came_more (g.S.Source.left c.args.source.now) (g.S.Source.left c.loop-window.source) (g.S.Source.left c.fill.new.source) at.text b.0 at.came b.1,
-      inl (feeding_broken g.T.Records.code g.T.Records.is_done g.T.Records.no_end g.T.Records.knows (g.S.Source.left c.args.source.now) (g.S.Source.left c.loop-window.source) c.args.window.now c.loop-window.window c.loop-window.taker c.loop-window.line b.0 at),
+      inl (feeding_broken g.T.Records.code g.T.Records.is_done g.T.Records.no_end g.T.Records.knows g.met.T.Shortened.faults_stay g.met.T.Shortened.knowledge_stays (g.S.Source.left c.args.source.now) (g.S.Source.left c.loop-window.source) c.args.window.now c.loop-window.window c.loop-window.taker c.loop-window.line b.0 at),
     )

@@ -1,6 +1,8 @@
-use Rattle.std.proofs.Common.{sym, ◌∙◌}
-use Rattle.rtrace.proofs.Windows.{is_cut}
+use Rattle.rtrace.proofs.Windows.{cut_within}
 use Rattle.rtrace.proofs.window.Window.cut.Goals as goal
 
-pub returns : goal.returns
-returns c = is_cut c.args.self.now c.last_line_end.result c.requires (rw c.deref.ensures.value at (sym c.contains.ensures.value ∙ c.if-contains.false)) (rw c.deref.ensures.value at c.last_line_end.ensures)
+pub returns-clause-within : goal.returns-clause-within
+returns-clause-within c = cut_within c.args.self.now c.cut_place.result c.requires (rw c.deref.ensures.value at c.cut_place.ensures.within)
+
+pub returns-clause-cut : goal.returns-clause-cut
+returns-clause-cut c = rw c.deref.ensures.value at c.cut_place.ensures.cut
