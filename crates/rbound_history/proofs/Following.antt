@@ -19,12 +19,12 @@ use Rattle.rbound_history.proofs.RequestPlaces.{is_known, place_now, place_still
 
 -- ---- lists
 
-set_there : {X : Type 0} (xs : List X) (i : ℕ) (x : X) → i < length xs → slice_get (slice_set xs i x) i ≡ Some x
+pub set_there : {X : Type 0} (xs : List X) (i : ℕ) (x : X) → i < length xs → slice_get (slice_set xs i x) i ≡ Some x
 set_there [] i x h = absurd (omega arith)
 set_there (y ∷ ys) zero x h = refl
 set_there (y ∷ ys) (suc i) x h = set_there ys i x (omega arith)
 
-set_elsewhere : {X : Type 0} (xs : List X) (i j : ℕ) (x : X) → (i == j) ≡ false → slice_get (slice_set xs i x) j ≡ slice_get xs j
+pub set_elsewhere : {X : Type 0} (xs : List X) (i j : ℕ) (x : X) → (i == j) ≡ false → slice_get (slice_set xs i x) j ≡ slice_get xs j
 set_elsewhere [] i j x other = refl
 set_elsewhere (y ∷ ys) zero zero x other = contrary (zero == zero) (eq-eqb zero zero refl) other
 set_elsewhere (y ∷ ys) zero (suc j) x other = refl

@@ -5,6 +5,8 @@ pub mod SameBounds
 pub mod ShapesGrow
 pub mod ShapesAsk
 pub mod ShapesOfNeeds
+pub mod NumberFacts
+pub mod ShelfFacts
 pub mod TableFacts
 pub mod TableGrows
 pub mod LongerRequests

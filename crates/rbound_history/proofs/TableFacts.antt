@@ -1,9 +1,8 @@
 -- What a table of shapes becomes when its parts change.
-use Rattle.std.proofs.Common.{◌≡◌, ◌<◌, ◌+◌, ◌||◌, ◌==◌, not, ℕ, zero, suc, Bool, true, false, cond, List, [], ◌∷◌, ◌++◌, map, length, slice_get, slice_index, slice_index_or, slice_set, refl, sym, ap, ◌∙◌, inl, inr, arith}
-use Rattle.std.specs.Prelude.{option_map}
-use Rattle.std.specs.List.{list_any, position_or_len}
+use Rattle.std.proofs.Common.{◌≡◌, ◌<◌, ◌≤◌, ◌+◌, replicate, subst, ◌||◌, ◌==◌, not, ℕ, zero, suc, Bool, true, false, cond, List, [], ◌∷◌, ◌++◌, map, length, slice_get, slice_index, slice_index_or, slice_set, refl, sym, ap, ◌∙◌, inl, inr, arith}
+use Rattle.std.specs.Prelude.{option_map, IsTrue}
+use Rattle.std.specs.List.{list_any, position_or_len, AllByRecursion}
 use Rattle.std.proofs.lemmas.Bool.{or_left, or_right}
-use Rattle.indexmap.specs.IndexSet.{insert_key}
 use Rattle.rset.specs.Sets.{Set, equals}
 use Rattle.rclaim.specs.Requests.{RequestFields}
 use Rattle.rmodel.specs.WellFormed.{Among}
@@ -13,10 +12,12 @@ use Rattle.rbound_history.specs.Shapes.{Shape, has_shape, lengthened, joined, wi
 use Rattle.rbound_history.specs.ShapeNeeds.{number_before}
 use Rattle.rbound_history.specs.Histories.{AreDifferent}
 use Rattle.rbound_history.specs.ShapeKeys.{same_key, same_asked, key_of}
-use Rattle.rbound_history.specs.Kept.{shape_in, shapes_in}
+use Rattle.rbound_history.specs.Kept.{shape_in, shapes_in, may_ask, IsKept}
+use Rattle.rbound_history.specs.Numbered.{insert_key}
 use Rattle.rbound_history.specs.declared.shape_key.ShapeKey.{ShapeKey}
 use Rattle.rbound_history.specs.declared.shape_key.AskedSet.{AskedSet}
 use Rattle.rbound_history.specs.declared.table.Entry.{Entry}
+use Rattle.rbound_history.specs.declared.table.Table.{Table}
 use Rattle.rbound_history.proofs.ShapesGrow.{both_of}
 
 -- ---- lists
@@ -208,3 +209,24 @@ pub task_is : (ss : List Shape) (place : ℕ) → task_at ss place ≡ task_by (
 task_is [] place = refl
 task_is (s ∷ ss) zero = refl
 task_is (s ∷ ss) (suc place) = task_is ss place
+
+-- ---- a table without shapes
+
+zeros : (n i : ℕ) → slice_index (replicate n 0) i ≡ 0
+zeros zero i = refl
+zeros (suc n) zero = refl
+zeros (suc n) (suc i) = zeros n i
+
+pub empty_table : (t : Table) (n : ℕ) → t.keys.keys ≡ [] → t.entries.items ≡ [] → t.numbers.items ≡ [] → t.counts.items ≡ replicate n 0 → length t.counts.items ≤ 255 → IsKept t
+empty_table t n keys entries numbers counts few = record {
+  table = record {
+    keys = keys ∙ ap (λ es. map key_of (shapes_in es)) (sym entries);
+    different = subst (λ (es : List Entry). AreDifferent (shapes_in es)) (sym entries) tt;
+    tasks = subst (λ (es : List Entry). AllByRecursion (λ (s : Shape). s.task < length t.counts.items) (shapes_in es)) (sym entries) tt;
+    asks = subst (λ (es : List Entry). AllByRecursion (λ (s : Shape). IsTrue (may_ask s)) (shapes_in es)) (sym entries) tt;
+    long = ap length numbers ∙ sym (ap length entries);
+    numbers = λ place h. absurd (omega (arith, h, ap length entries));
+    counts = λ task h. ap (λ xs. slice_index xs task) counts ∙ zeros n task ∙ ap (λ es. number_before (shapes_in es) task (length es)) (sym entries);
+  };
+  few = few;
+}

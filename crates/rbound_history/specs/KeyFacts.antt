@@ -1,13 +1,17 @@
--- The tests of keys say whether two keys are equal, so each test is an equivalence, and equal keys have equal hashes.
-use Rattle.std.proofs.Common.{◌≡◌, ◌&&◌, ◌==◌, true, refl, ap, subst}
+-- The tests of keys say whether two keys are equal, so each test is an equivalence; their orders are total, and only equal keys tie.
+use Rattle.std.proofs.Common.{◌≡◌, ◌&&◌, ◌==◌, Bool, true, false, Some, refl, subst, ◌∙◌}
 use Rattle.std.specs.Bool.{Decides}
-use Rattle.std.specs.Cmp.{IsEquivalence, decided}
+use Rattle.std.specs.Cmp.{IsEquivalence, IsTotalOrder, IsPartialOrder, decided, po, nat_cmp_total, on_total, then_total, unsigned_ties}
+use Rattle.std.specs.Ordering.{eq_by_cmp, is_eq, ordering_then}
+use Rattle.std.specs.declared.cmp.Ordering.{Ordering}
+use Rattle.std.specs.declared.cmp.Ordering.TheVariants.{Less, Equal, Greater}
 use Rattle.std.proofs.lemmas.Bool.{eq-eqb, eqb-true, and_parts, and_from}
 use Rattle.rset.specs.Sets.{equals}
 use Rattle.rset.specs.SetFacts.{equals-true, equals_itself}
 use Rattle.rbound_history.specs.declared.shape_key.ShapeKey.{ShapeKey}
 use Rattle.rbound_history.specs.declared.shape_key.AskedSet.{AskedSet}
-use Rattle.rbound_history.specs.ShapeKeys.{same_key, same_asked, key_input, asked_input}
+use Rattle.rbound_history.specs.SetOrderFacts.{set_cmp_total, set_ties}
+use Rattle.rbound_history.specs.ShapeKeys.{same_key, same_asked, key_cmp, asked_cmp}
 
 pub same_key-true : (a b : ShapeKey) → same_key a b ≡ true → a ≡ b
 same_key-true a b h =
@@ -41,8 +45,41 @@ same_asked_decides a b =
 pub same_asked_equivalence : IsEquivalence same_asked
 same_asked_equivalence = decided same_asked same_asked_decides
 
-pub same_key_fed : (a b : ShapeKey) → same_key a b ≡ true → key_input a ≡ key_input b
-same_key_fed a b h = ap key_input (same_key-true a b h)
+-- ---- orders
 
-pub same_asked_fed : (a b : AskedSet) → same_asked a b ≡ true → asked_input a ≡ asked_input b
-same_asked_fed a b h = ap asked_input ((same_asked_decides a b).0 h)
+pub key_cmp_total : IsTotalOrder key_cmp
+key_cmp_total =
+    then_total (on_total (λ (k : ShapeKey). k.task) nat_cmp_total)
+    (then_total (on_total (λ (k : ShapeKey). k.kind) nat_cmp_total)
+    (then_total (on_total (λ (k : ShapeKey). k.reads) set_cmp_total)
+    (then_total (on_total (λ (k : ShapeKey). k.writes) set_cmp_total) (on_total (λ (k : ShapeKey). k.first) set_cmp_total))))
+
+pub same_key_ties : (a b : ShapeKey) → same_key a b ≡ eq_by_cmp key_cmp a b
+same_key_ties a b = at _ _ _ _ _ _ _ _ _ _ (unsigned_ties a.task b.task) (unsigned_ties a.kind b.kind) (set_ties a.reads b.reads) (set_ties a.writes b.writes) (set_ties a.first b.first)
+  where
+    tied : (r : Ordering) (t : Bool) (s : Ordering) → t ≡ is_eq s → (is_eq r && t) ≡ is_eq (ordering_then r s)
+    tied Less t s e = refl
+    tied Equal t s e = e
+    tied Greater t s e = refl
+
+    assoc : (b c d e : Bool) → (b && c && d && e) ≡ (b && (c && (d && e)))
+    assoc true true d e = refl
+    assoc true false d e = refl
+    assoc false c d e = refl
+
+    at : (t k r w f : Bool) (t' k' r' w' f' : Ordering) → t ≡ is_eq t' → k ≡ is_eq k' → r ≡ is_eq r' → w ≡ is_eq w' → f ≡ is_eq f'
+        → (t && (k && r && w && f)) ≡ is_eq (ordering_then t' (ordering_then k' (ordering_then r' (ordering_then w' f'))))
+    at t k r w f t' k' r' w' f' a b c d e =
+        (λ i. a i && (assoc k r w f ∙ (λ j. b j && (c j && (d j && f)))) i) ∙ tied t' _ _ (tied k' _ _ (tied r' _ _ (tied w' f f' e)))
+
+pub key_cmp_partial : IsPartialOrder same_key (λ a b. Some (key_cmp a b))
+key_cmp_partial = po key_cmp_total same_key_ties
+
+pub asked_cmp_total : IsTotalOrder asked_cmp
+asked_cmp_total = on_total (λ (a : AskedSet). a.set) set_cmp_total
+
+pub same_asked_ties : (a b : AskedSet) → same_asked a b ≡ eq_by_cmp asked_cmp a b
+same_asked_ties a b = set_ties a.set b.set
+
+pub asked_cmp_partial : IsPartialOrder same_asked (λ a b. Some (asked_cmp a b))
+asked_cmp_partial = po asked_cmp_total same_asked_ties

@@ -3,8 +3,12 @@ pub mod ShapeNeeds
 pub mod TaskShapes
 pub mod Histories
 pub mod Promises
+pub mod SetOrder
+pub mod SetOrderFacts
+pub mod Numbered
 pub mod ShapeKeys
 pub mod KeyFacts
+pub mod Shelves
 pub mod Kept
 pub mod Places
 pub mod Foreseen

@@ -1,15 +1,19 @@
--- The keys by which shapes and asks are looked up. Contracts of other crates do not mention them.
-use Rattle.std.specs.Prelude.{ℕ, Bool, ◌&&◌, ◌==◌, ◌%◌, ◌^◌, ◌*◌, ◌+◌, fold, bit_or}
-use Rattle.std.specs.Hash as fed
-use Rattle.rset.specs.Sets.{Set, equals, rising}
-use Rattle.rclaim.specs.Codes.{kind_number}
+-- The keys by which shapes and asks are looked up, and their order. Contracts of other crates do not mention them.
+use Rattle.std.specs.Prelude.{ℕ, Bool, ◌&&◌, ◌==◌, refl}
+use Rattle.std.specs.Coded.{Coded, code_by, coded×, coded_ℕ}
+use Rattle.std.specs.Ordering.{nat_cmp, ordering_then}
+use Rattle.std.specs.declared.cmp.Ordering.{Ordering}
+use Rattle.rset.specs.Sets.{Set, equals}
+use Rattle.rclaim.specs.Codes.{set_code, kind_number}
+use Rattle.rbound_history.specs.SetOrder.{set_cmp}
 use Rattle.rbound_history.specs.declared.shape_key.ShapeKey.{ShapeKey}
 use Rattle.rbound_history.specs.declared.shape_key.AskedSet.{AskedSet}
 use Rattle.rbound_history.specs.Shapes.{Shape}
 
--- a number in which each member of a set has a bit
-unfoldable pub mask_of : Set → ℕ
-mask_of s = fold (λ mask l. bit_or mask (1 * 2 ^ (l % 64) % 2 ^ 64)) 0 (rising s)
+abbrev pub shape_key_code : Coded ShapeKey
+shape_key_code =
+    code_by (ℕ × (ℕ × (Set × (Set × Set)))) (coded× coded_ℕ (coded× coded_ℕ (coded× set_code (coded× set_code set_code)))) (λ k. (k.task, (k.kind, (k.reads, (k.writes, k.first)))))
+    (λ p. record { task = p.0; kind = p.1.0; reads = p.1.1.0; writes = p.1.1.1.0; first = p.1.1.1.1 }) (λ _. refl)
 
 -- two keys are of one shape
 abbrev pub same_key : ShapeKey → ShapeKey → Bool
@@ -19,20 +23,16 @@ same_key a b = (a.task == b.task) && ((a.kind == b.kind) && equals a.reads b.rea
 abbrev pub same_asked : AskedSet → AskedSet → Bool
 same_asked a b = equals a.set b.set
 
--- two words, one after the other, in one word
-abbrev pub with_word : ℕ → ℕ → ℕ
-with_word word behind = (word * 11400714819323198485 % 2 ^ 64 + behind) % 2 ^ 64
+-- the order of keys: by their tasks, their kinds, and what they read, write and ask for first
+abbrev pub sets_cmp : ShapeKey → ShapeKey → Ordering
+sets_cmp a b = ordering_then (set_cmp a.reads b.reads) (ordering_then (set_cmp a.writes b.writes) (set_cmp a.first b.first))
 
--- all parts of a key in one word; different keys may share it
-abbrev pub word_of : ShapeKey → ℕ
-word_of k = with_word (with_word (with_word (with_word k.task k.kind) (mask_of k.reads)) (mask_of k.writes)) (mask_of k.first)
+abbrev pub key_cmp : ShapeKey → ShapeKey → Ordering
+key_cmp a b = ordering_then (nat_cmp a.task b.task) (ordering_then (nat_cmp a.kind b.kind) (sets_cmp a b))
 
--- what is hashed of a key, and of a set that was asked for
-abbrev pub key_input : ShapeKey → fed.HashWrites
-key_input k = fed.u64 (word_of k)
-
-abbrev pub asked_input : AskedSet → fed.HashWrites
-asked_input a = fed.u64 (mask_of a.set)
+-- the order of sets that were asked for
+abbrev pub asked_cmp : AskedSet → AskedSet → Ordering
+asked_cmp a b = set_cmp a.set b.set
 
 -- the key of a shape
 abbrev pub key_of : Shape → ShapeKey

@@ -54,8 +54,7 @@ impl GrowingNeeds {
     }
 
     /// Takes an event, which is accepted after those that were given before. Memory is taken for shapes and for the sets that
-    /// they ask for, not for events. A finish or a rise changes nothing. A request with the shape of its seat's last request
-    /// takes no memory either, but this is not proved.
+    /// they ask for, not for events. A finish or a rise changes nothing.
     ///
     /// # Errors
     ///

@@ -11,9 +11,12 @@ mod key;
 pub mod laws;
 mod lengths;
 mod needed;
+mod numbered;
 mod places;
 mod shape_key;
+mod shape_numbers;
 mod shapes;
+mod shelf;
 mod table;
 
 pub use bounds::WaitBounds;

@@ -1,12 +1,14 @@
-// The keys by which shapes and asks are looked up, with their hashes.
+// The keys by which shapes and asks are looked up, and their order.
 ghost use Rattle.std.specs.Prelude.{◌≡◌, []};
-ghost use Rattle.rbound_history.specs.ShapeKeys.{mask_of, with_word, word_of, key_of};
+ghost use Rattle.std.specs.Ordering.{nat_cmp, ordering_then};
+ghost use Rattle.rbound_history.specs.SetOrder.{least, set_cmp};
+ghost use Rattle.rbound_history.specs.ShapeKeys.{sets_cmp, key_of};
 ghost use Rattle.rclaim.specs.Codes.{kind_number};
 
 use rclaim::{Kind, Request};
 use rset::ResourceSet;
 use std::alloc::AllocError;
-use std::hash::{Hash, Hasher};
+use std::cmp::Ordering;
 
 /// What requests of one shape have in common.
 pub(crate) struct ShapeKey {
@@ -55,16 +57,72 @@ impl Eq for ShapeKey {
     ghost laws = { same_key_equivalence };
 }
 
-impl Hash for ShapeKey {
-    ghost use Rattle.rbound_history.specs.ShapeKeys.{key_input};
-    ghost use Rattle.rbound_history.specs.KeyFacts.{same_key_fed};
+impl PartialOrd for ShapeKey {
+    ghost use Rattle.std.specs.Prelude.{Some};
+    ghost use Rattle.rbound_history.specs.ShapeKeys.{key_cmp};
+    ghost use Rattle.rbound_history.specs.KeyFacts.{key_cmp_partial};
 
-    ghost hash_input = { key_input };
+    ghost partial_cmp = { λ a b. Some (key_cmp a b) };
 
-    ghost respects_eq = { same_key_fed };
+    ghost laws = { key_cmp_partial };
 
-    fn hash<H: Hasher>(&self, state: &mut H) {
-        state.write_u64(word_of(self));
+    fn partial_cmp(&self, other: &ShapeKey) -> Option<Ordering> {
+        Some(self.cmp(other))
+    }
+}
+
+impl Ord for ShapeKey {
+    ghost use Rattle.std.specs.Prelude.{refl};
+    ghost use Rattle.rbound_history.specs.ShapeKeys.{key_cmp};
+    ghost use Rattle.rbound_history.specs.KeyFacts.{key_cmp_total, same_key_ties};
+
+    ghost cmp = { key_cmp };
+
+    ghost total = { key_cmp_total };
+
+    ghost matches_partial_cmp = { λ a b. refl };
+
+    ghost matches_eq = { same_key_ties };
+
+    fn cmp(&self, other: &ShapeKey) -> Ordering {
+        match self.task.cmp(&other.task) {
+            Ordering::Less => Ordering::Less,
+            Ordering::Equal => request_cmp(self, other),
+            Ordering::Greater => Ordering::Greater,
+        }
+    }
+}
+
+/// The order of the requests of two keys.
+fn request_cmp(a: &ShapeKey, b: &ShapeKey) -> Ordering
+    ensures { result ≡ ordering_then (nat_cmp a.now.kind b.now.kind) (sets_cmp a.now b.now) }
+{
+    match a.kind.cmp(&b.kind) {
+        Ordering::Less => Ordering::Less,
+        Ordering::Equal => sets_cmp(a, b),
+        Ordering::Greater => Ordering::Greater,
+    }
+}
+
+/// The order of the sets of two keys.
+fn sets_cmp(a: &ShapeKey, b: &ShapeKey) -> Ordering
+    ensures { result ≡ sets_cmp a.now b.now }
+{
+    match set_cmp(a.reads, b.reads) {
+        Ordering::Less => Ordering::Less,
+        Ordering::Equal => written_cmp(a, b),
+        Ordering::Greater => Ordering::Greater,
+    }
+}
+
+/// The order of what two keys write and of their first parts.
+fn written_cmp(a: &ShapeKey, b: &ShapeKey) -> Ordering
+    ensures { result ≡ ordering_then (set_cmp a.now.writes b.now.writes) (set_cmp a.now.first b.now.first) }
+{
+    match set_cmp(a.writes, b.writes) {
+        Ordering::Less => Ordering::Less,
+        Ordering::Equal => set_cmp(a.first, b.first),
+        Ordering::Greater => Ordering::Greater,
     }
 }
 
@@ -107,43 +165,56 @@ impl Eq for AskedSet {
     ghost laws = { same_asked_equivalence };
 }
 
-impl Hash for AskedSet {
-    ghost use Rattle.rbound_history.specs.ShapeKeys.{asked_input};
-    ghost use Rattle.rbound_history.specs.KeyFacts.{same_asked_fed};
+impl PartialOrd for AskedSet {
+    ghost use Rattle.std.specs.Prelude.{Some};
+    ghost use Rattle.rbound_history.specs.ShapeKeys.{asked_cmp};
+    ghost use Rattle.rbound_history.specs.KeyFacts.{asked_cmp_partial};
 
-    ghost hash_input = { asked_input };
+    ghost partial_cmp = { λ a b. Some (asked_cmp a b) };
 
-    ghost respects_eq = { same_asked_fed };
+    ghost laws = { asked_cmp_partial };
 
-    fn hash<H: Hasher>(&self, state: &mut H) {
-        state.write_u64(mask_of(self.set));
+    fn partial_cmp(&self, other: &AskedSet) -> Option<Ordering> {
+        Some(self.cmp(other))
     }
 }
 
-/// A number in which each member of a set has a bit.
-#[tactic(auto, unfolding(crate::specs::ShapeKeys::mask_of))]
-fn mask_of(set: ResourceSet) -> u64
-    ensures { result ≡ mask_of set }
-{
-    set.iter().fold(0u64, |mask, l| mask | 1 << (l % 64))
+impl Ord for AskedSet {
+    ghost use Rattle.std.specs.Prelude.{refl};
+    ghost use Rattle.rbound_history.specs.ShapeKeys.{asked_cmp};
+    ghost use Rattle.rbound_history.specs.KeyFacts.{asked_cmp_total, same_asked_ties};
+
+    ghost cmp = { asked_cmp };
+
+    ghost total = { asked_cmp_total };
+
+    ghost matches_partial_cmp = { λ a b. refl };
+
+    ghost matches_eq = { same_asked_ties };
+
+    fn cmp(&self, other: &AskedSet) -> Ordering {
+        set_cmp(self.set, other.set)
+    }
 }
 
-/// Two words, one after the other, in one word.
-fn with_word(word: u64, behind: u64) -> u64
-    ensures { result ≡ with_word word behind }
+/// The least member of a set.
+fn least(set: ResourceSet) -> Option<u8>
+    ensures { result ≡ least set }
 {
-    word.wrapping_mul(0x9e37_79b9_7f4a_7c15)
-        .wrapping_add(behind)
+    set.first()
 }
 
-/// All parts of a key in one word. One word is hashed faster than five, and different keys may share it.
-fn word_of(key: &ShapeKey) -> u64
-    ensures { result ≡ word_of key.now }
+/// The order of two sets: by the least resource that only one of them has, and the one that has it comes first.
+#[tactic(auto, unfolding(crate::specs::SetOrder::set_cmp))]
+fn set_cmp(a: ResourceSet, b: ResourceSet) -> Ordering
+    ensures { result ≡ set_cmp a b }
 {
-    let who = with_word(key.task as u64, key.kind as u64);
-    let reads = with_word(who, mask_of(key.reads));
-    let writes = with_word(reads, mask_of(key.writes));
-    with_word(writes, mask_of(key.first))
+    match (least(a.minus(b)), least(b.minus(a))) {
+        (None, None) => Ordering::Equal,
+        (None, Some(_)) => Ordering::Greater,
+        (Some(_), None) => Ordering::Less,
+        (Some(x), Some(y)) => x.cmp(&y),
+    }
 }
 
 /// The number of a kind.

@@ -1,14 +1,15 @@
 // The shapes of the requests of tasks, as a history grows.
-ghost use Rattle.std.specs.Prelude.{◌≡◌, ◌≤◌, ◌<◌, [], true, IfOk, OnOk, OnErr, length, slice_index_or, slice_set};
-ghost use Rattle.rbound.specs.Bounds.{numbers_in};
-ghost use Rattle.rbound.specs.TaskNeeds.{requests_of, bound_of};
+ghost use Rattle.std.specs.Prelude.{◌≡◌, ◌<◌, [], true, IfOk, OnOk, OnErr, length, slice_index_or, slice_set};
+ghost use Rattle.rbound.specs.TaskNeeds.{requests_of};
 ghost use Rattle.rbound_history.specs.Shapes.{with_shape, shape_index, with_shape_ask, ask_index, task_at, is_nested_at};
 ghost use Rattle.rbound_history.specs.ShapeNeeds.{needs_of_shapes, number_before, AreBelow};
 
 use crate::needed::needs_of;
+use crate::shape_key::key_of;
+use crate::shape_numbers::ShapeNumbers;
+use crate::shelf::{SHELVES, shelf_of};
 use crate::table::{Table, enter, is_shape_at, push_ask, take_over};
-use indexmap::IndexSet;
-use rbound::{Bound, Needs, Which, bound_of};
+use rbound::Needs;
 use rclaim::Request;
 use rexpand::Groups;
 use rset::ResourceSet;
@@ -20,7 +21,7 @@ use std::marker::Model;
 #[derive(Drop)]
 pub struct Shapes {
     table: Table,
-    /// For each task, the place of the shape of its last request. It is tried first, and is only a hint.
+    /// For each shelf, the place of the last shape on it. It is tried first, and is only a hint.
     last: Vec<usize>,
 }
 
@@ -48,10 +49,10 @@ impl Shapes {
         ensures { IfOk result (λ shapes. shapes ≡ record { tasks = tasks; shapes = [] }) }
     {
         let counts = vec![in alloc; 0usize; usize::from(tasks)]?;
-        let last = vec![in alloc; 0usize; usize::from(tasks)]?;
+        let last = vec![in alloc; 0usize; SHELVES]?;
         Ok(Shapes {
             table: Table {
-                keys: IndexSet::new(alloc),
+                keys: ShapeNumbers::new(alloc)?,
                 entries: Vec::new(alloc),
                 numbers: Vec::new(alloc),
                 counts,
@@ -72,13 +73,14 @@ impl Shapes {
         ensures place { IfOk result (λ place. place ≡ shape_index self.old.shapes task request) }
         ensures err { OnErr result (self.new ≡ self.old) }
     {
-        let last = place_in(&self.last, task);
+        let shelf = shelf_of(&key_of(task, &request));
+        let last = place_in(&self.last, shelf);
         if is_shape_at(&self.table.entries, last, task, &request) {
             take_over(&mut self.table.entries, last, task, &request);
             return Ok(last);
         }
         let place = enter(&mut self.table, task, &request)?;
-        note(&mut self.last, task, place);
+        note(&mut self.last, shelf, place);
         Ok(place)
     }
 
@@ -134,49 +136,23 @@ impl Shapes {
     {
         needs_of(alloc, groups, &self.table.entries, self.tasks())
     }
-
-    /// The bound of a wait of the requests of a shape, where no more than `cap` requests may be incomplete. It looks through all
-    /// claims of the shapes: where many bounds are wanted, make a table of what `needs` gives.
-    ///
-    /// # Errors
-    ///
-    /// Out of memory.
-    pub fn bound(
-        &self,
-        alloc: Global,
-        groups: &Groups,
-        cap: u8,
-        shape: usize,
-        which: Which,
-    ) -> Result<Bound, AllocError>
-        requires cap { 1 ≤ cap }
-        requires shape { shape < length self.now.shapes }
-        requires below { AreBelow groups.now.q self.now.shapes }
-        ensures { IfOk result (λ b. numbers_in b
-            ≡ bound_of (record { groups = groups.now; tasks = needs_of_shapes self.now.tasks self.now.shapes }) cap (task_at self.now.shapes shape) (number_before self.now.shapes (task_at self.now.shapes shape) shape) which) }
-    {
-        let needs = self.needs(alloc, groups.copy(alloc)?)?;
-        let (task, number) = self.place(shape);
-        bound_of(alloc, &needs, cap, task, number, which)
-    }
 }
 
-/// The place that was last recorded for a task; 0 where there was none.
-fn place_in(last: &[usize], task: u8) -> usize
-    ensures { result ≡ slice_index_or last.now task 0 }
+/// The place that was last recorded for a shelf; 0 where there was none.
+fn place_in(last: &[usize], shelf: usize) -> usize
+    ensures { result ≡ slice_index_or last.now shelf 0 }
 {
-    match last.get(usize::from(task)) {
+    match last.get(shelf) {
         Some(place) => *place,
         None => 0,
     }
 }
 
-/// Records a place for a task. Where there is no such task, nothing is recorded.
-fn note(last: &mut [usize], task: u8, place: usize)
-    ensures { last.new ≡ slice_set last.old task place }
+/// Records a place for a shelf. Where there is no such shelf, nothing is recorded.
+fn note(last: &mut [usize], shelf: usize, place: usize)
+    ensures { last.new ≡ slice_set last.old shelf place }
 {
-    let at = usize::from(task);
-    if at < last.len() {
-        last[at] = place;
+    if shelf < last.len() {
+        last[shelf] = place;
     }
 }

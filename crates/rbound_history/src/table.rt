@@ -4,8 +4,9 @@ ghost use Rattle.rbound_history.specs.Shapes.{is_shape_of, taken_over, with_shap
 ghost use Rattle.rbound_history.specs.Kept.{shapes_in, IsTable};
 
 use crate::lengths::{is_as_long, lengthened, same_shape};
-use crate::shape_key::{AskedSet, ShapeKey, key_of};
-use indexmap::IndexSet;
+use crate::numbered::Numbered;
+use crate::shape_key::{AskedSet, key_of};
+use crate::shape_numbers::ShapeNumbers;
 use rclaim::Request;
 use rset::ResourceSet;
 use std::alloc::AllocError;
@@ -15,14 +16,14 @@ use std::alloc::AllocError;
 pub(crate) struct Entry {
     pub(crate) task: u8,
     pub(crate) request: Request,
-    pub(crate) asks: IndexSet<AskedSet>,
+    pub(crate) asks: Numbered<AskedSet>,
 }
 
 /// The shapes in the order in which they first came, by their keys; the number of each among those of its task, and how many
 /// there are of each task.
 #[derive(Drop)]
 pub(crate) struct Table {
-    pub(crate) keys: IndexSet<ShapeKey>,
+    pub(crate) keys: ShapeNumbers,
     pub(crate) entries: Vec<Entry>,
     pub(crate) numbers: Vec<usize>,
     pub(crate) counts: Vec<usize>,
@@ -85,7 +86,7 @@ fn push_new(table: &mut Table, task: u8, request: &Request)
     table.entries.push_reserved(Entry {
         task,
         request: *request,
-        asks: IndexSet::new(alloc),
+        asks: Numbered::new(alloc),
     });
 }
 

@@ -2,6 +2,7 @@ pub mod PlaceZoneFacts
 pub mod ZoneFacts
 pub mod AnswerFacts
 pub mod BoundFacts
+pub mod SumFacts
 pub mod TotalFacts
 pub mod TwoFacts
 pub mod TopFacts

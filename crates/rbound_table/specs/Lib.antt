@@ -1,5 +1,6 @@
 pub mod TableRows
 pub mod Totals
+pub mod Sums
 pub mod PlaceZones
 pub mod Answers
 pub mod BoundedNeeds

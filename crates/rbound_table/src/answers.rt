@@ -41,10 +41,10 @@ fn write_bounds(
     requires { 1 ≤ cap }
     ensures { IfOk result (λ bounds. map numbers_in bounds.items ≡ map (numbers_of rows.now tasks cap) (range_with_len 0 tasks)) }
 {
-    let totals = totals_of(rows, tasks);
+    let totals = totals_of(alloc, rows, tasks, cap)?;
     let mut bounds = Vec::new(alloc);
     for task in 0..tasks {
-        bounds.push(bound_by(alloc, rows, &totals, tasks, cap, task)?)?;
+        bounds.push(bound_by(rows, &totals, tasks, cap, task))?;
     }
     Ok(bounds)
 }

@@ -11,6 +11,7 @@ mod leaders;
 mod lengths;
 mod other_lengths;
 mod rows;
+mod sums;
 mod table;
 mod tables;
 mod totals;

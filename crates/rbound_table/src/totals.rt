@@ -1,33 +1,26 @@
 // Totals of the claims in a zone for all tasks at once, and the bound of each task from them.
-ghost use Rattle.std.specs.Prelude.{◌≡◌, ◌≤◌, ◌<◌, ◌*◌, ◌^◌, IfOk, sum, map};
-ghost use Rattle.rbound.specs.Bounds.{numbers_in, tasks_of};
-ghost use Rattle.rbound.specs.ZoneRows.{all_may_write_in, none_beside_in, numbers_of, reads_in, writers_in, writes_in};
-ghost use Rattle.rbound_table.specs.Totals.{AreTotals, two_in, writers_there, only_reads, only_readers, length_in};
+ghost use Rattle.std.specs.Prelude.{◌≡◌, ◌≤◌, ◌<◌, IfOk};
+ghost use Rattle.rbound.specs.Bounds.{numbers_in};
+ghost use Rattle.rbound.specs.ZoneRows.{all_may_write_in, none_beside_in, numbers_of, reads_in, writes_in};
+ghost use Rattle.rbound_table.specs.Sums.{AreSums};
+ghost use Rattle.rbound_table.specs.Totals.{AreTotals, two_in, only_reads, only_readers};
 
 use crate::lengths::nth_length;
+use crate::sums::{GreatestSums, sums_of, writers_there, written_beside};
 use crate::two::{TwoLongest, no_length, only, two_at, two_of_both};
-use rbound::{Bound, ZoneRows, write_bound};
+use rbound::{Bound, ZoneRows};
 use std::alloc::{AllocError, Global};
 
 /// Totals of the rows of a zone for all tasks at once.
 #[derive(Clone, Copy)]
 pub(crate) struct ZoneTotals {
-    // The number of tasks with a write claim there, and the sum of their write lengths.
+    // The number of tasks with a write claim there.
     writers: usize,
-    written: u64,
+    sums: GreatestSums,
     // The number of tasks that read there and have no write claim.
     only_readers: usize,
     reads: TwoLongest,
     upgrades: TwoLongest,
-}
-
-/// The number of tasks that have a length in a row.
-fn writers_there(writes: &[Option<u32>], tasks: u8) -> usize
-    ensures { result ≡ writers_there writes.now tasks }
-{
-    (0..tasks)
-        .filter(|task| nth_length(writes, *task).is_some())
-        .count()
 }
 
 /// Whether a task reads there and has no write claim.
@@ -44,25 +37,6 @@ fn only_readers(rows: &ZoneRows, tasks: u8) -> usize
     (0..tasks).filter(|task| only_reads(rows, *task)).count()
 }
 
-/// The length that a row has for a task, 0 where it has none.
-fn length_in(row: &[Option<u32>], task: u8) -> u32
-    ensures { result ≡ length_in row.now task }
-{
-    nth_length(row, task).unwrap_or(0)
-}
-
-/// The sum of the lengths of a row.
-fn sum_of(row: &[Option<u32>], tasks: u8) -> u64
-    ensures sum { result ≡ sum (map (length_in row.now) (tasks_of tasks)) }
-    ensures small { result ≤ 255 * 2 ^ 32 }
-{
-    let mut all = 0;
-    for task in 0..tasks {
-        all += u64::from(length_in(row, task));
-    }
-    all
-}
-
 /// The two longest of a row.
 fn two_in(row: &[Option<u32>], tasks: u8) -> TwoLongest
     ensures { result ≡ two_in row.now tasks }
@@ -73,26 +47,40 @@ fn two_in(row: &[Option<u32>], tasks: u8) -> TwoLongest
     )
 }
 
-/// The totals of these rows.
-pub(crate) fn totals_of(rows: &ZoneRows, tasks: u8) -> ZoneTotals
-    ensures { AreTotals rows.now tasks result }
+/// The totals of these rows under a cap.
+///
+/// # Errors
+///
+/// Out of memory.
+pub(crate) fn totals_of(
+    alloc: Global,
+    rows: &ZoneRows,
+    tasks: u8,
+    cap: u8,
+) -> Result<ZoneTotals, AllocError>
+    requires { 1 ≤ cap }
+    ensures totals { IfOk result (AreTotals rows.now tasks) }
+    ensures sums { IfOk result (λ totals. AreSums rows.now.writes.items tasks cap totals.sums) }
 {
-    ZoneTotals {
+    Ok(ZoneTotals {
         writers: writers_there(&rows.writes, tasks),
-        written: sum_of(&rows.writes, tasks),
+        sums: sums_of(alloc, &rows.writes, tasks, cap)?,
         only_readers: only_readers(rows, tasks),
         reads: two_in(&rows.reads, tasks),
         upgrades: two_in(&rows.upgrades, tasks),
-    }
+    })
 }
 
-/// The number of other tasks with a write claim there.
-fn other_writers(rows: &ZoneRows, totals: &ZoneTotals, tasks: u8, task: u8) -> usize
+/// The writes: one for each other task with a write claim there, but no more than may be incomplete beside the request itself.
+fn writes_beside(rows: &ZoneRows, totals: &ZoneTotals, tasks: u8, cap: u8, task: u8) -> usize
+    requires cap { 1 ≤ cap }
     requires task { task < tasks }
     requires totals { AreTotals rows.now tasks totals.now }
-    ensures { result ≡ writers_in rows.now.writes.items tasks task }
+    ensures value { result ≡ writes_in rows.now.writes.items tasks cap task }
+    ensures few { result < 255 }
 {
-    totals.writers - usize::from(nth_length(&rows.writes, task).is_some())
+    let others = totals.writers - usize::from(nth_length(&rows.writes, task).is_some());
+    others.min(usize::from(cap - 1))
 }
 
 /// Whether each other task that may read there may also write there.
@@ -151,50 +139,21 @@ fn reads_beside(
     }
 }
 
-/// The bound of the write waits of a task, where each of the other writers counts.
-#[tactic(auto, using(crate::proofs::TotalFacts::writes_are))]
-fn full_bound(
-    rows: &ZoneRows,
-    totals: &ZoneTotals,
-    tasks: u8,
-    cap: u8,
-    task: u8,
-    writes: usize,
-) -> Bound
+/// The bound of the write waits of a task.
+pub(crate) fn bound_by(rows: &ZoneRows, totals: &ZoneTotals, tasks: u8, cap: u8, task: u8) -> Bound
+    requires cap { 1 ≤ cap }
     requires task { task < tasks }
     requires totals { AreTotals rows.now tasks totals.now }
-    requires writes { writes ≡ writers_in rows.now.writes.items tasks task }
-    requires few { writes < cap }
+    requires sums { AreSums rows.now.writes.items tasks cap totals.now.sums }
     ensures { numbers_in result ≡ numbers_of rows.now tasks cap task }
 {
+    let writes = writes_beside(rows, totals, tasks, cap, task);
     let reads = reads_beside(rows, totals, tasks, cap, task, writes) as u64;
     let read = two_at(totals.reads, task).unwrap_or(0);
-    let written = totals.written - u64::from(length_in(&rows.writes, task));
+    let written = written_beside(&totals.sums, &rows.writes, tasks, cap, task);
     Bound {
         reads,
         writes: writes as u64,
         units: written + reads * u64::from(read),
-    }
-}
-
-/// The bound of the write waits of a task.
-pub(crate) fn bound_by(
-    alloc: Global,
-    rows: &ZoneRows,
-    totals: &ZoneTotals,
-    tasks: u8,
-    cap: u8,
-    task: u8,
-) -> Result<Bound, AllocError>
-    requires cap { 1 ≤ cap }
-    requires task { task < tasks }
-    requires totals { AreTotals rows.now tasks totals.now }
-    ensures { IfOk result (λ b. numbers_in b ≡ numbers_of rows.now tasks cap task) }
-{
-    let writes = other_writers(rows, totals, tasks, task);
-    if writes < usize::from(cap) {
-        Ok(full_bound(rows, totals, tasks, cap, task, writes))
-    } else {
-        write_bound(alloc, rows, tasks, cap, task)
     }
 }

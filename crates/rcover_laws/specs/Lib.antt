@@ -1,5 +1,6 @@
 pub mod Covers
 pub mod Ended
+pub mod EndedCovers
 pub mod History
 pub mod Line
 pub mod Lists

@@ -1,6 +1,7 @@
 //! What holds of every wait, over every list of accepted events. Each function is a theorem: it does nothing, and its
 //! contract is the law.
 ghost use Rattle.rcover_laws.specs.Promises.{ReadsAreCovered, WritesAreCovered, AsksAreCovered, WaitsAreWithinBounds, EachWaitIsBounded};
+ghost use Rattle.rcover_laws.specs.EndedCovers.{EndedWaitsAreCovered};
 
 /// *Read waits are covered*: while a read claim waits, one and the same write keeps it waiting. A section that reads what that
 /// write writes goes on until the write is satisfied; then the write's own section goes on.
@@ -30,4 +31,10 @@ pub fn waits_are_within_bounds()
 /// over its moments so far, and no number of its cover is above that of its bound.
 pub fn each_wait_is_bounded()
     ensures { EachWaitIsBounded }
+{}
+
+/// *What is reported of a wait is its cover*: for each wait that an event ends, the numbers are those of sections that cover it. At
+/// each moment of the wait one of these sections goes on.
+pub fn ended_waits_are_covered()
+    ensures { EndedWaitsAreCovered }
 {}

@@ -22,7 +22,6 @@ use Rattle.rmodel.proofs.reaching.Reached.{reached_next, reached_opening}
 use Rattle.rmodel.proofs.reaching.Soundness.{seat_is_idle, sound_changed}
 use Rattle.rmodel.proofs.settling.OneSettlement.{both_cases}
 use Rattle.rmodel.proofs.settling.Settlement.{settles_settled}
-use Rattle.rbound.specs.TaskNeeds.{asks_of}
 use Rattle.rcover_laws.specs.History as history
 use Rattle.rcover_laws.proofs.past.Asks.{more_asked, asked_since, asked_push, asks_behind, issues, issues_push, asks_next, is_issue_of, asks_on}
 

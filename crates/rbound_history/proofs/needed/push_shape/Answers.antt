@@ -20,7 +20,7 @@ returns-then-is_nested c =
     let sets = map (λ (a : AskedSet). a.set) c.as_slice.result.now in
     on_ok_weaker c.push_asks.result
     (λ put. put ∙ ap (λ (n : TaskNeeds). record n { tasks = with_asks n.tasks entry.task sets }) c.in_ok-push.ensures.ok
-    ∙ nested_put c.args.needs.now (shape_in entry) sets (ap (map (λ (a : AskedSet). a.set)) c.as_slice.ensures.keys))
+    ∙ nested_put c.args.needs.now (shape_in entry) sets (ap (map (λ (a : AskedSet). a.set)) c.as_slice.ensures))
     c.push_asks.ensures
 
 pub returns-else-is_nested : goal.returns-else-is_nested

@@ -1,7 +1,7 @@
 use Rattle.std.proofs.Common.{◌≡◌, ◌<◌, ◌+◌, ◌^◌, ℕ, subst, sym, ◌∙◌, arith}
 use Rattle.std.proofs.lemmas.List.FromFn.{sum_by-map-range_with_len_more}
-use Rattle.rbound_table.specs.Totals.{length_in}
-use Rattle.rbound_table.proofs.totals.sum_of.Goals as goal
+use Rattle.rbound_table.specs.Sums.{length_in}
+use Rattle.rbound_table.proofs.sums.sum_of.Goals as goal
 
 pub loop-task-preserved : goal.loop-task-preserved
 loop-task-preserved c =
