@@ -28,7 +28,7 @@ use Rattle.rstate.proofs.histories.Following.{lock_push, reached_lawful}
 use Rattle.rstate.proofs.homes.Lists.{same_item, get_there}
 use Rattle.rguard.specs.LentGuards.{kind_for}
 use Rattle.rguard.specs.Seats.{SeatOf, IsOf, SuitsSeat, Goes, IsOneTurn, bare, is_busy}
-use Rattle.rguard.specs.LentSections.{IsAs, Knows, WaitsFrom, HasRoomWithin, room_for, writes_at_most}
+use Rattle.rguard.specs.LentSections.{IsAs, Knows, WaitsFrom, HasRoomWithin, HasRoomToIssue}
 use Rattle.rguard.proofs.Rooms.{room_issued}
 use Rattle.rguard.proofs.seats.Claims.{issued_next, may_rise_next, may_ask_next}
 use Rattle.rguard.proofs.Ending.{sizes}
@@ -159,9 +159,11 @@ module _ {V E : Type 0} (after : V → E → V) (taken : V → E → Bool) (numb
     as_new kinds.Nested lent is = (λ i. may_ask (lock_next i).claims (same i)) ∙ may_ask_next (lock_after of.began found.entries) k.number r reached comes is
 
     -- what its wait keeps when it begins
-    pub waits_first : (lent : LentFields V) → lent ≡ room_for r
+    pub waits_first : (lent : LentFields V) → HasRoomToIssue r lent
         → WaitsFrom after taken number (kind_for r.kind) of.began (record { site = site; seat = later; lent = lent; own = []; acts = [] })
-    waits_first lent empty =
+    waits_first lent has =
+        let none : LentFields V = record { reads = []; writes = []; reads_room = lent.reads_room; writes_room = lent.writes_room } in
+        let empty : lent ≡ none = λ i. record { reads = has.no_reads i; writes = has.no_writes i; reads_room = lent.reads_room; writes_room = lent.writes_room } in
         subst (λ (l : LentFields V). WaitsFrom after taken number (kind_for r.kind) of.began (record { site = site; seat = later; lent = l; own = []; acts = [] })) (sym empty) (record {
           knows = knows_now after taken number of.began seeing found now pass later (bare (Issue k.number r) ∷ []) finds_itself longer pass_is left_is site knows lawful_later
               (ap (λ (b : Bool). cond b (bare {E = E} (Issue k.number r) ∷ []) []) (eq-eqb k.number k.number refl));
@@ -171,11 +173,11 @@ module _ {V E : Type 0} (after : V → E → V) (taken : V → E → Bool) (numb
           within = nothing_within (holds_of (lock_after of.began later.seen).claims later.number);
           has_lent = record {
             taken = has_now after taken number of.began seeing found now pass later (bare (Issue k.number r) ∷ []) finds_itself longer pass_is left_is nothing (ap (λ ts. slice_get ts k.number) now_taken ∙ has_taken_none idle are);
-            lent = lent_nothing of.began.seats of.began.values _ _ (length (rising r.reads)) (length (rising (writes_at_most r)));
+            lent = lent_nothing of.began.seats of.began.values _ _ lent.reads_room lent.writes_room;
             copies = record { once = tt; written = λ l there. absurd (true≢false (sym there)); are = tt; unedited = λ l none. refl };
           };
-          as_kind = as_new r.kind (room_for r) refl;
-          room = inr (subst (λ (t : LockState). HasRoomWithin t.claims later.number (room_for {V = V} r)) (sym lock_next)
-              (subst (λ m. HasRoomWithin (next (lock_after of.began found.entries) (Issue k.number r)).claims m (room_for {V = V} r)) (sym same)
-              (room_issued (lock_after of.began found.entries) k.number r reached comes (no_request idle) (room_for {V = V} r) (omega arith) (omega arith))));
+          as_kind = as_new r.kind none refl;
+          room = inr (subst (λ (t : LockState). HasRoomWithin t.claims later.number none) (sym lock_next)
+              (subst (λ m. HasRoomWithin (next (lock_after of.began found.entries) (Issue k.number r)).claims m none) (sym same)
+              (room_issued (lock_after of.began found.entries) k.number r reached comes (no_request idle) none (omega (arith, has.reads)) (omega (arith, has.writes)))));
         })

@@ -16,7 +16,7 @@ use Rattle.rstate.proofs.histories.Following.{reached_lawful}
 use Rattle.rstate.proofs.homes.Lists.{same_item, get_here}
 use Rattle.rguard.specs.LentGuards.{IsReady, kind_for}
 use Rattle.rguard.specs.Seats.{SeatOf, IsOf, bare, is_busy}
-use Rattle.rguard.specs.LentSections.{HasTaken, Knows, HoldsFrom, WaitsFrom, room_for}
+use Rattle.rguard.specs.LentSections.{HasTaken, Knows, HoldsFrom, WaitsFrom, HasRoomToIssue}
 use Rattle.rguard.proofs.Beginning.{waits_first}
 use Rattle.rguard.proofs.Looking.{ready_seen, held_is, may_take_lent, may_take_room, holds_now}
 use Rattle.rguard.proofs.seats.Finding.{Finds}
@@ -27,7 +27,7 @@ module _ {V E : Type 0} (after : V → E → V) (taken : V → E → Bool) (numb
     (lawful : IsLawfulFrom after taken number found.beginning found.entries) (values : length found.beginning.values ≡ found.beginning.groups.q) (idle : is_busy k.mine ≡ false)
     (r : RequestFields) (now : Contents V E) (pass : SeatOf V E) (longer : now.entries ≡ found.entries ++ bare (Issue k.number r) ∷ []) (pass_is : pass ≡ entered k found.entries)
     (now_began : now.beginning ≡ found.beginning) (now_lawful : IsLawfulFrom after taken number now.beginning now.entries) (now_taken : now.taken ≡ found.taken) (are : AreTaken (lock_of found).claims found.beginning.seats found.taken)
-    (lent : LentFields V) (room_is : lent ≡ room_for r) where
+    (lent : LentFields V) (room_is : HasRoomToIssue r lent) where
   -- the seat, if it left the state as it is then
   abbrev between : SeatOf V E
   between = left pass now.entries now

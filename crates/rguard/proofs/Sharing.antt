@@ -23,12 +23,11 @@ module _ {X : Type 0} where
 
 module _ {V : Type 0} (n : ℕ) (P : ℕ → ShareFields V → Type 0) where
   -- what is lent may be replaced if each copy is of a resource that is lent
-  pub can_replace : (writes : List (ℕ × ShareFields V)) (own : List (ℕ × V)) → 0 < n → ((m : ℕ) → has m (places own) ≡ true → has m (places writes) ≡ true) → CanReplace writes (shares_of n own)
-  can_replace writes [] some there = tt
-  can_replace writes (copy ∷ own) some there = (
+  pub can_replace : (writes : List (ℕ × ShareFields V)) (own : List (ℕ × V)) → ((m : ℕ) → has m (places own) ≡ true → has m (places writes) ≡ true) → CanReplace writes (shares_of n own)
+  can_replace writes [] there = tt
+  can_replace writes (copy ∷ own) there = (
     some_at writes copy.0 (there copy.0 (or_left (copy.0 == copy.0) (has copy.0 (places own)) (eq-eqb copy.0 copy.0 refl))),
-    some,
-    can_replace (replaced writes copy.0 (whole n copy.1)) own some (λ m is. ap (has m) (places_replaced writes copy.0 (whole n copy.1)) ∙ there m (or_right (copy.0 == m) (has m (places own)) is)),
+    can_replace (replaced writes copy.0 (whole n copy.1)) own (λ m is. ap (has m) (places_replaced writes copy.0 (whole n copy.1)) ∙ there m (or_right (copy.0 == m) (has m (places own)) is)),
   )
 
   pub places_shared : (writes : List (ℕ × ShareFields V)) (own : List (ℕ × V)) → places (with_shares writes (shares_of n own)) ≡ places writes
@@ -47,17 +46,11 @@ module _ {V : Type 0} (n : ℕ) (P : ℕ → ShareFields V → Type 0) where
 
 -- the section may end with these shares
 module _ {V E : Type 0} (after : V → E → V) (taken : V → E → Bool) (number : V → ℕ) (kind : GuardKind) (b : Beginning V) (s : SectionFields V E) (h : HoldsFrom after taken number kind b s) (n : ℕ) (n_is : n ≡ b.seats + 1) where
-  some : 0 < n
-  some = at n (b.seats) n_is
-    where
-      at : (n m : ℕ) → n ≡ m + 1 → 0 < n
-      at n m is = omega arith
-
   copies_lent : (m : ℕ) → has m (places s.own) ≡ true → has m (places s.lent.writes) ≡ true
   copies_lent m there = h.has_lent.lent.writes_has m ∙ h.has_lent.copies.written m there
 
   pub may_replace : CanReplace s.lent.writes (shares_of n s.own)
-  may_replace = can_replace n (λ m shares. Unit {0}) s.lent.writes s.own some copies_lent
+  may_replace = can_replace n (λ m shares. Unit {0}) s.lent.writes s.own copies_lent
 
   abbrev Edited : ℕ → ShareFields V → Type 0
   Edited m shares = (v : V) → slice_get b.values m ≡ Some v → shares ≡ whole (b.seats + 1) (value_edited after s m v)

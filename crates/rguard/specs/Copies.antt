@@ -1,5 +1,5 @@
 -- The copies that a section edits, and the shares of them that go home instead of what was lent.
-use Rattle.std.specs.Prelude.{ℕ, ◌<◌, Option, Some, None, IsSome, List, [], ◌∷◌, ◌++◌, map}
+use Rattle.std.specs.Prelude.{ℕ, Option, Some, None, IsSome, List, [], ◌∷◌, ◌++◌, map}
 use Rattle.rstate.specs.Lent.{LentFields, at_place, replaced, lent_value}
 use Rattle.rstate.specs.Shares.{ShareFields, whole}
 
@@ -30,7 +30,7 @@ module _ {V : Type 0} where
   with_shares writes [] = writes
   with_shares writes (made ∷ more) = with_shares (replaced writes made.0 made.1) more
 
-  -- all shares of these resources are lent, and there is a share to replace each
+  -- all shares of these resources are lent
   abbrev pub CanReplace : List (ℕ × ShareFields V) → List (ℕ × ShareFields V) → Type 0
   CanReplace writes [] = Unit {0}
-  CanReplace writes (made ∷ more) = IsSome (at_place writes made.0) × (0 < (made.1).count) × CanReplace (replaced writes made.0 made.1) more
+  CanReplace writes (made ∷ more) = IsSome (at_place writes made.0) × CanReplace (replaced writes made.0 made.1) more

@@ -45,8 +45,11 @@ abbrev pub writes_at_most : RequestFields → Set
 writes_at_most r = if is_upgrade r.kind then r.reads else r.writes
 
 -- nothing is lent, and there is room for what the request is about
-abbrev pub room_for : {V : Type 0} → RequestFields → LentFields V
-room_for r = record { reads = []; writes = []; reads_room = length (rising r.reads); writes_room = length (rising (writes_at_most r)) }
+pub record HasRoomToIssue {V : Type 0} (r : RequestFields) (lent : LentFields V) : Type 0 where
+  pub no_reads : lent.reads ≡ []
+  pub no_writes : lent.writes ≡ []
+  pub reads : length (rising r.reads) ≤ lent.reads_room
+  pub writes : length (rising (writes_at_most r)) ≤ lent.writes_room
 
 -- the acts are shows
 abbrev pub AreShows : {E : Type 0} → List (Act E) → Type 0

@@ -14,7 +14,7 @@ use rvalue::Editable;
 use std::alloc::{AllocError, Global};
 use std::sync::Wait;
 
-impl<T: Editable, M: Machine> Lock<State<T, M>> {
+impl<T: Editable, M: Machine> Lock<State<T, M>, T> {
     /// A seat issues a request and waits until nothing of it is pending, looking and resting in turn.
     ///
     /// # Errors

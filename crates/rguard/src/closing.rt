@@ -49,7 +49,7 @@ pub type Closed<T> = (
 /// The history is lawful from the beginning, begins with what each seat has seen, and has for each seat just the entries that it
 /// has made. The values are those that the history makes. Watchers of the machine have been given just the steps of the history.
 pub fn close_whole<T: Editable, M: Machine>(
-    gate: CountedGate<State<T, M>>,
+    gate: CountedGate<State<T, M>, T>,
     seats: Vec<Seat<T, M>>,
 ) -> (Closed<T>, M)
     requires of { All (λ seat. IsOf gate seat) seats.items }
@@ -72,7 +72,7 @@ pub fn close_whole<T: Editable, M: Machine>(
 /// The history is lawful from the beginning, begins with what each seat has seen, and has for each seat just the entries that it
 /// has made. The values are those that the history makes.
 pub fn close<T: Editable, M: Machine>(
-    gate: CountedGate<State<T, M>>,
+    gate: CountedGate<State<T, M>, T>,
     seats: Vec<Seat<T, M>>,
 ) -> Closed<T>
     requires of { All (λ seat. IsOf gate seat) seats.items }
@@ -89,7 +89,7 @@ pub fn close<T: Editable, M: Machine>(
 ///
 /// The same holds as after `close`, and the history begins with what the scribe has seen.
 pub fn close_fed<T: Editable, M: Machine>(
-    gate: CountedGate<State<T, M>>,
+    gate: CountedGate<State<T, M>, T>,
     seats: Vec<Seat<T, M>>,
     scribe: Scribe<T, M>,
 ) -> Closed<T>

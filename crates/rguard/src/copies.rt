@@ -1,12 +1,13 @@
 //! The copies that a section edits.
-ghost use Rattle.std.specs.Prelude.{◌≡◌, ◌<◌, IsSome, IfOk, OnOk, OnErr, Some, option_copied, length};
+ghost use Rattle.std.specs.Prelude.{◌≡◌, ◌<◌, [], IsSome, IfOk, OnOk, OnErr, Some, option_copied, length};
 ghost use Rattle.rstate.specs.Lent.{at_place, index_of, replaced};
 ghost use Rattle.rguard.specs.Copies.{value_among, with_copy, shares_of, with_shares, CanReplace};
 
-use rstate::{Lent, Shares};
+use rstate::{Lent, Shares, Whole};
 use rvalue::Editable;
 use std::alloc::{AllocError, Global};
 use std::marker::Model;
+use std::sync::Arc;
 
 /// A section's own copy of the value of a resource. Contracts see the resource and the value.
 #[derive(Drop)]
@@ -26,23 +27,35 @@ impl<T> Model for Own<T> {
     ghost view = { λ a. (a.place, a.value) };
 }
 
-/// Shares of such a copy, for its resource's home. Contracts see the resource and the shares.
+/// New shares, and lists in which more can be made. Contracts see the shares, by their resources.
 #[derive(Drop)]
-pub struct Made<T> {
-    place: u8,
-    shares: Shares<T>,
+pub struct NewShares<T> {
+    made: Vec<Whole<T>>,
+    lists: Vec<Vec<Arc<T, Global>>>,
 }
 
-impl<T> Model for Made<T> {
-    ghost use Rattle.std.specs.Prelude.{ℕ};
-    ghost use Rattle.std.specs.Coded.{coded_ℕ, coded×};
+impl<T> Model for NewShares<T> {
+    ghost use Rattle.std.specs.Prelude.{ℕ, List};
+    ghost use Rattle.std.specs.Coded.{coded_ℕ, coded×, coded_list};
     ghost use Rattle.rstate.specs.Shares.{ShareFields, share_code};
 
-    ghost Value = { ℕ × ShareFields T };
+    ghost Value = { List (ℕ × ShareFields T) };
 
-    ghost coded = { coded× coded_ℕ (share_code T.code) };
+    ghost coded = { coded_list (coded× coded_ℕ (share_code T.code)) };
 
-    ghost view = { λ a. (a.place, a.shares) };
+    ghost view = { λ a. a.made.items };
+}
+
+impl<T> NewShares<T> {
+    /// None.
+    pub fn none(alloc: Global) -> NewShares<T>
+        ensures { result ≡ [] }
+    {
+        NewShares {
+            made: Vec::new(alloc),
+            lists: Vec::new(alloc),
+        }
+    }
 }
 
 // The copy of the resource's value, if there is one.
@@ -69,45 +82,59 @@ pub fn value_of<'a, T>(own: &'a [Own<T>], lent: &'a Lent<T>, place: u8) -> &'a T
     }
 }
 
-/// Makes `n` shares of each copy, in order.
+/// Makes `n` shares of each copy, in order, at least one, and drops those that were made before.
 ///
 /// # Errors
 ///
 /// Out of memory.
-pub fn shares_of<T: Editable>(
+pub fn make_shares_of<T: Editable>(
     alloc: Global,
     own: &[Own<T>],
     n: u16,
-) -> Result<Vec<Made<T>>, AllocError>
-    ensures { IfOk result (λ made. made.items ≡ shares_of n own.now) }
+    into: &mut NewShares<T>,
+) -> Result<(), AllocError>
+    requires { 0 < n }
+    ensures { OnOk result (into.new ≡ shares_of n own.now) }
 {
-    let mut made = Vec::with_capacity(alloc, own.len())?;
+    into.made.clear();
+    into.made.reserve(own.len())?;
+    into.lists.reserve(own.len())?;
     for copy in own {
-        made.push_reserved(Made {
-            place: copy.place,
-            shares: Shares::of(alloc, n, &copy.value)?,
-        });
+        let list = list_in(alloc, &mut into.lists);
+        let shares = Shares::of_in(alloc, list, n, &copy.value)?;
+        into.made.push_reserved(Whole::of(copy.place, shares));
     }
-    Ok(made)
+    Ok(())
+}
+
+// A list for shares: one of these if there is one.
+fn list_in<T>(alloc: Global, lists: &mut Vec<Vec<Arc<T, Global>>>) -> Vec<Arc<T, Global>> {
+    match lists.pop() {
+        Some(list) => list,
+        None => Vec::new(alloc),
+    }
 }
 
 /// Replaces the lent shares by these, one resource after another. Takes no memory.
-pub fn replace_all<T: Drop>(lent: &mut Lent<T>, made: Vec<Made<T>>)
-    requires { CanReplace lent.old.writes made.items }
-    ensures { lent.new ≡ record lent.old { writes = with_shares lent.old.writes made.items } }
+pub fn replace_all<T: Drop>(lent: &mut Lent<T>, shares: &mut NewShares<T>)
+    requires { CanReplace lent.old.writes shares.old }
+    ensures { lent.new ≡ record lent.old { writes = with_shares lent.old.writes shares.old } }
 {
-    for one in made {
-        replace_one(lent, one);
+    let lists = &mut shares.lists;
+    for one in shares.made.drain(..) {
+        replace_one(lent, one, lists);
     }
 }
 
-fn replace_one<T: Drop>(lent: &mut Lent<T>, made: Made<T>)
-    requires there { IsSome (at_place lent.old.writes made.0) }
-    requires some { 0 < made.1.count }
+// The list of the shares that were lent is kept where there is room for it.
+fn replace_one<T: Drop>(lent: &mut Lent<T>, made: Whole<T>, lists: &mut Vec<Vec<Arc<T, Global>>>)
+    requires { IsSome (at_place lent.old.writes made.0) }
     ensures { lent.new ≡ record lent.old { writes = replaced lent.old.writes made.0 made.1 } }
 {
-    let Made { place, shares } = made;
-    lent.replace(place, shares);
+    let list = lent.replace(made);
+    if lists.len() < lists.capacity() {
+        lists.push_reserved(list);
+    }
 }
 
 /// Copies the value of a resource that is lent, if there is no copy of it yet; if there is, nothing changes.

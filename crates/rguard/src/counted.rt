@@ -1,22 +1,25 @@
-//! A gate with the number of its seats, and a post for each of them.
+//! A gate with the number of its seats, and what each of them has there: a post, and a room between its sections.
 ghost use Rattle.std.specs.Prelude.{◌≡◌, ◌<◌, ◌≤◌, Some};
 ghost use Rattle.rlock.specs.Known.{Appends, KeepsOthers, left};
 
+use crate::room::{Room, Rooms};
 use rlock::{Gate, Kept, Pass, Turn};
 use rpost::Posts;
 use rset::ResourceSet;
 use std::marker::Model;
 use std::sync::Wait;
 
-/// A gate, how many of its passes are seats, and a post for each seat. Contracts see which gate it is and the two numbers.
+/// A gate, how many of its passes are seats, and a post and a room for each seat. Contracts see which gate it is and the two
+/// numbers.
 #[derive(Drop)]
-pub struct CountedGate<S: Kept> {
+pub struct CountedGate<S: Kept, T> {
     pub(crate) gate: Gate<S>,
     pub(crate) seats: u8,
     posts: Posts,
+    rooms: Rooms<T>,
 }
 
-impl<S: Kept> Model for CountedGate<S> {
+impl<S: Kept, T> Model for CountedGate<S, T> {
     ghost use Rattle.std.specs.Prelude.{◌≡◌, ◌<◌, ◌≤◌};
     ghost use Rattle.rlock.specs.Known.{Site};
 
@@ -27,15 +30,20 @@ impl<S: Kept> Model for CountedGate<S> {
     ghost invariant = { λ a. (0 < a.seats) × (a.seats ≤ a.gate.passes) × (a.posts ≡ a.seats) };
 }
 
-impl<S: Kept> CountedGate<S> {
-    /// Makes it from a gate, the number of its passes that are seats, and their posts.
-    pub fn new(gate: Gate<S>, seats: u8, posts: Posts) -> CountedGate<S>
+impl<S: Kept, T: Drop> CountedGate<S, T> {
+    /// Makes it from a gate, the number of its passes that are seats, their posts, and their rooms.
+    pub fn new(gate: Gate<S>, seats: u8, posts: Posts, rooms: Rooms<T>) -> CountedGate<S, T>
         requires count { seats ≤ gate.passes }
         requires some { 0 < seats }
         requires posts { posts ≡ seats }
         ensures { result ≡ record { gate = gate.gate; seats = seats; passes = gate.passes } }
     {
-        CountedGate { gate, seats, posts }
+        CountedGate {
+            gate,
+            seats,
+            posts,
+            rooms,
+        }
     }
 
     /// The gate alone. It has a seat, and a pass for each.
@@ -47,6 +55,7 @@ impl<S: Kept> CountedGate<S> {
             gate,
             seats: _,
             posts: _,
+            rooms: _,
         } = self;
         gate
     }
@@ -70,5 +79,15 @@ impl<S: Kept> CountedGate<S> {
         requires { number < self.now.seats }
     {
         self.posts.rest(rt, number);
+    }
+
+    /// Takes the room of the seat with this number, if it has one.
+    pub(crate) fn take_room<R: Wait>(&self, rt: &R, number: u8) -> Option<Room<T>> {
+        self.rooms.take(rt, number)
+    }
+
+    /// Puts the room of the seat with this number back.
+    pub(crate) fn put_room<R: Wait>(&self, rt: &R, number: u8, room: Room<T>) {
+        self.rooms.put(rt, number, room);
     }
 }

@@ -2,14 +2,15 @@
 ghost use Rattle.std.specs.Prelude.{◌≡◌, true, false, [], IfOk, IfErr};
 ghost use Rattle.rguard.specs.Seats.{IsOf, IsIdle, SuitsSeat, Goes, IsOneTurn};
 ghost use Rattle.rguard.specs.LentGuards.{kind_for};
-ghost use Rattle.rguard.specs.LentSections.{Holds, Waits, HasIssued, room_for};
+ghost use Rattle.rguard.specs.LentSections.{Holds, Waits, HasIssued, HasRoomToIssue};
 
 use crate::counted::CountedGate;
+use crate::room::Room;
 use crate::section::{Seat, Section};
 use crate::waking::told;
 use rclaim::Request;
 use rmodel::Machine;
-use rstate::{Lent, State};
+use rstate::State;
 use rvalue::Editable;
 use std::alloc::{AllocError, Global};
 use std::sync::Wait;
@@ -22,17 +23,17 @@ impl<'a, T: Editable, M: Machine> Section<'a, T, M> {
     ///
     /// Out of memory. Nothing was issued, and the seat comes back.
     pub fn issue_and_look<R: Wait>(
-        lock: &'a CountedGate<State<T, M>>,
+        lock: &'a CountedGate<State<T, M>, T>,
         rt: &R,
         alloc: Global,
         seat: Seat<T, M>,
         request: Request,
-        mut lent: Lent<T>,
+        room: Room<T>,
     ) -> Result<Result<Section<'a, T, M>, Section<'a, T, M>>, (Seat<T, M>, AllocError)>
         requires of { IsOf lock.now seat }
         requires idle { IsIdle seat }
         requires suits { SuitsSeat seat request }
-        requires room { lent ≡ room_for request }
+        requires room { HasRoomToIssue request room }
         ensures holds { IfOk result (λ looked. IfOk looked (Holds T.after T.taken T.number (kind_for request.kind))) }
         ensures ready { IfOk result (λ looked. IfOk looked (HasIssued lock.now seat request true)) }
         ensures waits { IfOk result (λ looked. IfErr looked (Waits T.after T.taken T.number (kind_for request.kind))) }
@@ -50,13 +51,19 @@ impl<'a, T: Editable, M: Machine> Section<'a, T, M> {
             Ok(()) => {
                 let _ = state.history();
                 let told = told(state);
+                let Room {
+                    mut lent,
+                    own,
+                    shares,
+                } = room;
                 if state.ready(number) {
                     state.take(number, &mut lent);
                     Ok(Ok(Section {
                         lock,
                         seat: lock.leave(rt, turn, told),
                         lent,
-                        own: Vec::new(alloc),
+                        own,
+                        shares,
                         acts: Vec::new(alloc),
                     }))
                 } else {
@@ -64,7 +71,8 @@ impl<'a, T: Editable, M: Machine> Section<'a, T, M> {
                         lock,
                         seat: lock.leave(rt, turn, told),
                         lent,
-                        own: Vec::new(alloc),
+                        own,
+                        shares,
                         acts: Vec::new(alloc),
                     }))
                 }

@@ -20,6 +20,7 @@ mod opening;
 mod pending;
 mod read;
 mod rise;
+mod room;
 mod scribe;
 mod section;
 mod section_guard;

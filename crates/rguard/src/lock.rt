@@ -25,11 +25,11 @@ use std::sync::Wait;
 
 /// A state behind a gate, which threads may share. Contracts see which gate it is, and its numbers of seats and passes.
 #[derive(Drop)]
-pub struct Lock<S: Kept> {
-    pub(crate) gate: CountedGate<S>,
+pub struct Lock<S: Kept, T> {
+    pub(crate) gate: CountedGate<S, T>,
 }
 
-impl<S: Kept> Model for Lock<S> {
+impl<S: Kept, T> Model for Lock<S, T> {
     ghost use Rattle.rlock.specs.Known.{Site};
 
     ghost Value = { Site };
@@ -38,7 +38,7 @@ impl<S: Kept> Model for Lock<S> {
 }
 
 /// A runtime of reader and writer locks over many resources: the locked state behind a gate.
-pub type Rnlp<T, M> = Lock<State<T, M>>;
+pub type Rnlp<T, M> = Lock<State<T, M>, T>;
 
 /// The same over a machine that is watched.
 pub type WatchedRnlp<T, M, A> = Rnlp<T, Watching<M, A>>;
@@ -49,7 +49,7 @@ pub type WatchedSeat<T, M, A> = Seat<T, Watching<M, A>>;
 /// A runtime, its seats, and its scribe.
 pub type FedRnlp<T, M> = (Rnlp<T, M>, Vec<Seat<T, M>>, Scribe<T, M>);
 
-impl<T: Editable, M: Machine> Lock<State<T, M>> {
+impl<T: Editable, M: Machine> Lock<State<T, M>, T> {
     /// A runtime over a machine at which nothing was done, with a value for each resource, and its seats, numbered from 0 in
     /// order. No seat has seen or made anything.
     ///
@@ -91,6 +91,20 @@ impl<T: Editable, M: Machine> Lock<State<T, M>> {
     {
         let Lock { gate } = self;
         crate::closing::close(gate, seats)
+    }
+
+    /// The same as `close`, and gives the machine too. Its watchers, if it has any, have been given just the steps of the
+    /// history, in order. Takes no memory.
+    pub fn close_whole(self, seats: Vec<Seat<T, M>>) -> (Closed<T>, M)
+        requires of { All (λ seat. IsOf self seat) seats.items }
+        requires idle { All (λ seat. IsIdle seat) seats.items }
+        requires all { (n : ℕ) → n < self.passes → Any (λ seat. seat.number ≡ n) seats.items }
+        ensures seats { All (λ seat. IsClosedBy T.after T.taken T.number result.0.0.entries (map arc_value result.0.1.items) seat) seats.items }
+        ensures receipt { result.0.2 ≡ result.0.0.entries }
+        ensures told { All (λ seat. IsToldTo (M.watched result.1) result.0.0.entries seat) seats.items }
+    {
+        let Lock { gate } = self;
+        crate::closing::close_whole(gate, seats)
     }
 
     /// The same as `new`, with a scribe, which has seen nothing and knows how the runtime began. Close such a runtime by
@@ -169,7 +183,7 @@ impl<T: Editable, M: Machine> Lock<State<T, M>> {
     }
 }
 
-impl<T: Editable, M: Machine, A: Audience> Lock<State<T, Watching<M, A>>> {
+impl<T: Editable, M: Machine, A: Audience> Lock<State<T, Watching<M, A>>, T> {
     /// The same as [`Lock::new`], with watchers: they are under the lock with the machine, and are given each event in the turn
     /// that adds it.
     ///

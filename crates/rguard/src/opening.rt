@@ -7,6 +7,7 @@ ghost use Rattle.rguard.specs.Scribes.{IsScribeOf};
 ghost use Rattle.rguard.specs.Seats.{IsOf, IsIdle};
 
 use crate::counted::CountedGate;
+use crate::room::Rooms;
 use crate::scribe::Scribe;
 use crate::section::Seat;
 use rlock::Gate;
@@ -27,7 +28,7 @@ pub fn open<T: Editable, M: Machine>(
     machine: M,
     values: Vec<T>,
     seats: u8,
-) -> Result<(CountedGate<State<T, M>>, Vec<Seat<T, M>>), AllocError>
+) -> Result<(CountedGate<State<T, M>, T>, Vec<Seat<T, M>>), AllocError>
     requires claims { (M.state machine).claims ≡ [] }
     requires issued { (M.state machine).issued ≡ 0 }
     requires values { length values.items ≡ (M.state machine).groups.q }
@@ -41,9 +42,10 @@ pub fn open<T: Editable, M: Machine>(
     let _ = machine.seats();
     let state = State::new(alloc, machine, values)?;
     let posts = Posts::new(alloc, seats)?;
+    let rooms = Rooms::new(alloc, seats)?;
     match Gate::new(alloc, state, seats) {
         Ok((gate, all)) => {
-            let gate = CountedGate::new(gate, seats, posts);
+            let gate = CountedGate::new(gate, seats, posts, rooms);
             Ok((gate, all))
         }
         Err(e) => Err(e),
@@ -51,7 +53,7 @@ pub fn open<T: Editable, M: Machine>(
 }
 
 /// A new gate, its seats, and its scribe.
-pub type FedOpening<T, M> = (CountedGate<State<T, M>>, Vec<Seat<T, M>>, Scribe<T, M>);
+pub type FedOpening<T, M> = (CountedGate<State<T, M>, T>, Vec<Seat<T, M>>, Scribe<T, M>);
 
 /// The same with a scribe, which has seen nothing: its pass has the number after those of the seats.
 ///
@@ -80,10 +82,11 @@ pub fn open_fed<T: Editable, M: Machine>(
     let _ = machine.seats();
     let state = State::new(alloc, machine, values)?;
     let posts = Posts::new(alloc, seats)?;
+    let rooms = Rooms::new(alloc, seats)?;
     match Gate::new(alloc, state, seats + 1) {
         Ok((gate, mut all)) => {
             let scribe = all.pop().unwrap();
-            let gate = CountedGate::new(gate, seats, posts);
+            let gate = CountedGate::new(gate, seats, posts, rooms);
             Ok((gate, all, scribe))
         }
         Err(e) => Err(e),

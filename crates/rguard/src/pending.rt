@@ -1,19 +1,21 @@
 //! Waits for a guard.
 ghost use Rattle.std.specs.Prelude.{◌≡◌, [], IfOk, IfErr};
-ghost use Rattle.rguard.specs.LentSections.{room_for, writes_at_most};
+ghost use Rattle.rguard.specs.LentSections.{HasRoomToIssue, writes_at_most};
 ghost use Rattle.rguard.specs.Seats.{IsOf, IsIdle, SuitsSeat, Goes, ComesBack};
 ghost use Rattle.rguard.specs.Awaiting.{awaited_kind};
 ghost use Rattle.rguard.specs.Guards.{HasSeenLawful, HasSeenOwn, HasBegun, kind_for};
 ghost use Rattle.rguard.specs.Looks.{BeginsWithLook, LooksAt};
 
 use crate::awaited::Awaited;
+use crate::counted::CountedGate;
 use crate::guard::{Guard, guard_of};
 use crate::lock::Lock;
+use crate::room::Room;
 use crate::section::{Seat, Section};
 use rclaim::{Kind, Request};
 use rmodel::Machine;
 use rset::ResourceSet;
-use rstate::{Lent, State};
+use rstate::State;
 use rvalue::Editable;
 use std::alloc::{AllocError, Global};
 use std::marker::Model;
@@ -49,7 +51,7 @@ pub enum Looked<'a, T: Editable, M: Machine> {
     NotYet(Pending<'a, T, M>),
 }
 
-impl<T: Editable, M: Machine> Lock<State<T, M>> {
+impl<T: Editable, M: Machine> Lock<State<T, M>, T> {
     /// A seat issues a request, in one turn, and waits for it. All room is made first, so a look takes no memory.
     ///
     /// # Errors
@@ -70,9 +72,9 @@ impl<T: Editable, M: Machine> Lock<State<T, M>> {
         ensures turn_err { IfErr result (λ e. ComesBack seat e.0) }
         ensures idle { IfErr result (λ e. IsIdle e.0) }
     {
-        match rooms(alloc, &request) {
-            Ok((lent, awaited)) => {
-                match Section::issue(&self.gate, rt, alloc, seat, request, lent) {
+        match rooms(rt, alloc, &self.gate, seat.number(), &request) {
+            Ok((room, awaited)) => {
+                match Section::issue(&self.gate, rt, alloc, seat, request, room) {
                     Ok(section) => Ok(Pending { section, awaited }),
                     Err(e) => Err(e),
                 }
@@ -82,7 +84,7 @@ impl<T: Editable, M: Machine> Lock<State<T, M>> {
     }
 }
 
-impl<T: Editable, M: Machine> Lock<State<T, M>> {
+impl<T: Editable, M: Machine> Lock<State<T, M>, T> {
     /// A seat issues a request and looks, in one turn. All room is made first, so a look takes no memory.
     ///
     /// # Errors
@@ -103,9 +105,9 @@ impl<T: Editable, M: Machine> Lock<State<T, M>> {
         ensures turn_err { IfErr result (λ e. ComesBack seat e.0) }
         ensures idle { IfErr result (λ e. IsIdle e.0) }
     {
-        match rooms(alloc, &request) {
-            Ok((lent, awaited)) => {
-                match Section::issue_and_look(&self.gate, rt, alloc, seat, request, lent) {
+        match rooms(rt, alloc, &self.gate, seat.number(), &request) {
+            Ok((room, awaited)) => {
+                match Section::issue_and_look(&self.gate, rt, alloc, seat, request, room) {
                     Ok(Ok(section)) => Ok(Looked::Ready(guard_of(awaited, section))),
                     Ok(Err(section)) => Ok(Looked::NotYet(Pending { section, awaited })),
                     Err(e) => Err(e),
@@ -150,16 +152,26 @@ impl<'a, T: Editable, M: Machine> Pending<'a, T, M> {
     }
 }
 
-// All room for this request.
-fn rooms<T: Drop>(alloc: Global, request: &Request) -> Result<(Lent<T>, Awaited<T>), AllocError>
-    ensures lent { IfOk result (λ r. r.0 ≡ room_for request.now) }
+// All room for this request of the seat with this number.
+fn rooms<R: Wait, T: Editable, M: Machine>(
+    rt: &R,
+    alloc: Global,
+    gate: &CountedGate<State<T, M>, T>,
+    number: u8,
+    request: &Request,
+) -> Result<(Room<T>, Awaited<T>), AllocError>
+    ensures room { IfOk result (λ r. HasRoomToIssue request.now r.0) }
     ensures kind { IfOk result (λ r. awaited_kind r.1 ≡ kind_for request.now.kind) }
 {
     let reads = usize::from(request.reads().len());
     let writes = usize::from(writes_at_most(request).len());
-    let lent = Lent::with_room(alloc, reads, writes)?;
+    let mut room = match gate.take_room(rt, number) {
+        Some(room) => room,
+        None => Room::new(alloc)?,
+    };
+    room.prepare(reads, writes)?;
     let awaited = Awaited::by(alloc, request.kind())?;
-    Ok((lent, awaited))
+    Ok((room, awaited))
 }
 
 // What a request may write: an upgrade writes what it reads, once it has risen.

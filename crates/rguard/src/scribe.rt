@@ -21,7 +21,7 @@ pub type Scribe<T, M> = Pass<State<T, M>>;
 ///
 /// Out of memory. Nothing was read, and the scribe comes back, having seen the history as it was at the turn.
 pub fn read_on<R: Wait, T: Editable, M: Machine>(
-    lock: &CountedGate<State<T, M>>,
+    lock: &CountedGate<State<T, M>, T>,
     rt: &R,
     scribe: Scribe<T, M>,
     from: usize,

@@ -7,8 +7,9 @@ ghost use Rattle.rguard.specs.LentGuards.{Holding, HoldingToWrite, HasValue};
 ghost use Rattle.rguard.specs.LentSections.{Holds, Ends, guarded, may_edit};
 ghost use Rattle.rguard.specs.declared.kind.GuardKind.{GuardKind};
 
-use crate::copies::{Own, edit_own, replace_all, shares_of, value_of, with_copy};
+use crate::copies::{NewShares, Own, edit_own, make_shares_of, replace_all, value_of, with_copy};
 use crate::counted::CountedGate;
+use crate::room::Room;
 use crate::waking::told;
 use rlock::Pass;
 use rmodel::Machine;
@@ -27,11 +28,12 @@ pub type Seat<T, M> = Pass<State<T, M>>;
 /// A section promises nothing by itself: each call asks for what has to hold of it (`Waits`, `Holds`, `Ends`), and says what
 /// holds afterwards.
 pub struct Section<'a, T: Editable, M: Machine> {
-    pub(crate) lock: &'a CountedGate<State<T, M>>,
+    pub(crate) lock: &'a CountedGate<State<T, M>, T>,
     /// The seat, which has no turn.
     pub seat: Seat<T, M>,
     pub(crate) lent: Lent<T>,
     pub(crate) own: Vec<Own<T>>,
+    pub(crate) shares: NewShares<T>,
     /// What the section has done so far, in order.
     pub acts: Vec<Act<T::Edit>>,
 }
@@ -109,9 +111,14 @@ impl<'a, T: Editable, M: Machine> Section<'a, T, M> {
         ensures same { self.new ≡ record self.old { lent = self.new.lent } }
         ensures err { OnErr result (self.new ≡ self.old) }
     {
-        let lock: &CountedGate<State<T, M>> = self.lock;
-        let made = shares_of(alloc, &self.own, u16::from(lock.seats) + 1)?;
-        replace_all(&mut self.lent, made);
+        let lock: &CountedGate<State<T, M>, T> = self.lock;
+        make_shares_of(
+            alloc,
+            &self.own,
+            u16::from(lock.seats) + 1,
+            &mut self.shares,
+        )?;
+        replace_all(&mut self.lent, &mut self.shares);
         Ok(())
     }
 
@@ -138,16 +145,20 @@ impl<'a, T: Editable, M: Machine> Section<'a, T, M> {
             lock,
             seat,
             lent,
-            own: _,
+            mut own,
+            shares,
             acts,
         } = self;
         let number = seat.number();
         let mut turn = lock.gate.enter(rt, seat);
         let state = turn.state();
         let _ = state.history();
-        state.finish(number, lent, acts);
+        let lent = state.finish(number, lent, acts);
         let told = told(state);
-        lock.leave(rt, turn, told)
+        let seat = lock.leave(rt, turn, told);
+        own.clear();
+        lock.put_room(rt, number, Room { lent, own, shares });
+        seat
     }
 }
 

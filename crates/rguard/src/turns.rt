@@ -3,11 +3,12 @@ ghost use Rattle.std.specs.Prelude.{◌≡◌, true, false, ◌∷◌, [], IfOk,
 ghost use Rattle.rclaim.specs.declared.event.Event.TheVariants.{Issue, Rise, Ask};
 ghost use Rattle.rguard.specs.Seats.{IsOf, IsIdle, SuitsSeat, Goes, IsOneTurn, ComesBack, bare};
 ghost use Rattle.rguard.specs.LentGuards.{IsPartOf, IsReady, KeepsValues, KeepsHolding, kind_for};
-ghost use Rattle.rguard.specs.LentSections.{HasRoom, Holds, Waits, HasLooked, guarded, no_loans, room_for};
+ghost use Rattle.rguard.specs.LentSections.{HasRoom, Holds, Waits, HasLooked, guarded, no_loans, HasRoomToIssue};
 ghost use Rattle.rguard.specs.declared.kind.GuardKind.{GuardKind};
 
 use crate::counted::CountedGate;
 use crate::kind::GuardKind;
+use crate::room::Room;
 use crate::section::{Seat, Section};
 use crate::waking::told;
 use rclaim::Request;
@@ -25,17 +26,17 @@ impl<'a, T: Editable, M: Machine> Section<'a, T, M> {
     ///
     /// Out of memory. Nothing was issued, and the seat comes back.
     pub fn issue<R: Wait>(
-        lock: &'a CountedGate<State<T, M>>,
+        lock: &'a CountedGate<State<T, M>, T>,
         rt: &R,
         alloc: Global,
         seat: Seat<T, M>,
         request: Request,
-        lent: Lent<T>,
+        room: Room<T>,
     ) -> Result<Section<'a, T, M>, (Seat<T, M>, AllocError)>
         requires of { IsOf lock.now seat }
         requires idle { IsIdle seat }
         requires suits { SuitsSeat seat request }
-        requires room { lent ≡ room_for request }
+        requires room { HasRoomToIssue request room }
         ensures waits { IfOk result (Waits T.after T.taken T.number (kind_for request.kind)) }
         ensures begins { IfOk result (λ s. (s.site ≡ lock.now) × (s.acts ≡ [])) }
         ensures goes { IfOk result (λ s. Goes seat (bare (Issue seat.number request) ∷ []) s.seat) }
@@ -53,11 +54,13 @@ impl<'a, T: Editable, M: Machine> Section<'a, T, M> {
             Ok(()) => {
                 let _ = state.history();
                 let told = told(state);
+                let Room { lent, own, shares } = room;
                 Ok(Section {
                     lock,
                     seat: lock.leave(rt, turn, told),
                     lent,
-                    own: Vec::new(alloc),
+                    own,
+                    shares,
                     acts: Vec::new(alloc),
                 })
             }
@@ -79,6 +82,7 @@ impl<'a, T: Editable, M: Machine> Section<'a, T, M> {
             seat,
             mut lent,
             own,
+            shares,
             acts,
         } = self;
         let number = seat.number();
@@ -92,6 +96,7 @@ impl<'a, T: Editable, M: Machine> Section<'a, T, M> {
                 seat: lock.gate.leave(turn),
                 lent,
                 own,
+                shares,
                 acts,
             })
         } else {
@@ -100,6 +105,7 @@ impl<'a, T: Editable, M: Machine> Section<'a, T, M> {
                 seat: lock.gate.leave(turn),
                 lent,
                 own,
+                shares,
                 acts,
             })
         }
@@ -130,7 +136,7 @@ impl<'a, T: Editable, M: Machine> Section<'a, T, M> {
         requires { (kind : GuardKind) × Waits T.after T.taken T.number kind self }
         ensures { result ≡ self.entry }
     {
-        let lock: &CountedGate<State<T, M>> = self.lock;
+        let lock: &CountedGate<State<T, M>, T> = self.lock;
         lock.rest(rt, self.seat.number());
         self
     }
@@ -150,9 +156,11 @@ impl<'a, T: Editable, M: Machine> Section<'a, T, M> {
             lock,
             seat,
             lent,
-            own: _,
+            mut own,
+            shares,
             acts,
         } = self;
+        own.clear();
         let number = seat.number();
         let mut turn = lock.gate.enter(rt, seat);
         let state = turn.state();
@@ -164,7 +172,8 @@ impl<'a, T: Editable, M: Machine> Section<'a, T, M> {
             lock,
             seat: lock.leave(rt, turn, told),
             lent: next,
-            own: Vec::new(alloc),
+            own,
+            shares,
             acts: Vec::new(alloc),
         }
     }
@@ -234,6 +243,7 @@ impl<'a, T: Editable, M: Machine> Section<'a, T, M> {
             seat,
             mut lent,
             own,
+            shares,
             acts,
         } = self;
         let number = seat.number();
@@ -250,6 +260,7 @@ impl<'a, T: Editable, M: Machine> Section<'a, T, M> {
                     seat,
                     lent,
                     own,
+                    shares,
                     acts,
                 })
             }
@@ -262,6 +273,7 @@ impl<'a, T: Editable, M: Machine> Section<'a, T, M> {
                     seat,
                     lent,
                     own,
+                    shares,
                     acts,
                 };
                 Err((section, e))

@@ -2,9 +2,10 @@
 ghost use Rattle.std.specs.Prelude.{◌≡◌, ◌+◌, ◌<◌, ◌≤◌, IfOk, OnOk, IsSome, Some, [], length, option_copied, option_map};
 ghost use Rattle.rstate.specs.Lent.{at_place, index_of, replaced, lent_value};
 
-use crate::Shares;
+use crate::whole::Whole;
 use std::alloc::{AllocError, Global};
 use std::marker::Model;
+use std::mem;
 use std::sync::Arc;
 
 /// A share of the value of a resource.
@@ -24,27 +25,6 @@ impl<T> Model for Loan<T> {
     ghost coded = { coded× coded_ℕ T.code };
 
     ghost view = { λ a. (a.place, arc_value a.share) };
-}
-
-/// All shares of the value of a resource: at least one.
-#[derive(Drop)]
-pub struct Whole<T> {
-    pub(crate) place: u8,
-    pub(crate) shares: Shares<T>,
-}
-
-impl<T> Model for Whole<T> {
-    ghost use Rattle.std.specs.Prelude.{ℕ, ◌<◌};
-    ghost use Rattle.std.specs.Coded.{coded_ℕ, coded×};
-    ghost use Rattle.rstate.specs.Shares.{ShareFields, share_code};
-
-    ghost Value = { ℕ × ShareFields T };
-
-    ghost coded = { coded× coded_ℕ (share_code T.code) };
-
-    ghost view = { λ a. (a.place, a.shares) };
-
-    ghost invariant = { λ a. 0 < a.shares.count };
 }
 
 /// What is lent to a seat: one share of each resource that it has taken for reading, and all shares of each that it has taken for
@@ -106,14 +86,30 @@ impl<T: Drop> Lent<T> {
         self.writes.reserve(n)
     }
 
-    /// Replaces the shares of a resource whose shares are all lent. Takes no memory.
-    pub fn replace(&mut self, place: u8, shares: Shares<T>)
-        requires lent { IsSome (at_place self.old.writes place) }
-        requires some { 0 < shares.count }
-        ensures { self.new ≡ record self.old { writes = replaced self.old.writes place shares } }
+    /// Drops what is lent, and makes room for so many resources to read, and for so many to write.
+    ///
+    /// # Errors
+    ///
+    /// Out of memory. Nothing is lent then either.
+    pub fn prepare(&mut self, reads: usize, writes: usize) -> Result<(), AllocError>
+        ensures none { (self.new.reads ≡ []) × (self.new.writes ≡ []) }
+        ensures ok { OnOk result ((reads ≤ self.new.reads_room) × (writes ≤ self.new.writes_room)) }
     {
-        let at = find_whole(&self.writes, place);
-        self.writes[at] = Whole { place, shares };
+        self.reads.clear();
+        self.writes.clear();
+        self.reads.reserve_exact(reads)?;
+        self.writes.reserve_exact(writes)
+    }
+
+    /// Replaces the shares of a resource whose shares are all lent. Those are dropped, and their list comes back, with one share
+    /// at most and the room that it has. Takes no memory.
+    pub fn replace(&mut self, by: Whole<T>) -> Vec<Arc<T, Global>>
+        requires { IsSome (at_place self.old.writes by.0) }
+        ensures { self.new ≡ record self.old { writes = replaced self.old.writes by.0 by.1 } }
+    {
+        let at = find_whole(&self.writes, by.place);
+        let before = mem::replace(&mut self.writes[at], by);
+        before.into_shares().into_list()
     }
 }
 
@@ -155,7 +151,7 @@ fn whole_at<T>(wholes: &[Whole<T>], place: u8) -> Option<&T>
 {
     for whole in wholes {
         if whole.place == place {
-            return Some(whole.shares.get());
+            return Some(whole.get());
         }
     }
     None

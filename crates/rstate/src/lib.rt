@@ -13,8 +13,10 @@ mod moves;
 mod opening;
 mod shares;
 mod state;
+mod whole;
 
 pub use lent::Lent;
 pub use opening::Opening;
 pub use shares::Shares;
 pub use state::State;
+pub use whole::Whole;

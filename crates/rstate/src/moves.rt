@@ -8,7 +8,8 @@ ghost use Rattle.rstate.specs.Shares.{ShareFields, whole, less, more, absent};
 ghost use Rattle.rstate.specs.Moves.{change_at, after_changes, HasShare, HaveShares, loans_from, wholes_from, IsMissed, AreMissed, after_loans, HaveHomes, after_wholes};
 
 use crate::Shares;
-use crate::lent::{Loan, Whole};
+use crate::lent::Loan;
+use crate::whole::Whole;
 use rset::ResourceSet;
 use rvalue::Editable;
 use std::alloc::{AllocError, Global};
@@ -47,8 +48,8 @@ fn give_all_at<T: Drop>(homes: &mut Vec<Shares<T>>, whole: Whole<T>)
     requires { whole.0 < length homes.old.items }
     ensures { homes.new.items ≡ slice_set homes.old.items whole.0 whole.1 }
 {
-    let Whole { place, shares } = whole;
-    homes[place as usize] = shares;
+    let place = whole.place as usize;
+    homes[place] = whole.into_shares();
 }
 
 /// Takes a share of each resource of the set, by rising number.
@@ -82,26 +83,30 @@ pub(crate) fn take_writes<T>(
 {
     for place in set.iter() {
         let shares = take_all_at(homes, place, alloc);
-        into.push_reserved(Whole { place, shares });
+        into.push_reserved(Whole::of(place, shares));
     }
 }
 
-/// Shares come home.
-pub(crate) fn give_reads<T: Drop>(homes: &mut Vec<Shares<T>>, loans: Vec<Loan<T>>)
-    requires { AreMissed homes.old.items loans.items }
-    ensures { homes.new.items ≡ after_loans homes.old.items loans.items }
+/// Shares come home, and leave their list empty.
+pub(crate) fn give_reads<T: Drop>(homes: &mut Vec<Shares<T>>, loans: &mut Vec<Loan<T>>)
+    requires { AreMissed homes.old.items loans.old.items }
+    ensures homes { homes.new.items ≡ after_loans homes.old.items loans.old.items }
+    ensures none { loans.new.items ≡ [] }
+    ensures capacity { vec_capacity loans.new ≡ vec_capacity loans.old }
 {
-    for loan in loans {
+    for loan in loans.drain(..) {
         give_read_at(homes, loan);
     }
 }
 
-/// All shares of resources come home.
-pub(crate) fn give_writes<T: Drop>(homes: &mut Vec<Shares<T>>, wholes: Vec<Whole<T>>)
-    requires { HaveHomes (length homes.old.items) wholes.items }
-    ensures { homes.new.items ≡ after_wholes homes.old.items wholes.items }
+/// All shares of resources come home, and leave their list empty.
+pub(crate) fn give_writes<T: Drop>(homes: &mut Vec<Shares<T>>, wholes: &mut Vec<Whole<T>>)
+    requires { HaveHomes (length homes.old.items) wholes.old.items }
+    ensures homes { homes.new.items ≡ after_wholes homes.old.items wholes.old.items }
+    ensures none { wholes.new.items ≡ [] }
+    ensures capacity { vec_capacity wholes.new ≡ vec_capacity wholes.old }
 {
-    for whole in wholes {
+    for whole in wholes.drain(..) {
         give_all_at(homes, whole);
     }
 }

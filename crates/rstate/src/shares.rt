@@ -1,5 +1,5 @@
 // Shares of one value, made beforehand, so that lending it to readers takes no memory.
-ghost use Rattle.std.specs.Prelude.{◌≡◌, ◌<◌, IfOk};
+ghost use Rattle.std.specs.Prelude.{◌≡◌, ◌<◌, [], IfOk};
 ghost use Rattle.std.specs.Arc.{arc_value};
 ghost use Rattle.rstate.specs.Shares.{whole, less, more, absent};
 
@@ -16,9 +16,9 @@ use std::sync::Arc;
 /// share is there.
 #[derive(Drop)]
 pub struct Shares<T> {
-    list: Vec<Arc<T, Global>>,
-    full: u16,
-    value: Snapshot<T>,
+    pub(crate) list: Vec<Arc<T, Global>>,
+    pub(crate) full: u16,
+    pub(crate) value: Snapshot<T>,
 }
 
 impl<T> Model for Shares<T> {
@@ -79,6 +79,13 @@ impl<T> Shares<T> {
 }
 
 impl<T: Drop> Shares<T> {
+    /// Drops the shares but one, and gives their list, in which others may be made. Takes no memory.
+    pub(crate) fn into_list(self) -> Vec<Arc<T, Global>> {
+        let Shares { mut list, .. } = self;
+        list.truncate(1);
+        list
+    }
+
     /// Keeps one share and drops the others. Takes no memory.
     pub(crate) fn into_one(self) -> Arc<T, Global>
         requires { 0 < self.count }
@@ -98,8 +105,25 @@ impl<T: Editable> Shares<T> {
     pub fn of(alloc: Global, n: u16, value: &T) -> Result<Shares<T>, AllocError>
         ensures { IfOk result (λ shares. shares ≡ whole n value.now) }
     {
-        let first = Arc::new(alloc, value.copy(alloc)?)?;
-        let mut list = Vec::with_capacity(alloc, n as usize)?;
+        Shares::of_in(alloc, Vec::new(alloc), n, value)
+    }
+
+    /// The same in this list; what was in it is dropped.
+    ///
+    /// # Errors
+    ///
+    /// Out of memory.
+    pub fn of_in(
+        alloc: Global,
+        mut list: Vec<Arc<T, Global>>,
+        n: u16,
+        value: &T,
+    ) -> Result<Shares<T>, AllocError>
+        ensures { IfOk result (λ shares. shares ≡ whole n value.now) }
+    {
+        let first = first_share(alloc, &mut list, value)?;
+        list.clear();
+        list.reserve_exact(n as usize)?;
         for _ in 0..n {
             list.push_reserved(Arc::try_clone(&first)?);
         }
@@ -108,5 +132,37 @@ impl<T: Editable> Shares<T> {
             full: n,
             value: Snapshot::of(value),
         })
+    }
+}
+
+// A share of a copy of the value: in the place of a share in this list, if nobody else has it.
+fn first_share<T: Editable>(
+    alloc: Global,
+    list: &mut Vec<Arc<T, Global>>,
+    value: &T,
+) -> Result<Arc<T, Global>, AllocError>
+    ensures { IfOk result (λ share. arc_value share ≡ value.now) }
+{
+    let copy = value.copy(alloc)?;
+    match list.pop() {
+        Some(share) => refilled(alloc, share, copy),
+        None => Ok(Arc::new(alloc, copy)?),
+    }
+}
+
+// A share of this value: in the place of the old one, if nobody else has it.
+fn refilled<T: Drop>(
+    alloc: Global,
+    mut share: Arc<T, Global>,
+    value: T,
+) -> Result<Arc<T, Global>, AllocError>
+    ensures { IfOk result (λ share. arc_value share ≡ value) }
+{
+    match Arc::get_mut(&mut share) {
+        Some(place) => {
+            *place = value;
+            Ok(share)
+        }
+        None => Ok(Arc::new(alloc, value)?),
     }
 }

@@ -225,15 +225,16 @@ impl<T: Editable, M: Machine> State<T, M> {
     }
 
     /// Ends the section of the seat: the history records its acts, and what it has taken comes home, with the edits. Takes no
-    /// memory.
-    pub fn finish(&mut self, seat: u8, back: Lent<T>, acts: Vec<Act<T::Edit>>)
+    /// memory. The lists that it was lent in come back, empty.
+    pub fn finish(&mut self, seat: u8, back: Lent<T>, acts: Vec<Act<T::Edit>>) -> Lent<T>
         requires right { MayFollow T.after T.taken T.number self.old.beginning self.old.entries (record { event = Finish seat; acts = acts.items }) }
         requires back { (g : Granted) → slice_get self.old.taken seat ≡ Some g → ComesHome T.after self.old (record { event = Finish seat; acts = acts.items }) g back }
         ensures beginning { self.new.beginning ≡ self.old.beginning }
         ensures entries { self.new.entries ≡ self.old.entries ++ record { event = Finish seat; acts = acts.items } ∷ [] }
         ensures taken { self.new.taken ≡ slice_set self.old.taken seat nothing }
+        ensures back { result ≡ record back { reads = []; writes = [] } }
     {
-        self.give_back(seat, Event::Finish { seat }, back, acts);
+        self.give_back(seat, Event::Finish { seat }, back, acts)
     }
 
     /// The upgrade of the seat rises: the history records its acts so far, which are shows, and what it has taken comes home.
@@ -245,24 +246,35 @@ impl<T: Editable, M: Machine> State<T, M> {
         ensures entries { self.new.entries ≡ self.old.entries ++ record { event = Rise seat; acts = acts.items } ∷ [] }
         ensures taken { self.new.taken ≡ slice_set self.old.taken seat nothing }
     {
-        self.give_back(seat, Event::Rise { seat }, back, acts);
+        let _ = self.give_back(seat, Event::Rise { seat }, back, acts);
     }
 
     // The history records an event that gives back what the seat holds, with its acts, and what the seat has taken comes home.
-    fn give_back(&mut self, seat: u8, event: Event, back: Lent<T>, acts: Vec<Act<T::Edit>>)
+    fn give_back(
+        &mut self,
+        seat: u8,
+        event: Event,
+        back: Lent<T>,
+        acts: Vec<Act<T::Edit>>,
+    ) -> Lent<T>
         requires gives { GivesBackAll seat event }
         requires right { MayFollow T.after T.taken T.number self.old.beginning self.old.entries (record { event = event; acts = acts.items }) }
         requires back { (g : Granted) → slice_get self.old.taken seat ≡ Some g → ComesHome T.after self.old (record { event = event; acts = acts.items }) g back }
         ensures beginning { self.new.beginning ≡ self.old.beginning }
         ensures entries { self.new.entries ≡ self.old.entries ++ record { event = event; acts = acts.items } ∷ [] }
         ensures taken { self.new.taken ≡ slice_set self.old.taken seat nothing }
+        ensures back { result ≡ record back { reads = []; writes = [] } }
     {
         let all = &mut *self.all;
         keep(&mut all.machine, &mut all.history, &event, acts);
-        let Lent { reads, writes } = back;
-        give_reads(&mut all.homes, reads);
-        give_writes(&mut all.homes, writes);
+        let Lent {
+            mut reads,
+            mut writes,
+        } = back;
+        give_reads(&mut all.homes, &mut reads);
+        give_writes(&mut all.homes, &mut writes);
         all.taken[usize::from(seat)] = nothing();
+        Lent { reads, writes }
     }
 
     /// Takes the state apart while no request is incomplete: the history, a share of each value, and the machine. Takes no

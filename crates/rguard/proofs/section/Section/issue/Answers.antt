@@ -9,7 +9,7 @@ use Rattle.rstate.proofs.homes.Lists.{same_item}
 use Rattle.rvalue.specs.declared.act.Act.{Act}
 use Rattle.rguard.specs.LentGuards.{kind_for}
 use Rattle.rguard.specs.Seats.{SeatOf, Goes, bare, is_busy}
-use Rattle.rguard.specs.LentSections.{WaitsFrom}
+use Rattle.rguard.specs.LentSections.{WaitsFrom, HasRoomToIssue}
 use Rattle.rguard.proofs.Beginning.{may_issue, goes_on, takes_turn, waits_first}
 use Rattle.rguard.proofs.seats.Turning.{appends_one, appends_none}
 use Rattle.rguard.proofs.section.Section.issue.Goals as goal
@@ -49,11 +49,11 @@ returns-in-Ok-clause-waits g c =
     let longer : now.entries ≡ found.entries ++ bare (Issue k.number c.args.request) ∷ [] = c.in-Ok.ensures.ok ∙ ap (λ n. found.entries ++ bare (Issue n c.args.request) ∷ []) c.number-number.ensures in
     let pass_is : c.enter-turn.result.pass ≡ entered k found.entries = c.enter-turn.ensures.pass ∙ ap (λ (x : Contents V E). entered k x.entries) (sym c.state-state.ensures.value) in
     let first = waits_first g.T.Editable.after g.T.Editable.taken g.T.Editable.number c.args.lock.now k found c.requires.of tells c.history.ensures.lawful c.history.ensures.values c.requires.idle c.args.request now c.enter-turn.result.pass c.leave.result longer pass_is c.leave.ensures c.issue.ensures.beginning c.history-in-Ok.ensures.lawful c.issue.ensures.taken
-    c.machine.ensures.taken c.args.lent c.requires.room in
+    c.machine.ensures.taken c.room.inside.lent (subst (HasRoomToIssue c.args.request) (sym c.room.view_is) c.requires.room) in
     record {
       began = c.requires.of.began;
-      from = subst (λ (own : List (ℕ × V)). WaitsFrom g.T.Editable.after g.T.Editable.taken g.T.Editable.number (kind_for c.args.request.kind) c.requires.of.began (record { site = c.args.lock.now; seat = c.leave.result; lent = c.args.lent; own = own; acts = c.new-in-Ok.result.items })) (sym c.new.ensures.items)
-          (subst (λ (acts : List (Act E)). WaitsFrom g.T.Editable.after g.T.Editable.taken g.T.Editable.number (kind_for c.args.request.kind) c.requires.of.began (record { site = c.args.lock.now; seat = c.leave.result; lent = c.args.lent; own = []; acts = acts })) (sym c.new-in-Ok.ensures.items) first);
+      from = subst (λ (own : List (ℕ × V)). WaitsFrom g.T.Editable.after g.T.Editable.taken g.T.Editable.number (kind_for c.args.request.kind) c.requires.of.began (record { site = c.args.lock.now; seat = c.leave.result; lent = c.room.inside.lent; own = own; acts = c.new.result.items })) (sym c.room.invariant)
+          (subst (λ (acts : List (Act E)). WaitsFrom g.T.Editable.after g.T.Editable.taken g.T.Editable.number (kind_for c.args.request.kind) c.requires.of.began (record { site = c.args.lock.now; seat = c.leave.result; lent = c.room.inside.lent; own = []; acts = acts })) (sym c.new.ensures.items) first);
     }
 
 pub leave-requires-in-Err-clause-entries : goal.leave-requires-in-Err-clause-entries
@@ -105,7 +105,7 @@ returns-in-Err-clause-idle g c =
     ap (λ (es : List (EntryFields E)). is_busy es) (goes.mine ∙ append-nil k.mine) ∙ c.requires.idle
 
 pub returns-in-Ok-clause-begins : goal.returns-in-Ok-clause-begins
-returns-in-Ok-clause-begins g c = (refl, c.new-in-Ok.ensures.items)
+returns-in-Ok-clause-begins g c = (refl, c.new.ensures.items)
 
 pub returns-in-Ok-clause-goes : goal.returns-in-Ok-clause-goes
 returns-in-Ok-clause-goes g c =

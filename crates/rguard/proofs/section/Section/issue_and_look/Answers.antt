@@ -9,7 +9,7 @@ use Rattle.rstate.specs.Contents.{Contents}
 use Rattle.rstate.proofs.homes.Lists.{same_item, get_beside}
 use Rattle.rguard.specs.LentGuards.{kind_for}
 use Rattle.rguard.specs.Seats.{SeatOf, Goes, bare, is_busy}
-use Rattle.rguard.specs.LentSections.{HoldsFrom, WaitsFrom}
+use Rattle.rguard.specs.LentSections.{HoldsFrom, WaitsFrom, HasRoomToIssue}
 use Rattle.rguard.proofs.Beginning.{may_issue, goes_on, takes_turn}
 use Rattle.rguard.proofs.FirstLook.{waits_between, first_lent, first_room, not_ready, holds_first, ready_first}
 use Rattle.rguard.proofs.seats.Turning.{appends_one, appends_none}
@@ -36,7 +36,7 @@ take-requires-clause-lent g c κs within =
     let now = c.issue.new.self in
     let longer : now.entries ≡ found.entries ++ bare (Issue k.number c.args.request) ∷ [] = c.in-Ok.ensures.ok ∙ ap (λ n. found.entries ++ bare (Issue n c.args.request) ∷ []) c.number-number.ensures in
     let pass_is : c.enter-turn.result.pass ≡ entered k found.entries = c.enter-turn.ensures.pass ∙ ap (λ (x : Contents V E). entered k x.entries) (sym c.state-state.ensures.value) in
-    first_lent g.T.Editable.after g.T.Editable.taken g.T.Editable.number c.args.lock.now k found c.requires.of tells c.history.ensures.lawful c.history.ensures.values c.requires.idle c.args.request now c.enter-turn.result.pass longer pass_is c.issue.ensures.beginning c.history-in-Ok.ensures.lawful c.issue.ensures.taken c.machine.ensures.taken c.args.lent c.requires.room c.number-number.result c.number-number.ensures
+    first_lent g.T.Editable.after g.T.Editable.taken g.T.Editable.number c.args.lock.now k found c.requires.of tells c.history.ensures.lawful c.history.ensures.values c.requires.idle c.args.request now c.enter-turn.result.pass longer pass_is c.issue.ensures.beginning c.history-in-Ok.ensures.lawful c.issue.ensures.taken c.machine.ensures.taken c.room.inside.lent (subst (HasRoomToIssue c.args.request) (sym c.room.view_is) c.requires.room) c.number-number.result c.number-number.ensures
 
 pub take-requires-clause-room : goal.take-requires-clause-room
 take-requires-clause-room g c κs within =
@@ -49,7 +49,7 @@ take-requires-clause-room g c κs within =
     let now = c.issue.new.self in
     let longer : now.entries ≡ found.entries ++ bare (Issue k.number c.args.request) ∷ [] = c.in-Ok.ensures.ok ∙ ap (λ n. found.entries ++ bare (Issue n c.args.request) ∷ []) c.number-number.ensures in
     let pass_is : c.enter-turn.result.pass ≡ entered k found.entries = c.enter-turn.ensures.pass ∙ ap (λ (x : Contents V E). entered k x.entries) (sym c.state-state.ensures.value) in
-    first_room g.T.Editable.after g.T.Editable.taken g.T.Editable.number c.args.lock.now k found c.requires.of tells c.history.ensures.lawful c.history.ensures.values c.requires.idle c.args.request now c.enter-turn.result.pass longer pass_is c.issue.ensures.beginning c.history-in-Ok.ensures.lawful c.issue.ensures.taken c.machine.ensures.taken c.args.lent c.requires.room c.number-number.result c.number-number.ensures
+    first_room g.T.Editable.after g.T.Editable.taken g.T.Editable.number c.args.lock.now k found c.requires.of tells c.history.ensures.lawful c.history.ensures.values c.requires.idle c.args.request now c.enter-turn.result.pass longer pass_is c.issue.ensures.beginning c.history-in-Ok.ensures.lawful c.issue.ensures.taken c.machine.ensures.taken c.room.inside.lent (subst (HasRoomToIssue c.args.request) (sym c.room.view_is) c.requires.room) c.number-number.result c.number-number.ensures
 
 pub leave-requires-clause-entries : goal.leave-requires-clause-entries
 leave-requires-clause-entries g c =
@@ -90,9 +90,9 @@ returns-then-ready-clause-holds g c =
     let longer2 : took.entries ≡ found.entries ++ bare (Issue k.number c.args.request) ∷ [] = c.take.ensures.entries ∙ longer in
     record {
       began = c.requires.of.began;
-      from = subst (λ (own : List (ℕ × V)). HoldsFrom g.T.Editable.after g.T.Editable.taken g.T.Editable.number (kind_for c.args.request.kind) c.requires.of.began (record { site = c.args.lock.now; seat = c.leave.result; lent = c.take.new.into; own = own; acts = c.new-then-ready.result.items })) (sym c.new.ensures.items)
-          (subst (λ (acts : List (Act E)). HoldsFrom g.T.Editable.after g.T.Editable.taken g.T.Editable.number (kind_for c.args.request.kind) c.requires.of.began (record { site = c.args.lock.now; seat = c.leave.result; lent = c.take.new.into; own = []; acts = acts })) (sym c.new-then-ready.ensures.items)
-          (holds_first g.T.Editable.after g.T.Editable.taken g.T.Editable.number c.args.lock.now k found c.requires.of tells c.history.ensures.lawful c.history.ensures.values c.requires.idle c.args.request now c.enter-turn.result.pass longer pass_is c.issue.ensures.beginning c.history-in-Ok.ensures.lawful c.issue.ensures.taken c.machine.ensures.taken c.args.lent c.requires.room c.number-number.result c.number-number.ensures (sym c.ready.ensures ∙ c.if-ready.true) took c.take.new.into c.leave.result c.take.ensures.entries c.take.ensures.taken c.take.ensures.lent c.leave.ensures));
+      from = subst (λ (own : List (ℕ × V)). HoldsFrom g.T.Editable.after g.T.Editable.taken g.T.Editable.number (kind_for c.args.request.kind) c.requires.of.began (record { site = c.args.lock.now; seat = c.leave.result; lent = c.take.new.into; own = own; acts = c.new.result.items })) (sym c.room.invariant)
+          (subst (λ (acts : List (Act E)). HoldsFrom g.T.Editable.after g.T.Editable.taken g.T.Editable.number (kind_for c.args.request.kind) c.requires.of.began (record { site = c.args.lock.now; seat = c.leave.result; lent = c.take.new.into; own = []; acts = acts })) (sym c.new.ensures.items)
+          (holds_first g.T.Editable.after g.T.Editable.taken g.T.Editable.number c.args.lock.now k found c.requires.of tells c.history.ensures.lawful c.history.ensures.values c.requires.idle c.args.request now c.enter-turn.result.pass longer pass_is c.issue.ensures.beginning c.history-in-Ok.ensures.lawful c.issue.ensures.taken c.machine.ensures.taken c.room.inside.lent (subst (HasRoomToIssue c.args.request) (sym c.room.view_is) c.requires.room) c.number-number.result c.number-number.ensures (sym c.ready.ensures ∙ c.if-ready.true) took c.take.new.into c.leave.result c.take.ensures.entries c.take.ensures.taken c.take.ensures.lent c.leave.ensures));
     }
 
 pub returns-then-ready-clause-ready : goal.returns-then-ready-clause-ready
@@ -110,10 +110,10 @@ returns-then-ready-clause-ready g c =
     let longer2 : took.entries ≡ found.entries ++ bare (Issue k.number c.args.request) ∷ [] = c.take.ensures.entries ∙ longer in
     record {
       site_is = refl;
-      no_acts = c.new-then-ready.ensures.items;
+      no_acts = c.new.ensures.items;
       goes = goes_on g.T.Editable.after g.T.Editable.taken g.T.Editable.number c.args.lock.now k found c.requires.of tells c.history.ensures.lawful c.history.ensures.values took c.enter-turn.result.pass c.leave.result (bare (Issue k.number c.args.request) ∷ []) longer2 pass_is c.leave.ensures;
       turn = takes_turn g.T.Editable.after g.T.Editable.taken g.T.Editable.number c.args.lock.now k found c.requires.of tells c.history.ensures.lawful c.history.ensures.values took c.enter-turn.result.pass c.leave.result (bare (Issue k.number c.args.request) ∷ []) longer2 pass_is c.leave.ensures;
-      ready = ready_first g.T.Editable.after g.T.Editable.taken g.T.Editable.number c.args.lock.now k found c.requires.of tells c.history.ensures.lawful c.history.ensures.values c.requires.idle c.args.request now c.enter-turn.result.pass longer pass_is c.issue.ensures.beginning c.history-in-Ok.ensures.lawful c.issue.ensures.taken c.machine.ensures.taken c.args.lent c.requires.room c.number-number.result c.number-number.ensures (sym c.ready.ensures ∙ c.if-ready.true) took c.take.new.into c.leave.result c.take.ensures.entries c.take.ensures.taken c.take.ensures.lent c.leave.ensures;
+      ready = ready_first g.T.Editable.after g.T.Editable.taken g.T.Editable.number c.args.lock.now k found c.requires.of tells c.history.ensures.lawful c.history.ensures.values c.requires.idle c.args.request now c.enter-turn.result.pass longer pass_is c.issue.ensures.beginning c.history-in-Ok.ensures.lawful c.issue.ensures.taken c.machine.ensures.taken c.room.inside.lent (subst (HasRoomToIssue c.args.request) (sym c.room.view_is) c.requires.room) c.number-number.result c.number-number.ensures (sym c.ready.ensures ∙ c.if-ready.true) took c.take.new.into c.leave.result c.take.ensures.entries c.take.ensures.taken c.take.ensures.lent c.leave.ensures;
     }
 
 pub leave-requires-else-ready-clause-entries : goal.leave-requires-else-ready-clause-entries
@@ -136,8 +136,8 @@ leave-requires-else-ready-clause-others g c =
     ∙ ap (λ s. slice_get s.taken k) c.state-state.ensures.value
     ∙ ap (λ s. slice_get s.taken k) (same_item c.enter-turn.result.state found (sym c.enter-turn.ensures.found ∙ is))
 
-pub returns-in-Ok-clause-waits : goal.returns-in-Ok-clause-waits
-returns-in-Ok-clause-waits g c =
+pub returns-else-ready-clause-waits : goal.returns-else-ready-clause-waits
+returns-else-ready-clause-waits g c =
     let V = g.row.T.Denot in
     let E = g.row.T-Edit.Denot in
     let k : SeatOf V E = c.args.seat in
@@ -149,14 +149,14 @@ returns-in-Ok-clause-waits g c =
     let pass_is : c.enter-turn.result.pass ≡ entered k found.entries = c.enter-turn.ensures.pass ∙ ap (λ (x : Contents V E). entered k x.entries) (sym c.state-state.ensures.value) in
     record {
       began = c.requires.of.began;
-      from = subst (λ (own : List (ℕ × V)). WaitsFrom g.T.Editable.after g.T.Editable.taken g.T.Editable.number (kind_for c.args.request.kind) c.requires.of.began (record { site = c.args.lock.now; seat = c.leave-else-ready.result; lent = c.args.lent; own = own; acts = c.new-else-ready-2.result.items })) (sym c.new-else-ready.ensures.items)
-          (subst (λ (acts : List (Act E)). WaitsFrom g.T.Editable.after g.T.Editable.taken g.T.Editable.number (kind_for c.args.request.kind) c.requires.of.began (record { site = c.args.lock.now; seat = c.leave-else-ready.result; lent = c.args.lent; own = []; acts = acts })) (sym c.new-else-ready-2.ensures.items)
-          (subst (λ (s : SeatOf V E). WaitsFrom g.T.Editable.after g.T.Editable.taken g.T.Editable.number (kind_for c.args.request.kind) c.requires.of.began (record { site = c.args.lock.now; seat = s; lent = c.args.lent; own = []; acts = [] })) (sym c.leave-else-ready.ensures)
-          (waits_between g.T.Editable.after g.T.Editable.taken g.T.Editable.number c.args.lock.now k found c.requires.of tells c.history.ensures.lawful c.history.ensures.values c.requires.idle c.args.request now c.enter-turn.result.pass longer pass_is c.issue.ensures.beginning c.history-in-Ok.ensures.lawful c.issue.ensures.taken c.machine.ensures.taken c.args.lent c.requires.room)));
+      from = subst (λ (own : List (ℕ × V)). WaitsFrom g.T.Editable.after g.T.Editable.taken g.T.Editable.number (kind_for c.args.request.kind) c.requires.of.began (record { site = c.args.lock.now; seat = c.leave-else-ready.result; lent = c.room.inside.lent; own = own; acts = c.new-else-ready.result.items })) (sym c.room.invariant)
+          (subst (λ (acts : List (Act E)). WaitsFrom g.T.Editable.after g.T.Editable.taken g.T.Editable.number (kind_for c.args.request.kind) c.requires.of.began (record { site = c.args.lock.now; seat = c.leave-else-ready.result; lent = c.room.inside.lent; own = []; acts = acts })) (sym c.new-else-ready.ensures.items)
+          (subst (λ (s : SeatOf V E). WaitsFrom g.T.Editable.after g.T.Editable.taken g.T.Editable.number (kind_for c.args.request.kind) c.requires.of.began (record { site = c.args.lock.now; seat = s; lent = c.room.inside.lent; own = []; acts = [] })) (sym c.leave-else-ready.ensures)
+          (waits_between g.T.Editable.after g.T.Editable.taken g.T.Editable.number c.args.lock.now k found c.requires.of tells c.history.ensures.lawful c.history.ensures.values c.requires.idle c.args.request now c.enter-turn.result.pass longer pass_is c.issue.ensures.beginning c.history-in-Ok.ensures.lawful c.issue.ensures.taken c.machine.ensures.taken c.room.inside.lent (subst (HasRoomToIssue c.args.request) (sym c.room.view_is) c.requires.room))));
     }
 
-pub returns-in-Ok-clause-pending : goal.returns-in-Ok-clause-pending
-returns-in-Ok-clause-pending g c =
+pub returns-else-ready-clause-pending : goal.returns-else-ready-clause-pending
+returns-else-ready-clause-pending g c =
     let V = g.row.T.Denot in
     let E = g.row.T-Edit.Denot in
     let k : SeatOf V E = c.args.seat in
@@ -168,10 +168,10 @@ returns-in-Ok-clause-pending g c =
     let pass_is : c.enter-turn.result.pass ≡ entered k found.entries = c.enter-turn.ensures.pass ∙ ap (λ (x : Contents V E). entered k x.entries) (sym c.state-state.ensures.value) in
     record {
       site_is = refl;
-      no_acts = c.new-else-ready-2.ensures.items;
+      no_acts = c.new-else-ready.ensures.items;
       goes = goes_on g.T.Editable.after g.T.Editable.taken g.T.Editable.number c.args.lock.now k found c.requires.of tells c.history.ensures.lawful c.history.ensures.values now c.enter-turn.result.pass c.leave-else-ready.result (bare (Issue k.number c.args.request) ∷ []) longer pass_is c.leave-else-ready.ensures;
       turn = takes_turn g.T.Editable.after g.T.Editable.taken g.T.Editable.number c.args.lock.now k found c.requires.of tells c.history.ensures.lawful c.history.ensures.values now c.enter-turn.result.pass c.leave-else-ready.result (bare (Issue k.number c.args.request) ∷ []) longer pass_is c.leave-else-ready.ensures;
-      ready = not_ready g.T.Editable.after g.T.Editable.taken g.T.Editable.number c.args.lock.now k found c.requires.of tells c.history.ensures.lawful c.history.ensures.values c.requires.idle c.args.request now c.enter-turn.result.pass longer pass_is c.issue.ensures.beginning c.history-in-Ok.ensures.lawful c.issue.ensures.taken c.machine.ensures.taken c.args.lent c.requires.room c.leave-else-ready.result c.number-number.result c.leave-else-ready.ensures c.number-number.ensures (sym c.ready.ensures ∙ c.if-ready.false);
+      ready = not_ready g.T.Editable.after g.T.Editable.taken g.T.Editable.number c.args.lock.now k found c.requires.of tells c.history.ensures.lawful c.history.ensures.values c.requires.idle c.args.request now c.enter-turn.result.pass longer pass_is c.issue.ensures.beginning c.history-in-Ok.ensures.lawful c.issue.ensures.taken c.machine.ensures.taken c.room.inside.lent (subst (HasRoomToIssue c.args.request) (sym c.room.view_is) c.requires.room) c.leave-else-ready.result c.number-number.result c.leave-else-ready.ensures c.number-number.ensures (sym c.ready.ensures ∙ c.if-ready.false);
     }
 
 pub leave-requires-in-Err-clause-entries : goal.leave-requires-in-Err-clause-entries
@@ -192,8 +192,8 @@ leave-requires-in-Err-clause-others g c =
     ∙ ap (λ s. slice_get s.taken k) c.state-state.ensures.value
     ∙ ap (λ s. slice_get s.taken k) (same_item c.enter-turn.result.state found (sym c.enter-turn.ensures.found ∙ is))
 
-pub returns-clause-err : goal.returns-clause-err
-returns-clause-err g c =
+pub returns-in-Err-clause-err : goal.returns-in-Err-clause-err
+returns-in-Err-clause-err g c =
     let V = g.row.T.Denot in
     let E = g.row.T-Edit.Denot in
     let k : SeatOf V E = c.args.seat in
@@ -204,8 +204,8 @@ returns-clause-err g c =
     let longer : c.issue.new.self.entries ≡ found.entries ++ [] = ap (λ (x : Contents V E). x.entries) c.in-Err.ensures.err ∙ sym (append-nil found.entries) in
     goes_on g.T.Editable.after g.T.Editable.taken g.T.Editable.number c.args.lock.now k found c.requires.of tells c.history.ensures.lawful c.history.ensures.values c.issue.new.self c.enter-turn.result.pass c.leave-in-Err.result [] longer pass_is c.leave-in-Err.ensures
 
-pub returns-clause-turn_err : goal.returns-clause-turn_err
-returns-clause-turn_err g c =
+pub returns-in-Err-clause-turn_err : goal.returns-in-Err-clause-turn_err
+returns-in-Err-clause-turn_err g c =
     let V = g.row.T.Denot in
     let E = g.row.T-Edit.Denot in
     let k : SeatOf V E = c.args.seat in
@@ -216,8 +216,8 @@ returns-clause-turn_err g c =
     let longer : c.issue.new.self.entries ≡ found.entries ++ [] = ap (λ (x : Contents V E). x.entries) c.in-Err.ensures.err ∙ sym (append-nil found.entries) in
     takes_turn g.T.Editable.after g.T.Editable.taken g.T.Editable.number c.args.lock.now k found c.requires.of tells c.history.ensures.lawful c.history.ensures.values c.issue.new.self c.enter-turn.result.pass c.leave-in-Err.result [] longer pass_is c.leave-in-Err.ensures
 
-pub returns-clause-idle : goal.returns-clause-idle
-returns-clause-idle g c =
+pub returns-in-Err-clause-idle : goal.returns-in-Err-clause-idle
+returns-in-Err-clause-idle g c =
     let V = g.row.T.Denot in
     let E = g.row.T-Edit.Denot in
     let k : SeatOf V E = c.args.seat in

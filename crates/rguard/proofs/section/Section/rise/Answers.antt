@@ -80,8 +80,8 @@ returns-clause-waits g c =
     (c.rise.ensures.taken ∙ ap (λ n. slice_set found.taken n nothing) c.number-number.ensures) c.args.next c.requires.next in
     record {
       began = w.began;
-      from = subst (λ (own : List (ℕ × V)). WaitsFrom g.T.Editable.after g.T.Editable.taken g.T.Editable.number kinds.Write w.began (record { site = a.lock.now; seat = c.leave.result; lent = c.args.next; own = own; acts = c.new-2.result.items })) (sym c.new.ensures.items)
-          (subst (λ (acts : List (Act E)). WaitsFrom g.T.Editable.after g.T.Editable.taken g.T.Editable.number kinds.Write w.began (record { site = a.lock.now; seat = c.leave.result; lent = c.args.next; own = []; acts = acts })) (sym c.new-2.ensures.items) first);
+      from = subst (λ (own : List (ℕ × V)). WaitsFrom g.T.Editable.after g.T.Editable.taken g.T.Editable.number kinds.Write w.began (record { site = a.lock.now; seat = c.leave.result; lent = c.args.next; own = own; acts = c.new.result.items })) (sym c.clear.ensures.items)
+          (subst (λ (acts : List (Act E)). WaitsFrom g.T.Editable.after g.T.Editable.taken g.T.Editable.number kinds.Write w.began (record { site = a.lock.now; seat = c.leave.result; lent = c.args.next; own = []; acts = acts })) (sym c.new.ensures.items) first);
     }
 
 pub returns-clause-goes : goal.returns-clause-goes

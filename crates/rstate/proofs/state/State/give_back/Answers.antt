@@ -48,7 +48,7 @@ give_writes-requires g c =
     let home : (g0 : Granted) → slice_get a.taken.items c.args.seat ≡ Some g0 → ComesHome g.T.Editable.after view entry g0 back
     = λ g0 there. subst (λ (f : LentFields g.row.T.Denot). ComesHome g.T.Editable.after view entry g0 f) (sym c.back.view_is)
     (subst (λ (x : Contents g.row.T.Denot g.row.T-Edit.Denot). ComesHome g.T.Editable.after x entry g0 c.args.back) (sym view_is) (c.requires.back g0 (ap (λ x. slice_get x.taken c.args.seat) (sym view_is) ∙ there))) in
-    writes_homes g.T.Editable.after g.T.Editable.taken g.T.Editable.number (g.M.Machine.state a.machine) a.history.spare a.opening a.history.entries a.taken.items a.homes.items _ _ kept c.args.seat entry c.requires.gives right back home c.give_reads.new.homes.items c.give_reads.ensures
+    writes_homes g.T.Editable.after g.T.Editable.taken g.T.Editable.number (g.M.Machine.state a.machine) a.history.spare a.opening a.history.entries a.taken.items a.homes.items _ _ kept c.args.seat entry c.requires.gives right back home c.give_reads.new.homes.items c.give_reads.ensures.homes
 
 pub index_mut-requires : goal.index_mut-requires
 index_mut-requires g c =
@@ -77,7 +77,7 @@ invariant_of-self g c =
     record {
       stands = state_given g.T.Editable.after g.T.Editable.taken g.T.Editable.number (g.M.Machine.state a.machine) a.history.spare a.opening a.history.entries a.taken.items a.homes.items _ _ kept c.args.seat entry c.requires.gives right back home
           (g.M.Machine.state c.keep.new.machine) c.keep.new.history.spare c.keep.new.history.entries c.give_reads.new.homes.items c.give_writes.new.homes.items c.from.result c.nothing.result
-          c.keep.ensures.machine c.keep.ensures.spare c.keep.ensures.entries c.give_reads.ensures c.give_writes.ensures c.from.ensures c.nothing.ensures;
+          c.keep.ensures.machine c.keep.ensures.spare c.keep.ensures.entries c.give_reads.ensures.homes c.give_writes.ensures.homes c.from.ensures c.nothing.ensures;
       told = told_next a.opening (g.M.Machine.state a.machine) a.history.entries c.keep.new.history.entries entry (g.M.Machine.watched a.machine) (g.M.Machine.watched c.keep.new.machine)
           kept.kept.machine_is whole.told c.keep.ensures.watched c.keep.ensures.entries;
     }

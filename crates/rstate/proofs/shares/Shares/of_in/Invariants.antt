@@ -1,6 +1,6 @@
 use Rattle.std.proofs.Common.{◌≡◌, ◌≤◌, length, All, vec_capacity}
 use Rattle.std.specs.Arc.{arc_value}
-use Rattle.rstate.proofs.shares.Shares.of.Given as goal
+use Rattle.rstate.proofs.shares.Shares.of_in.Given as goal
 
 abbrev pub invariant-loop : goal.invariant-loop
 invariant-loop g l =
