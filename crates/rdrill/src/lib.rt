@@ -11,4 +11,6 @@ mod requests;
 mod summary;
 
 pub use drawing::{MOST_EVENTS, drill, drill_machine};
-pub use summary::{push_summary, summary_room};
+pub use summary::{
+    LINE_ROOM, lines_room, push_count, push_piece, push_summary, push_watchers, summary_room,
+};

@@ -10,7 +10,22 @@ use rwatch::{Audience, WatchKind};
 use std::alloc::{AllocError, Global};
 
 /// The most bytes of a line: a word of ten letters, a comma, twenty digits, and the end of the line.
-const LINE_ROOM: usize = 32;
+pub const LINE_ROOM: usize = 32;
+
+/// Room for a line for each of so many watchers, and for `more` other lines.
+///
+/// # Errors
+///
+/// Out of memory.
+pub fn lines_room(alloc: Global, watchers: usize, more: usize) -> Result<Vec<u8>, AllocError>
+    requires { more ≤ 4 }
+    ensures { IfOk result (λ text. (text.items ≡ []) × (LINE_ROOM * (watchers + more) ≤ vec_capacity text)) }
+{
+    if watchers > usize::MAX / LINE_ROOM - 4 {
+        return Err(AllocError);
+    }
+    Vec::with_capacity(alloc, LINE_ROOM * (watchers + more))
+}
 
 /// Room for the summary of a drill with this many watchers.
 ///
@@ -20,10 +35,7 @@ const LINE_ROOM: usize = 32;
 pub fn summary_room(alloc: Global, watchers: usize) -> Result<Vec<u8>, AllocError>
     ensures { IfOk result (λ text. (text.items ≡ []) × (LINE_ROOM * (watchers + 4) ≤ vec_capacity text)) }
 {
-    if watchers > usize::MAX / LINE_ROOM - 4 {
-        return Err(AllocError);
-    }
-    Vec::with_capacity(alloc, LINE_ROOM * (watchers + 4))
+    lines_room(alloc, watchers, 4)
 }
 
 /// Writes the summary of a drill of `count` events, after which the machine is in this state, into the room that was made
@@ -45,8 +57,8 @@ pub fn push_summary<M: Machine, A: Audience>(
     push_piece(text, b"end\n");
 }
 
-// Appends a piece, for which there is room.
-fn push_piece(text: &mut Vec<u8>, piece: &[u8])
+/// Appends a piece, for which there is room. Takes no memory.
+pub fn push_piece(text: &mut Vec<u8>, piece: &[u8])
     requires { length text.old.items + length piece.now ≤ vec_capacity text.old }
     ensures items { text.new.items ≡ text.old.items ++ piece.now }
     ensures room { vec_capacity text.old ≤ vec_capacity text.new }
@@ -56,9 +68,9 @@ fn push_piece(text: &mut Vec<u8>, piece: &[u8])
     };
 }
 
-// Appends the line of a count, for which there is room.
+/// Appends the line of a count, for which there is room. Takes no memory.
 #[tactic(auto, unfolding(crate::specs::Summary::count_line))]
-fn push_count(text: &mut Vec<u8>, word: &[u8], count: u64)
+pub fn push_count(text: &mut Vec<u8>, word: &[u8], count: u64)
     requires word { length word.now ≤ 10 }
     requires room { length text.old.items + LINE_ROOM ≤ vec_capacity text.old }
     ensures items { text.new.items ≡ text.old.items ++ count_line word.now count }
@@ -73,8 +85,8 @@ fn push_count(text: &mut Vec<u8>, word: &[u8], count: u64)
     push_piece(text, b"\n");
 }
 
-// Appends the line of each watcher.
-fn push_watchers<A: Audience>(text: &mut Vec<u8>, audience: &A)
+/// Appends the line of each watcher, for which there is room. Takes no memory.
+pub fn push_watchers<A: Audience>(text: &mut Vec<u8>, audience: &A)
     requires room { length text.old.items + LINE_ROOM * length (A.all audience.now) ≤ vec_capacity text.old }
     ensures items { text.new.items ≡ text.old.items ++ flat_map watcher_line (A.all audience.now) }
     ensures room { vec_capacity text.old ≤ vec_capacity text.new }

@@ -1,5 +1,6 @@
 pub use Rattle.rscript.proofs.Tasks
 pub mod Left
+pub mod Looking
 pub mod Reported
 pub mod Telling
 pub mod Standing

@@ -1,5 +1,5 @@
 -- The run of a script, from its seats to its report.
-use Rattle.std.proofs.Common.{◌≡◌, ◌<◌, ℕ, Bool, true, false, List, [], ◌∷◌, ◌++◌, map, length, replicate, None, Some, sym, ap, subst, ◌∙◌, arith}
+use Rattle.std.proofs.Common.{◌≡◌, ◌<◌, ℕ, Bool, true, false, List, [], ◌∷◌, ◌++◌, map, length, replicate, Option, Some, sym, ap, subst, ◌∙◌, arith}
 use Rattle.std.proofs.lemmas.Bool.{true≢false}
 use Rattle.std.proofs.lemmas.List.{length-replicate}
 use Rattle.std.proofs.lemmas.List.FromFn.{fill_by_all}
@@ -8,7 +8,9 @@ use Rattle.std.specs.List.{range_with_len, list_any}
 use Rattle.std.specs.Prelude.{slice_get, All, Any}
 use Rattle.rclaim.specs.Events.{seat_of}
 use Rattle.rlock.specs.Known.{Site, newcomer, entries_by}
+use Rattle.rexpand.specs.Groups.{ReadGroups}
 use Rattle.rmodel.specs.State.{LockState, opening}
+use Rattle.rmodel.specs.Watching.{steps_of}
 use Rattle.rvalue.specs.declared.ledger.Edit.{Edit}
 use Rattle.rvalue.specs.declared.ledger.Ledger.{Ledger}
 use Rattle.rvalue.specs.Entries.{EntryFields}
@@ -23,39 +25,45 @@ use Rattle.rtrace_form.specs.Reports.{IsLawful, IsRightEntry, ledger_after}
 use Rattle.rtrace_write.specs.Report.{ReportFields, told_by}
 use Rattle.rrun.specs.Statement.{Statement}
 use Rattle.rrun.specs.Scripts.{ScriptFields, IsScript}
-use Rattle.rguard.specs.Closing.{IsClosedBy, IsLeft}
+use Rattle.rguard.specs.Closing.{IsClosedBy, IsLeft, IsToldTo}
 use Rattle.rrun.specs.GuardSeats.{SeatOf, IsOf, IsIdle, Goes}
 use Rattle.rrun.specs.Seats.{IsSeatFor}
 use Rattle.rrun.specs.Reporting.{beginning_of, HasOpened, TellsHeadOf, HasTold, IsReportOf, IsReportOfRun, HaveEnded}
+use Rattle.rrun.specs.Steps.{list_steps}
 use Rattle.rrun.specs.Tasks.{AreSeatsFor, HasEnded}
+use Rattle.rwatch.specs.Seen.{Seen, watched_after}
 use Rattle.rrun.proofs.Ending.{less_from_slice_get}
 use Rattle.rrun.proofs.Left.{not_stopped}
 
 -- ---- the beginning
 
 -- what the machine and the values of a runtime say of how it began
-abbrev began_by : LockState → List Ledger → Beginning Ledger
-began_by state values = record { groups = state.groups; seats = state.seats; cap = state.cap; values = values; watched = None }
+abbrev pub began_by : LockState → List Ledger → Option (List Seen) → Beginning Ledger
+began_by state values watched = record { groups = state.groups; seats = state.seats; cap = state.cap; values = values; watched = watched }
 
-pub has_opened : (p : ScriptFields) (site : Site) (seats : List (SeatOf Ledger Edit)) (state : LockState) (values : List Ledger) (contents : Contents Ledger Edit) (n : ℕ)
+pub begun_so : (p : ScriptFields) (watched : Option (List Seen)) (state : LockState) (values : List Ledger) (n : ℕ)
+    → state ≡ opening (record { q = length p.resources; groups = p.groups }) n n → values ≡ replicate (length p.resources) opening_ledger → n ≡ length p.tasks → began_by state values watched ≡ beginning_of p watched
+begun_so p watched state values n state_is values_are n_is =
+    (λ i. began_by (state_is i) (values_are i) watched) ∙ ap (λ (m : ℕ). record { groups = record { q = length p.resources; groups = p.groups }; seats = m; cap = m; values = replicate (length p.resources) opening_ledger; watched = watched }) n_is
+
+pub has_opened : (p : ScriptFields) (watched : Option (List Seen)) (site : Site) (seats : List (SeatOf Ledger Edit)) (state : LockState) (values : List Ledger) (contents : Contents Ledger Edit) (n : ℕ)
     → state ≡ opening (record { q = length p.resources; groups = p.groups }) n n → values ≡ replicate (length p.resources) opening_ledger → n ≡ length p.tasks
-    → site.passes ≡ n → length seats ≡ n → All (λ seat. IsOf site seat × IsIdle seat) seats
-    → ((k : ℕ) → k < n → slice_get seats k ≡ Some (newcomer site.gate k (began_by state values) contents))
-    → HasOpened p site seats
-has_opened p site seats state values contents n state_is values_are n_is passes count all each = record {
+    → length seats ≡ n → All (λ seat. IsOf site seat × IsIdle seat) seats
+    → ((k : ℕ) → k < n → slice_get seats k ≡ Some (newcomer site.gate k (began_by state values watched) contents))
+    → HasOpened p watched site seats
+has_opened p watched site seats state values contents n state_is values_are n_is count all each = record {
   seats_are = record { count = count ∙ n_is; each = for_seat };
-  passes = passes ∙ n_is;
   begins = begins;
   nothing_made = λ k seat there. ap (λ (s : SeatOf Ledger Edit). s.mine) (is_new k seat there);
 }
   where
-    began_is : began_by state values ≡ beginning_of p
-    began_is = (λ i. began_by (state_is i) (values_are i)) ∙ ap (λ (m : ℕ). record { groups = record { q = length p.resources; groups = p.groups }; seats = m; cap = m; values = replicate (length p.resources) opening_ledger; watched = None }) n_is
+    began_is : began_by state values watched ≡ beginning_of p watched
+    began_is = begun_so p watched state values n state_is values_are n_is
 
-    is_new : (k : ℕ) (seat : SeatOf Ledger Edit) → slice_get seats k ≡ Some seat → seat ≡ newcomer site.gate k (began_by state values) contents
-    is_new k seat there = same_item seat (newcomer site.gate k (began_by state values) contents) (sym there ∙ each k (subst (λ m. k < m) count (less_from_slice_get seats k seat there)))
+    is_new : (k : ℕ) (seat : SeatOf Ledger Edit) → slice_get seats k ≡ Some seat → seat ≡ newcomer site.gate k (began_by state values watched) contents
+    is_new k seat there = same_item seat (newcomer site.gate k (began_by state values watched) contents) (sym there ∙ each k (subst (λ m. k < m) count (less_from_slice_get seats k seat there)))
 
-    begins : (k : ℕ) (seat : SeatOf Ledger Edit) → slice_get seats k ≡ Some seat → seat.opening ≡ Some (beginning_of p)
+    begins : (k : ℕ) (seat : SeatOf Ledger Edit) → slice_get seats k ≡ Some seat → seat.opening ≡ Some (beginning_of p watched)
     begins k seat there = ap (λ (s : SeatOf Ledger Edit). s.opening) (is_new k seat there) ∙ ap Some began_is
 
     for_seat : (k : ℕ) (seat : SeatOf Ledger Edit) → slice_get seats k ≡ Some seat → IsSeatFor site p k seat
@@ -65,7 +73,7 @@ has_opened p site seats state values contents n state_is values_are n_is passes 
           of = is.0;
           idle = is.1;
           number = ap (λ (s : SeatOf Ledger Edit). s.number) (is_new k seat there);
-          over = λ b opens. ap (λ (d : Beginning Ledger). d.groups) (same_item b (beginning_of p) (sym opens ∙ begins k seat there));
+          over = λ b opens. ap (λ (d : Beginning Ledger). d.groups) (same_item b (beginning_of p watched) (sym opens ∙ begins k seat there));
         }
 
 -- ---- the end
@@ -80,7 +88,7 @@ has_gone : (b : Bool) (statements : List Statement) (seat last : SeatOf Ledger E
 has_gone false statements seat last ran = record { more = ran.more; goes = ran.goes; told = ran.run }
 has_gone true statements seat last broken = record { more = broken.more; goes = broken.goes; told = broken.run }
 
-module _ (p : ScriptFields) (script : IsScript p) (site : Site) (seats : List (SeatOf Ledger Edit)) (opened : HasOpened p site seats) (later : List (SeatOf Ledger Edit)) (are : AreSeatsFor site p later) where
+module _ (p : ScriptFields) (script : IsScript p) (watched : Option (List Seen)) (site : Site) (seats : List (SeatOf Ledger Edit)) (opened : HasOpened p watched site seats) (later : List (SeatOf Ledger Edit)) (are : AreSeatsFor site p later) where
   at : (k : ℕ) → k < length p.tasks → (last : SeatOf Ledger Edit) × (slice_get later k ≡ Some last)
   at k less = get_there later k (subst (λ n. k < n) (sym are.count) less)
 
@@ -93,9 +101,9 @@ module _ (p : ScriptFields) (script : IsScript p) (site : Site) (seats : List (S
   pub all_idle : All (λ seat. IsIdle seat) later
   all_idle k d less = let last = at k (within k less) in subst (λ (s : SeatOf Ledger Edit). IsIdle s) (sym (get_or_from_slice_get later k last.0 d last.1)) (are.each k last.0 last.1).idle
 
-  pub all_there : (n : ℕ) → n < site.passes → Any (λ seat. seat.number ≡ n) later
-  all_there n less =
-      let some = subst (λ m. n < m) opened.passes less in
+  pub all_there : (many : ℕ) → many ≡ length p.tasks → (n : ℕ) → n < many → Any (λ seat. seat.number ≡ n) later
+  all_there many all n less =
+      let some = subst (λ m. n < m) all less in
       let last = at n some in
       (n, last.0, subst (λ m. n < m) (sym are.count) some, get_or_from_slice_get later n last.0 last.0 last.1, (are.each n last.0 last.1).number)
 
@@ -134,23 +142,27 @@ module _ (p : ScriptFields) (script : IsScript p) (site : Site) (seats : List (S
         filled [] h = absurd (true≢false h)
         filled (x ∷ xs) h = omega arith
 
-    is_left : IsLeft value_after is_taken (λ (ledger : Ledger). ledger.balance) (beginning_of p) entries values
-    is_left =
+    -- the first seat knows at the end how the runtime began
+    last_opens : (at 0 some_task).0.opening ≡ Some (beginning_of p watched)
+    last_opens =
         let seat = seat_at 0 some_task in
         let last = at 0 some_task in
         let statements = get_there p.steps 0 (subst (λ n. 0 < n) (sym script.paired) some_task) in
         let flag = get_there stopped 0 (subst (λ n. 0 < n) (sym flags) some_task) in
         let gone = went 0 some_task statements.0 statements.1 flag.0 flag.1 seat.0 last.0 seat.1 last.1 in
-        (closed_at 0 last.0 last.1).left (beginning_of p) (gone.goes.same.2 ∙ opened.begins 0 seat.0 seat.1)
+        gone.goes.same.2 ∙ opened.begins 0 seat.0 seat.1
+
+    is_left : IsLeft value_after is_taken (λ (ledger : Ledger). ledger.balance) (beginning_of p watched) entries values
+    is_left = (closed_at 0 (at 0 some_task).0 (at 0 some_task).1).left (beginning_of p watched) last_opens
 
     -- what each value begins with
-    told_of : (openings : ℕ → Ledger) → ((l : ℕ) (ledger : Ledger) → ledger ≡ opening_ledger → openings l ≡ ledger) → AreOpenings (IsListed (beginning_of p).values) openings
+    told_of : (openings : ℕ → Ledger) → ((l : ℕ) (ledger : Ledger) → ledger ≡ opening_ledger → openings l ≡ ledger) → AreOpenings (IsListed (beginning_of p watched).values) openings
     told_of openings opens l value listed = opens l value (get_replicate (length p.resources) l opening_ledger value listed)
 
     pub lawful_report : (head : Head) → head.resources ≡ p.resources → head.groups ≡ p.groups → head.tasks ≡ p.tasks → head.cap ≡ length p.tasks → IsLawful head entries
     lawful_report head resources groups tasks cap =
         subst (λ (h : Head). IsLawful h entries) (λ i. record { resources = sym resources i; groups = sym groups i; tasks = sym tasks i; cap = sym cap i })
-        (AllInTurn-weaker (MayFollow value_after is_taken (λ (ledger : Ledger). ledger.balance) (beginning_of p)) (IsRightEntry (record { resources = p.resources; groups = p.groups; tasks = p.tasks; cap = length p.tasks }))
+        (AllInTurn-weaker (MayFollow value_after is_taken (λ (ledger : Ledger). ledger.balance) (beginning_of p watched)) (IsRightEntry (record { resources = p.resources; groups = p.groups; tasks = p.tasks; cap = length p.tasks }))
         (λ earlier entry right. record { comes = right.comes; stand = right.stand; held = right.held; answers = λ openings opens. right.answers openings (told_of openings opens) })
         [] entries is_left.lawful)
 
@@ -175,6 +187,17 @@ module _ (p : ScriptFields) (script : IsScript p) (site : Site) (seats : List (S
         ledgers = ledgers_are ∙ its_ledgers ∙ (λ i. map (ledger_after (sym entries_are i)) (range_with_len 0 (length (sym head.resources i))));
       };
     }
+
+    -- watchers that were given the steps of the history were given those of the report
+    pub told_steps : (told : Option (List Seen)) → All (λ seat. IsToldTo told entries seat) later → (r : ReportFields) → TellsHeadOf p r → r.entries ≡ entries → told ≡ watched_after (list_steps (told_by r)) watched
+    told_steps told all r head entries_are =
+        let last = at 0 some_task in
+        let given : IsToldTo told entries last.0 = subst (λ (s : SeatOf Ledger Edit). IsToldTo told entries s) (get_or_from_slice_get later 0 last.0 last.0 last.1) (all 0 last.0 (less_from_slice_get later 0 last.0 last.1)) in
+        let groups = ap (λ (g : ReadGroups). g.groups) head.groups in
+        given (beginning_of p watched) last_opens
+        ∙ (λ i. watched_after
+        (steps_of (opening (record { q = length (sym head.resources i); groups = sym groups i }) (length (sym head.tasks i)) (sym head.cap i)) (map (λ (entry : EntryFields Edit). entry.event) (sym entries_are i)))
+        watched)
 
 -- the run of a script in which no task was stopped
 pub is_whole : (p : ScriptFields) (script : IsScript p) (stopped : List Bool) (r : ReportFields) → list_any (λ (b : Bool). b) stopped ≡ false → IsReportOfRun p stopped r → IsReportOf p r

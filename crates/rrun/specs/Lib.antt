@@ -5,6 +5,7 @@ pub use Rattle.rscript.specs.Statements
 pub use Rattle.rscript.specs.declared.statement.Statement
 pub use Rattle.rguard.specs.Seats as GuardSeats
 pub mod Reporting
+pub mod Steps
 pub mod Runs
 pub mod Working
 pub mod Desks
@@ -12,4 +13,5 @@ pub mod Seats
 pub mod Sections
 pub mod Tasks
 pub mod Jobs
+pub mod Monitors
 pub mod Endings

@@ -1,5 +1,5 @@
 -- The report of a script's run.
-use Rattle.std.specs.Prelude.{◌≡◌, ℕ, Bool, true, false, None, Some, List, [], length, replicate, slice_get}
+use Rattle.std.specs.Prelude.{◌≡◌, ℕ, Bool, true, false, Option, Some, List, [], length, replicate, slice_get}
 use Rattle.rclaim.specs.Events.{seat_of}
 use Rattle.rlock.specs.Known.{Site, entries_by}
 use Rattle.rvalue.specs.declared.ledger.Edit.{Edit}
@@ -9,6 +9,7 @@ use Rattle.rvalue.specs.Ledgers.{opening_ledger}
 use Rattle.rstate.specs.Histories.{Beginning}
 use Rattle.rtrace_form.specs.Reports.{IsLawful}
 use Rattle.rtrace_write.specs.Report.{ReportFields, told_by, IsOverResources, HasItsLedgers}
+use Rattle.rwatch.specs.Seen.{Seen}
 use Rattle.rrun.specs.Statement.{Statement}
 use Rattle.rrun.specs.Scripts.{ScriptFields}
 use Rattle.rrun.specs.GuardSeats.{SeatOf}
@@ -16,21 +17,20 @@ use Rattle.rrun.specs.Runs.{IsRunOf, IsPartialRunOf}
 use Rattle.rrun.specs.Tasks.{AreSeatsFor, HasEnded}
 
 -- how the runtime of a script begins: with what the script declares, a seat for each task, as many requests at once as
--- there are tasks, fresh ledgers, and no watcher
-abbrev pub beginning_of : ScriptFields → Beginning Ledger
-beginning_of p = record {
+-- there are tasks, fresh ledgers, and these watchers, if there are any
+abbrev pub beginning_of : ScriptFields → Option (List Seen) → Beginning Ledger
+beginning_of p watched = record {
   groups = record { q = length p.resources; groups = p.groups };
   seats = length p.tasks;
   cap = length p.tasks;
   values = replicate (length p.resources) opening_ledger;
-  watched = None;
+  watched = watched;
 }
 
--- the runtime of a script has just begun, with these seats
-pub record HasOpened (p : ScriptFields) (site : Site) (seats : List (SeatOf Ledger Edit)) : Type 0 where
+-- the runtime of a script has just begun, with these seats and these watchers, if there are any
+pub record HasOpened (p : ScriptFields) (watched : Option (List Seen)) (site : Site) (seats : List (SeatOf Ledger Edit)) : Type 0 where
   pub seats_are : AreSeatsFor site p seats
-  pub passes : site.passes ≡ length p.tasks
-  pub begins : (k : ℕ) (seat : SeatOf Ledger Edit) → slice_get seats k ≡ Some seat → seat.opening ≡ Some (beginning_of p)
+  pub begins : (k : ℕ) (seat : SeatOf Ledger Edit) → slice_get seats k ≡ Some seat → seat.opening ≡ Some (beginning_of p watched)
   pub nothing_made : (k : ℕ) (seat : SeatOf Ledger Edit) → slice_get seats k ≡ Some seat → seat.mine ≡ []
 
 -- each of the seats has run its task, or a part of it if the task was stopped

@@ -1,31 +1,34 @@
 //! The run of a script, from its beginning to its report.
-ghost use Rattle.std.specs.Prelude.{◌≡◌, ◌≤◌, [], false, map, length, vec_capacity, IfOk};
-ghost use Rattle.std.specs.Arc.{arc_value};
+ghost use Rattle.std.specs.Prelude.{◌≡◌, ◌≤◌, [], false, map, replicate, length, vec_capacity, All, IsSome, IfOk};
 ghost use Rattle.std.specs.List.{list_any};
 ghost use Rattle.rtrace_form.specs.Written.{MayBeWritten};
 ghost use Rattle.rtrace_write.specs.Report.{told_by};
+ghost use Rattle.rvalue.specs.Ledgers.{opening_ledger};
+ghost use Rattle.rrun.specs.Endings.{AreLeftBy};
 ghost use Rattle.rrun.specs.Tasks.{AreSeatsFor};
-ghost use Rattle.rrun.specs.Reporting.{HaveEnded, HasOpened, TellsHeadOf, IsReportOf, IsReportOfRun};
+ghost use Rattle.rrun.specs.Reporting.{HaveEnded, HasOpened, IsReportOf, IsReportOfRun};
+ghost use Rattle.rrun.specs.Steps.{list_steps, opening_for};
+ghost use Rattle.rwatch.specs.Seen.{watched_after};
 
+use crate::jobs::Task;
 use crate::pace::Pace;
-use crate::tasks::{Ended, run_tasks};
-use rexpand::Groups;
-use rguard::{Closed, Receipt, Rnlp, Seat};
+use crate::reporting::run_of;
+use crate::tasks::{Ended, ended_of, run_tasks};
+use rguard::{Receipt, Rnlp, Seat};
 use rmodel::Machine;
 use rplain::Plain;
 use rscript::Script;
-use rset::NameTable;
 use rtrace_write::Report;
 use rvalue::{Edit, Ledger};
 use std::alloc::{AllocError, Global};
-use std::sync::{Arc, Wait};
+use std::sync::Wait;
 use std::thread::Threads;
 
 /// A runtime with its seats.
 type Opened<M> = (Rnlp<Ledger, M>, Vec<Seat<Ledger, M>>);
 
 /// The seats of a runtime, and which of their tasks were stopped.
-type Left<M> = (Vec<Seat<Ledger, M>>, Vec<bool>);
+pub(crate) type Left<M> = (Vec<Seat<Ledger, M>>, Vec<bool>);
 
 /// A run of a script.
 #[derive(Drop)]
@@ -55,10 +58,40 @@ pub fn run_all<R: Threads + Wait + Sync, G: Pace>(
     ensures written { IfOk result (λ run. MayBeWritten (told_by run.report)) }
     ensures receipt { IfOk result (λ run. run.receipt ≡ run.report.entries) }
 {
-    let (rnlp, seats) = open(alloc, script)?;
+    let machine = machine_of(alloc, script)?;
+    match run_over(rt, alloc, script, pace, machine) {
+        Ok((run, _)) => Ok(run),
+        Err(e) => Err(e),
+    }
+}
+
+/// The same at a runtime over this machine, which comes back. Its watchers, if it has any, have been given just the steps
+/// of the history.
+///
+/// # Errors
+///
+/// Out of memory for the run itself. The machine is dropped.
+pub fn run_over<R: Threads + Wait + Sync, M: Machine, G: Pace>(
+    rt: &R,
+    alloc: Global,
+    script: &Script,
+    pace: &G,
+    machine: M,
+) -> Result<(Run, M), AllocError>
+    requires { M.state machine ≡ opening_for script.now }
+    ensures report { IfOk result (λ r. IsReportOfRun script.entry.now r.0.stopped.items r.0.report) }
+    ensures written { IfOk result (λ r. MayBeWritten (told_by r.0.report)) }
+    ensures receipt { IfOk result (λ r. r.0.receipt ≡ r.0.report.entries) }
+    ensures watched { IfOk result (λ r. M.watched r.1 ≡ watched_after (list_steps (told_by r.0.report)) (M.watched machine)) }
+{
+    let (rnlp, seats) = open(alloc, script, machine)?;
     let _ = script.tasks();
     match left_behind(rt, alloc, &rnlp, seats, script, pace) {
-        Ok((seats, stopped)) => run_of(alloc, script, rnlp.close(seats), stopped),
+        Ok((seats, stopped)) => {
+            let (closed, machine) = rnlp.close_whole(seats);
+            let run = run_of(alloc, script, closed, stopped)?;
+            Ok((run, machine))
+        }
         Err(e) => Err(e),
     }
 }
@@ -85,8 +118,12 @@ pub fn run_script<R: Threads + Wait + Sync, G: Pace>(
     }
 }
 
-// The report and the receipt of a run in which no task was stopped.
-fn whole(run: Run) -> Result<(Report, Receipt<Edit>), AllocError>
+/// The report and the receipt of a run in which no task was stopped.
+///
+/// # Errors
+///
+/// Out of memory, where one was stopped.
+pub fn whole(run: Run) -> Result<(Report, Receipt<Edit>), AllocError>
     ensures none { IfOk result (λ _. list_any (λ b. b) run.stopped.items ≡ false) }
     ensures same { IfOk result (λ r. (r.0 ≡ run.report) × (r.1 ≡ run.receipt)) }
 {
@@ -109,15 +146,39 @@ fn is_any(all: &[bool]) -> bool
     all.iter().any(|one| *one)
 }
 
-// A runtime over what the script declares, where nothing was done yet, with a seat for each task.
-fn open(alloc: Global, script: &Script) -> Result<Opened<Plain>, AllocError>
-    ensures { IfOk result (λ r. HasOpened script.now r.0 r.1.items) }
+/// A machine over what the script declares, with a seat for each task, where nothing was done yet.
+///
+/// # Errors
+///
+/// Out of memory.
+pub fn machine_of(alloc: Global, script: &Script) -> Result<Plain, AllocError>
+    ensures { IfOk result (λ machine. machine.state ≡ opening_for script.now) }
 {
     let groups = script.groups().copy(alloc)?;
-    let resources = script.resources().len();
     let seats = script.tasks().len();
-    let machine = Plain::new(alloc, groups, seats, seats)?;
-    let values = vec![in alloc; Ledger::new(); usize::from(resources)]?;
+    Plain::new(alloc, groups, seats, seats)
+}
+
+/// What each resource of a script is at the beginning: a fresh ledger.
+///
+/// # Errors
+///
+/// Out of memory.
+pub(crate) fn values_of(alloc: Global, script: &Script) -> Result<Vec<Ledger>, AllocError>
+    ensures { IfOk result (λ values. values.items ≡ replicate (length script.now.resources) opening_ledger) }
+{
+    let resources = script.resources().len();
+    vec![in alloc; Ledger::new(); usize::from(resources)]
+}
+
+// A runtime over such a machine, where nothing was done yet, with its seats.
+fn open<M: Machine>(alloc: Global, script: &Script, machine: M) -> Result<Opened<M>, AllocError>
+    requires { M.state machine ≡ opening_for script.now }
+    ensures opened { IfOk result (λ r. HasOpened script.now (M.watched machine) r.0 r.1.items) }
+    ensures count { IfOk result (λ r. r.0.passes ≡ length script.now.tasks) }
+{
+    let seats = script.tasks().len();
+    let values = values_of(alloc, script)?;
     let (rnlp, all) = Rnlp::new(alloc, machine, values, seats)?;
     Ok((rnlp, all))
 }
@@ -147,6 +208,23 @@ fn left_behind<R: Threads + Wait + Sync, M: Machine, G: Pace>(
     }
 }
 
+/// The seats of jobs, and which of their tasks were stopped.
+///
+/// # Errors
+///
+/// Out of memory. The seats are dropped.
+pub(crate) fn left_of<M: Machine>(alloc: Global, jobs: Vec<Task<M>>) -> Result<Left<M>, AllocError>
+    requires { All (λ job. IsSome job.seat) jobs.items }
+    ensures { IfOk result (λ left. AreLeftBy M jobs.items left.0.items left.1.items) }
+{
+    let room = Vec::with_capacity(alloc, jobs.len())?;
+    let flags = Vec::with_capacity(alloc, jobs.len())?;
+    let ended = Vec::with_capacity(alloc, jobs.len())?;
+    let ended = ended_of(jobs, ended);
+    let stopped = stopped_of(ended.as_slice(), flags);
+    Ok((seats_of(ended, room), stopped))
+}
+
 // Which of the tasks were stopped, in a list with enough room.
 fn stopped_of<M: Machine>(all: &[Ended<M>], room: Vec<bool>) -> Vec<bool>
     requires empty { room.items ≡ [] }
@@ -172,86 +250,4 @@ fn seats_of<M: Machine>(all: Vec<Ended<M>>, room: Vec<Seat<Ledger, M>>) -> Vec<S
         seats.push_reserved(seat);
     }
     seats
-}
-
-// The run that a closed runtime leaves.
-fn run_of(
-    alloc: Global,
-    script: &Script,
-    closed: Closed<Ledger>,
-    stopped: Vec<bool>,
-) -> Result<Run, AllocError>
-    ensures head { IfOk result (λ run. TellsHeadOf script.now run.report) }
-    ensures entries { IfOk result (λ run. run.report.entries ≡ closed.0.entries) }
-    ensures ledgers { IfOk result (λ run. run.report.ledgers ≡ map arc_value closed.1.items) }
-    ensures receipt { IfOk result (λ run. run.receipt ≡ closed.2) }
-    ensures stopped { IfOk result (λ run. run.stopped.items ≡ stopped.items) }
-{
-    let (history, values, receipt) = closed;
-    match head_of(alloc, script, values.as_slice()) {
-        Ok(head) => {
-            let ReportHead {
-                resources,
-                groups,
-                tasks,
-                ledgers,
-            } = head;
-            let report = Report {
-                resources,
-                groups,
-                tasks,
-                cap: script.tasks().len(),
-                history,
-                ledgers,
-            };
-            Ok(Run {
-                report,
-                receipt,
-                stopped,
-            })
-        }
-        Err(e) => Err(e),
-    }
-}
-
-// What a report has besides its history.
-#[derive(Drop)]
-struct ReportHead {
-    resources: NameTable,
-    groups: Groups,
-    tasks: NameTable,
-    ledgers: Vec<Ledger>,
-}
-
-// What the script declares, and the ledgers that are shared here.
-fn head_of(
-    alloc: Global,
-    script: &Script,
-    values: &[Arc<Ledger, Global>],
-) -> Result<ReportHead, AllocError>
-    ensures declared { IfOk result (λ b. (b.resources ≡ script.now.resources) × (b.groups ≡ record { q = length script.now.resources; groups = script.now.groups }) × (b.tasks ≡ script.now.tasks)) }
-    ensures ledgers { IfOk result (λ b. b.ledgers.items ≡ map arc_value values.now) }
-{
-    let ledgers = ledgers_of(alloc, values)?;
-    let groups = script.groups().copy(alloc)?;
-    let resources = script.resources().copy(alloc)?;
-    let tasks = script.tasks().copy(alloc)?;
-    Ok(ReportHead {
-        resources,
-        groups,
-        tasks,
-        ledgers,
-    })
-}
-
-// The ledgers that are shared here.
-fn ledgers_of(alloc: Global, values: &[Arc<Ledger, Global>]) -> Result<Vec<Ledger>, AllocError>
-    ensures { IfOk result (λ ledgers. ledgers.items ≡ map arc_value values.now) }
-{
-    let mut ledgers = Vec::with_capacity(alloc, values.len())?;
-    for value in values {
-        let ledger: &Ledger = value;
-        ledgers.push_reserved(*ledger);
-    }
-    Ok(ledgers)
 }

@@ -53,6 +53,21 @@ pub fn run_tasks<R: Threads + Wait + Sync, M: Machine, G: Pace>(
     Ok(ended_of(jobs, ended))
 }
 
+/// A job for each seat, which was not done yet.
+///
+/// # Errors
+///
+/// Out of memory. The seats are dropped.
+pub(crate) fn jobs_for<M: Machine>(
+    alloc: Global,
+    seats: Vec<Seat<Ledger, M>>,
+) -> Result<Vec<Task<M>>, AllocError>
+    ensures { IfOk result (λ jobs. jobs.items ≡ map waiting seats.items) }
+{
+    let room = Vec::with_capacity(alloc, seats.len())?;
+    Ok(jobs_of(seats, room))
+}
+
 // A job for each seat, in a list with enough room.
 fn jobs_of<M: Machine>(seats: Vec<Seat<Ledger, M>>, room: Vec<Task<M>>) -> Vec<Task<M>>
     requires empty { room.items ≡ [] }
@@ -69,8 +84,8 @@ fn jobs_of<M: Machine>(seats: Vec<Seat<Ledger, M>>, room: Vec<Task<M>>) -> Vec<T
     jobs
 }
 
-// How the jobs ended, in a list with enough room.
-fn ended_of<M: Machine>(jobs: Vec<Task<M>>, room: Vec<Ended<M>>) -> Vec<Ended<M>>
+/// How the jobs ended, in a list with enough room.
+pub(crate) fn ended_of<M: Machine>(jobs: Vec<Task<M>>, room: Vec<Ended<M>>) -> Vec<Ended<M>>
     requires there { All (λ job. IsSome job.seat) jobs.items }
     requires empty { room.items ≡ [] }
     requires room { length jobs.items ≤ vec_capacity room }

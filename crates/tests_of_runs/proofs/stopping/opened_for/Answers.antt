@@ -13,8 +13,8 @@ returns c =
     let values = c.in_ok-values.values.items in
     let values_are : values ≡ replicate (length c.args.script.now.resources) opening_ledger =
     c.in_ok-values.ensures.items_if_clones_equal (λ y same. same) ∙ (λ j. replicate ((c.from.ensures ∙ c.len-resources.ensures.value ∙ ap length c.resources.ensures.value) j) (c.new-2.ensures j)) in
-    has_opened c.args.script.now c.in_ok-rnlp.rnlp c.in_ok-rnlp.all.items state values (record { beginning = record { groups = state.groups; seats = state.seats; cap = state.cap; values = values; watched = None }; entries = []; taken = replicate state.seats nothing }) n
+    has_opened c.args.script.now None c.in_ok-rnlp.rnlp c.in_ok-rnlp.all.items state values (record { beginning = record { groups = state.groups; seats = state.seats; cap = state.cap; values = values; watched = None }; entries = []; taken = replicate state.seats nothing }) n
     (c.in_ok-machine.ensures.opening ∙ ap (λ (x : ReadGroups). opening x n n) (c.in_ok-groups.ensures ∙ c.groups.ensures))
     values_are
     (c.len-seats.ensures.value ∙ ap length c.tasks.ensures.value)
-    c.in_ok-rnlp.ensures.count.0 c.in_ok-rnlp.ensures.count.1 c.in_ok-rnlp.ensures.seats c.in_ok-rnlp.ensures.each
+    c.in_ok-rnlp.ensures.count.1 c.in_ok-rnlp.ensures.seats c.in_ok-rnlp.ensures.each
