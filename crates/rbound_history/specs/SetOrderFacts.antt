@@ -70,7 +70,7 @@ some_least s m e = record {
   low = λ l there. least_low (items s) m e l (sym (contains_in_items s l) ∙ there);
 }
 
--- what is known of the first member of a set tells its least
+-- what is known of the first member of a set gives its least
 pub first_is : (s : Set) (r : Option ℕ) → (r ≡ None → s ≡ empty) → ((m : ℕ) → r ≡ Some m → IsLeast s m) → r ≡ least s
 first_is s r none some = at r (least s) refl refl
   where
