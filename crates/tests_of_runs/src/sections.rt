@@ -1,5 +1,5 @@
 //! One section of a task, run alone.
-ghost use Rattle.std.specs.Prelude.{◌<◌, None, IfOk, length};
+ghost use Rattle.std.specs.Prelude.{◌≡◌, ◌<◌, None, IfOk, length};
 ghost use Rattle.rrun.specs.Reporting.{HasOpened};
 ghost use Rattle.rrun.specs.Seats.{IsSeatFor};
 
@@ -102,7 +102,8 @@ fn leaves_its_own<R: Wait>(
     mut seats: Vec<Seat<Ledger, Plain>>,
     script: &Script,
 ) -> bool
-    requires { HasOpened script.now None rnlp seats.items }
+    requires opened { HasOpened script.now None rnlp seats.items }
+    requires passes { rnlp.passes ≡ length script.now.tasks }
 {
     if seats.len() != 1 {
         return false;

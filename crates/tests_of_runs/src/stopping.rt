@@ -1,6 +1,6 @@
 //! Tasks of scripts that are stopped because memory runs out, and tasks that are not. The gate refuses no growth, so no
 //! task is stopped in it: `rt try --test --fail-alloc N` refuses one, by hand.
-ghost use Rattle.std.specs.Prelude.{◌≡◌, None, IfOk};
+ghost use Rattle.std.specs.Prelude.{◌≡◌, None, IfOk, length};
 ghost use Rattle.rrun.specs.Reporting.{HasOpened};
 ghost use Rattle.rrun.specs.Tasks.{AreSeatsFor};
 
@@ -28,7 +28,8 @@ pub fn opened_for(
     alloc: Global,
     script: &Script,
 ) -> Result<(Rnlp<Ledger, Plain>, Vec<Seat<Ledger, Plain>>), AllocError>
-    ensures { IfOk result (λ r. HasOpened script.now None r.0 r.1.items) }
+    ensures opened { IfOk result (λ r. HasOpened script.now None r.0 r.1.items) }
+    ensures passes { IfOk result (λ r. r.0.passes ≡ length script.now.tasks) }
 {
     let groups = script.groups().copy(alloc)?;
     let resources = script.resources().len();

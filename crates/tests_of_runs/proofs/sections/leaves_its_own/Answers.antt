@@ -7,4 +7,4 @@ run_first-requires-clause-seat g c =
     let seats = c.args.seats.items in let seat = c.unwrap-seat.result in
     let some : 0 < length seats = search rules in
     let last : get_or seats 0 seat ≡ seat = search rules in
-    c.requires.seats_are.each 0 seat (slice_get-get_or seats 0 seat some ∙ ap Some last)
+    c.requires.opened.seats_are.each 0 seat (slice_get-get_or seats 0 seat some ∙ ap Some last)

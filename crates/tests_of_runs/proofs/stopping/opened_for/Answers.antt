@@ -6,8 +6,11 @@ use Rattle.rvalue.specs.Ledgers.{opening_ledger}
 use Rattle.rrun.proofs.Reported.{has_opened}
 use Rattle.tests_of_runs.proofs.stopping.opened_for.Goals as goal
 
-pub returns : goal.returns
-returns c =
+pub returns-clause-passes : goal.returns-clause-passes
+returns-clause-passes c = c.in_ok-rnlp.ensures.count.0 ∙ c.len-seats.ensures.value ∙ ap length c.tasks.ensures.value
+
+pub returns-clause-opened : goal.returns-clause-opened
+returns-clause-opened c =
     let n = c.len-seats.result in
     let state = c.in_ok-machine.machine.state in
     let values = c.in_ok-values.values.items in
