@@ -1,4 +1,4 @@
-use Rattle.std.proofs.Common.{sym, ap, subst, ◌∙◌}
+use Rattle.std.proofs.Common.{rules, sym, ap, subst, ◌∙◌}
 use Rattle.std.specs.FinSet.{contains}
 use Rattle.rclaim.specs.Requests.{RequestFields}
 use Rattle.rguard.specs.Seats.{SuitsSeat}
@@ -17,3 +17,6 @@ returns-in-Ok-Write-clause-writes g c = λ l there.
     writes_acquired g.T.Editable.after g.T.Editable.taken g.T.Editable.number c.args.lock.now c.args.seat c.in-Ok.request c.in-Ok-Write.guard c.in-Ok-Write.field-0 l
     (ap (λ (r : RequestFields). is_plain r.kind) c.in-Ok.ensures.made) c.in-Ok-Write.field-0-is c.in-Ok-Write.ensures.ok c.seat.ensures.lawful c.seat.ensures.own
     (ap (λ (r : RequestFields). contains r.writes l) c.in-Ok.ensures.made ∙ there)
+
+pub returns-in-Ok-Write-clause-at : goal.returns-in-Ok-Write-clause-at
+returns-in-Ok-Write-clause-at g c = (record { of = record { gate = search rules; began = c.requires.at.of.began; opening = search rules; there = search rules; all = search rules; within = search rules; enough = search rules }; over = search rules }, search rules)
