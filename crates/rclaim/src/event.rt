@@ -6,7 +6,7 @@ use crate::Request;
 use rset::ResourceSet;
 
 /// One step of the task at a seat.
-#[derive(Clone, Copy)]
+#[derive(Clone, Copy, Debug)]
 pub enum Event {
     /// The seat issues a request.
     Issue { seat: u8, request: Request },

@@ -48,6 +48,7 @@ impl RequestErr {
 }
 
 /// What a task asks for: a kind, resources to read and to write, and the greatest length of its section.
+#[derive(Debug)]
 pub struct Request {
     kind: Kind,
     reads: ResourceSet,

@@ -96,6 +96,21 @@ impl Page {
         Ok(())
     }
 
+    /// Appends bytes.
+    ///
+    /// # Errors
+    ///
+    /// Out of memory. The text is then as it was.
+    pub fn push_slice(&mut self, piece: &[u8]) -> Result<(), AllocError>
+        ensures ok { OnOk result (self.new ≡ self.old ++ piece.now) }
+        ensures err { OnErr result (self.new ≡ self.old) }
+    {
+        self.bytes.truncate(self.used);
+        self.bytes.extend_from_slice(piece)?;
+        self.used = self.bytes.len();
+        Ok(())
+    }
+
     // Appends the line of a resource.
     pub(crate) fn push_resource(&mut self, names: &NameRows, place: u8) -> Result<(), AllocError>
         ensures ok { OnOk result (self.new ≡ self.old ++ told_line names.now (HasResource (name_at names.now.resources place))) }

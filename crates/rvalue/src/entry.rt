@@ -8,7 +8,7 @@ use rclaim::Event;
 use std::marker::Model;
 
 /// An event, and the acts of its section that are recorded with it, in the order in which the section made them.
-#[derive(Drop)]
+#[derive(Debug, Drop)]
 pub struct Entry<E> {
     /// What the seat did at the lock.
     pub event: Event,

@@ -7,7 +7,7 @@ use std::alloc::{AllocError, Global};
 use std::marker::Model;
 
 /// The entries that the lock keeps, in order. Room for more is made beforehand, so that keeping an entry cannot fail.
-#[derive(Drop)]
+#[derive(Debug, Drop)]
 pub struct History<E> {
     entries: Vec<Entry<E>>,
 }

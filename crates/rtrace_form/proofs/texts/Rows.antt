@@ -18,7 +18,7 @@ use Rattle.rtrace_form.specs.Texts.{behind_comma, line_text, text_of, report_tex
 use Rattle.rtrace_form.proofs.texts.Plain.{IsPlain, spelled_plain, not_blank}
 use Rattle.rtrace_form.proofs.written.GoodEntries.{lines_writable, written_spells}
 
-record IsPlainRow (row : Row) : Type 0 where
+pub record IsPlainRow (row : Row) : Type 0 where
   pub plain : AllByRecursion IsPlain row
   pub shown : is_blank default_writer row ≡ false
 
@@ -36,7 +36,8 @@ row_back [] h = absurd (true≢false h.shown)
 row_back (field ∷ fields) h =
     ((λ i. (field_back field h.plain.0 i ++ fields_back fields h.plain.1 i) ++ (cond (h.shown i) (34 ∷ 34 ∷ []) [] ++ 10 ∷ [])), refl)
 
-records_back : (rows : List Row) → AllByRecursion IsPlainRow rows → AreRecords default_config st.StartRecord (text_of rows) rows
+-- the text of plain records is read back as these
+pub records_back : (rows : List Row) → AllByRecursion IsPlainRow rows → AreRecords default_config st.StartRecord (text_of rows) rows
 unfolding Reached next_record
 records_back [] plain = (st.StartRecord, [], (refl, refl), refl)
 records_back (row ∷ rows) plain =
@@ -47,7 +48,8 @@ records_back (row ∷ rows) plain =
     ∙ read-write row (text_of rows) ∙ ap (λ (r : Row). Some (r, st.StartRecord, text_of rows)) back.1 in
     (rest.0, rest.1, ((row, st.StartRecord, text_of rows), read, refl, rest.2), rest.3)
 
-rows_plain : (names : Names) → AreTables names → (lines : List Line) → AllByRecursion (IsWritable names) lines → AllByRecursion IsPlainRow (map (spelled names) lines)
+-- what is spelled of lines that may be written is plain
+pub rows_plain : (names : Names) → AreTables names → (lines : List Line) → AllByRecursion (IsWritable names) lines → AllByRecursion IsPlainRow (map (spelled names) lines)
 rows_plain names tables [] all = tt
 rows_plain names tables (line ∷ lines) all =
     (record { plain = spelled_plain names tables line all.0; shown = not_blank names (word_of line) (values_of line) }, rows_plain names tables lines all.1)
