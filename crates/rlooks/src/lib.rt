@@ -9,6 +9,6 @@ mod worker;
 
 pub use ending::{Looks, last_looks};
 pub use lookout::{LOOKS, Lookout, ROUNDS};
-pub use rounds::{feed_from, feed_rounds, look_rounds};
+pub use rounds::{feed_and_look, feed_from, feed_rounds, look_rounds};
 pub use watch::Watch;
 pub use worker::feed_once;

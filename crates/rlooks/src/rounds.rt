@@ -4,13 +4,13 @@ ghost use mathlib.Core.List.{IsPrefix};
 ghost use Rattle.rstate.specs.Histories.{Beginning};
 ghost use Rattle.rlooks.specs.Lookouts.{GoesOn};
 ghost use Rattle.rlooks.specs.Watches.{MayFeed, HasFed};
-ghost use Rattle.rlooks.specs.Workers.{Feeds};
+ghost use Rattle.rlooks.specs.Workers.{Feeds, IsLookFrom};
 
 use crate::lookout::{LOOKS, Lookout, ROUNDS};
 use crate::worker::feed_once;
 use rguard::{Rnlp, Scribe};
 use rmodel::Machine;
-use rmon::Feed;
+use rmon::{Feed, Look};
 use rvalue::Editable;
 use std::alloc::{AllocError, Global};
 use std::sync::Wait;
@@ -89,6 +89,32 @@ pub fn feed_from<R: Wait, T: Editable, M: Machine>(
 {
     let scribe = place.take().unwrap();
     feed_rounds(rt, alloc, rnlp, scribe, feed, lookout)
+}
+
+/// One more round of the worker that feeds. Its look is given, and not kept.
+///
+/// # Errors
+///
+/// Out of memory. The scribe comes back, and the lookout is as it was.
+pub fn feed_and_look<R: Wait, T: Editable, M: Machine>(
+    rt: &R,
+    alloc: Global,
+    rnlp: &Rnlp<T, M>,
+    scribe: Scribe<T, M>,
+    feed: &mut Feed,
+    lookout: &mut Lookout,
+) -> Result<(Scribe<T, M>, Look), (Scribe<T, M>, AllocError)>
+    requires { (b : Beginning T) × Feeds T.after T.taken T.number rnlp.now b scribe feed.old lookout.old.monitor }
+    ensures feeds { IfOk result (λ r. (b : Beginning T) → Feeds T.after T.taken T.number rnlp.now b scribe feed.old lookout.old.monitor → Feeds T.after T.taken T.number rnlp.now b r.0 feed.new lookout.new.monitor) }
+    ensures look { IfOk result (λ r. (b : Beginning T) → Feeds T.after T.taken T.number rnlp.now b scribe feed.old lookout.old.monitor → IsLookFrom b lookout.old.monitor lookout.new.monitor r.1) }
+    ensures on { OnOk result (GoesOn 0 lookout.old lookout.new) }
+    ensures back { IfErr result (λ e. (b : Beginning T) → Feeds T.after T.taken T.number rnlp.now b scribe feed.old lookout.old.monitor → Feeds T.after T.taken T.number rnlp.now b e.0 feed.new lookout.new.monitor) }
+    ensures same { OnErr result (lookout.new ≡ lookout.old) }
+{
+    match feed_once(rt, alloc, rnlp, scribe, feed, &mut lookout.monitor) {
+        Ok((scribe, look)) => return Ok((scribe, look)),
+        Err(e) => return Err(e),
+    }
 }
 
 /// All rounds of the worker that only looks. It takes no memory and no lock.

@@ -1,5 +1,6 @@
 pub mod Adding
 pub mod Below
+pub mod Counting
 pub mod Held
 pub mod Looking
 pub mod Prefixes

@@ -7,6 +7,7 @@ use Rattle.rmon.specs.declared.feed.Feed.TheInside.{Inside}
 use Rattle.rmon.specs.declared.image.Image.{Image}
 use Rattle.rmon.specs.declared.image.Change.TheVariants.{Take}
 use Rattle.rmon.specs.declared.rule.Told.{Told}
+use Rattle.rmon.specs.Completed.{completed_by}
 use Rattle.rmon.specs.Fronts.{head_of}
 use Rattle.rmon.specs.Opened.{opening_of}
 use Rattle.rmon.specs.Rules.{opening_told, IsAfter}
@@ -33,3 +34,5 @@ pub record IsFeeding (a : Inside) : Type 0 where
   pub pending : drop a.writer.behind a.writer.log.items ≡ map Take more
   pub fed : a.front.events ≡ (shown_by a).front.events ++ more
   pub accepted : AreAccepted (opening_of told.opening) a.front.events
+  -- it knows how many requests these events complete
+  pub completed : a.completed ≡ completed_by a.front.events

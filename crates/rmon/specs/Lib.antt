@@ -1,3 +1,4 @@
+pub mod Completed
 pub mod Feeding
 pub mod Fitting
 pub mod Fronts

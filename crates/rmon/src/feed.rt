@@ -7,6 +7,7 @@ ghost use Rattle.rmodel.specs.Steps.{after, AreAccepted, Comes};
 ghost use Rattle.rmon.specs.declared.rule.Opening.{Opening};
 ghost use Rattle.rmon.specs.Opened.{opening_of, opening_in};
 ghost use Rattle.rmon.specs.Fronts.{head_of};
+ghost use Rattle.rmon.specs.Completed.{completed_by, completes};
 ghost use Rattle.rmon.specs.Images.{absorbed};
 ghost use Rattle.rmon.specs.Rules.{KeepsRule};
 ghost use Rattle.rmon.specs.Known.{begun, newcomer, HasTaken};
@@ -32,8 +33,9 @@ use std::thread;
 pub struct Feed {
     writer: ImageWriter,
     head: Head,
-    // All events that were taken.
+    // All events that were taken, and how many requests they complete.
     front: Front,
+    completed: u64,
 }
 
 impl Model for Feed {
@@ -109,6 +111,7 @@ impl Feed {
             writer,
             head,
             front,
+            completed: 0,
         })
     }
 
@@ -130,6 +133,13 @@ impl Feed {
         ensures { result ≡ length self.now.fed }
     {
         self.front.count()
+    }
+
+    /// How many requests are complete by the events that it has taken.
+    pub fn completed(&self) -> u64
+        ensures { result ≡ completed_by self.now.fed }
+    {
+        self.completed
     }
 
     /// Takes these events, and publishes all that were taken so far.
@@ -170,6 +180,7 @@ impl Feed {
         match self.writer.append(Change::Take(*event)) {
             Ok(()) => {
                 count(rt, &self.head, &mut self.front, event);
+                self.completed += completes(event);
                 Ok(())
             }
             Err(_) => Err(AllocError),
@@ -186,6 +197,7 @@ impl Feed {
             mut writer,
             head,
             front,
+            completed,
         } = self;
         let change = Change::Reach(front.again());
         match writer.append(change) {
@@ -198,6 +210,7 @@ impl Feed {
                     writer,
                     head,
                     front,
+                    completed,
                 };
                 return (feed, Ok(note));
             }
@@ -206,6 +219,7 @@ impl Feed {
                     writer,
                     head,
                     front,
+                    completed,
                 };
                 return (feed, Err(AllocError));
             }
@@ -218,6 +232,7 @@ impl Feed {
             writer,
             head: _head,
             front: _front,
+            completed: _completed,
         } = self;
         drop(writer.take(rt));
     }
@@ -237,6 +252,16 @@ fn count<R: Wait>(rt: &R, head: &Head, front: &mut Front, event: &Event)
         }
     }
     unreachable!()
+}
+
+// How many requests an event completes.
+fn completes(event: &Event) -> u64
+    ensures { result ≡ completes event.now }
+{
+    match event {
+        Event::Finish { .. } => 1,
+        Event::Issue { .. } | Event::Rise { .. } | Event::Ask { .. } => 0,
+    }
 }
 
 // The writer of two equal images that have no events. It knows how they began.

@@ -39,6 +39,7 @@ invariant_of-feed g c =
       pending = c.show-writer.ensures.pending;
       fed = sym (ap (λ f. f.events ++ []) its ∙ append-nil front.events);
       accepted = inv.accepted;
+      completed = inv.completed;
     }
 
 pub returns-in-Ok-clause-published : goal.returns-in-Ok-clause-published
