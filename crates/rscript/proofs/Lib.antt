@@ -8,3 +8,4 @@ pub mod Tasks
 pub mod Gathering
 pub mod record_facts
 pub mod lines
+pub mod Cuts

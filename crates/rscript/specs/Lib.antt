@@ -1,4 +1,5 @@
 pub mod Scripts
+pub mod Sections
 pub mod ScriptCodes
 pub mod SoFar
 pub mod Faults

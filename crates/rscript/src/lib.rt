@@ -14,6 +14,7 @@ mod record;
 mod script;
 mod section;
 mod statement;
+mod steps;
 mod tables;
 mod taker;
 mod told;

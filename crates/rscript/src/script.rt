@@ -1,13 +1,16 @@
 // A script, and how it is read.
-ghost use Rattle.std.specs.Prelude.{◌≡◌, ◌<◌, ℕ, Some, IfOk, IfErr, length, slice_get};
+ghost use Rattle.std.specs.Prelude.{◌≡◌, ◌<◌, ℕ, List, Some, IfOk, IfErr, length, slice_get};
 ghost use Rattle.rscript.specs.Scripts.{IsScript, IsTextOf};
 ghost use Rattle.rscript.specs.SoFar.{SoFar, nothing_yet, told_in};
 ghost use Rattle.rscript.specs.Texts.{error_of, IsFirstFault};
 ghost use Rattle.rscript.specs.Reading.{Knows};
+ghost use Rattle.rscript.specs.Sections.{section_at};
+ghost use Rattle.rscript.specs.declared.statement.Statement.{Statement};
 
 use crate::code::ScriptCode;
 use crate::reading::ScriptReader;
 use crate::statement::Statement;
+use crate::steps::{Steps, all_steps};
 use rexpand::Groups;
 use rset::NameTable;
 use rtrace_form::{TextErr, take_text};
@@ -30,23 +33,22 @@ pub struct Script {
     resources: NameTable,
     groups: Groups,
     tasks: NameTable,
-    steps: Vec<Vec<Statement>>,
+    steps: Vec<Steps>,
 }
 
 impl Model for Script {
     ghost use Rattle.std.specs.Prelude.{◌≡◌, length};
     ghost use Rattle.rscript.specs.Scripts.{ScriptFields, IsScript};
     ghost use Rattle.rscript.specs.ScriptCodes.{script_code};
-    ghost use Rattle.rscript.specs.Reading.{statements_in};
 
     ghost Value = { ScriptFields };
 
     ghost coded = { script_code };
 
-    ghost view = { λ a. record { resources = a.resources; groups = a.groups.groups; tasks = a.tasks; steps = statements_in a.steps.items } };
+    ghost view = { λ a. record { resources = a.resources; groups = a.groups.groups; tasks = a.tasks; steps = a.steps.items } };
 
     ghost invariant = { λ a. (a.groups.q ≡ length a.resources)
-        × IsScript (record { resources = a.resources; groups = a.groups.groups; tasks = a.tasks; steps = statements_in a.steps.items }) };
+        × IsScript (record { resources = a.resources; groups = a.groups.groups; tasks = a.tasks; steps = a.steps.items }) };
 }
 
 impl Script {
@@ -79,7 +81,16 @@ impl Script {
         ensures steps { slice_get self.now.steps task ≡ Some result.now }
         ensures script { IsScript self.now }
     {
-        self.steps[usize::from(task)].as_slice()
+        self.steps[usize::from(task)].all()
+    }
+
+    /// The statements of the section number `k` of a task, counted from 0; none if it has no such section. Each section is
+    /// found at once.
+    pub fn section(&self, task: u8, k: u64) -> &[Statement]
+        requires { task < length self.now.tasks }
+        ensures { (statements : List Statement) → slice_get self.now.steps task ≡ Some statements → result.now ≡ section_at k statements }
+    {
+        self.steps[usize::from(task)].section(k)
     }
 
     // The script that a reader has read, moved out of the reader. Its groups are there, since it has a task.
@@ -92,12 +103,16 @@ impl Script {
             return Err(ScriptErr::Memory);
         };
         let alloc = reading.alloc;
+        let read = mem::replace(&mut reading.steps, Vec::new(alloc));
+        let Ok(steps) = all_steps(alloc, read) else {
+            return Err(ScriptErr::Memory);
+        };
         match reading.groups.take() {
             Some(groups) => Ok(Script {
                 resources: mem::replace(&mut reading.resources, NameTable::new(alloc)),
                 groups,
                 tasks: mem::replace(&mut reading.tasks, NameTable::new(alloc)),
-                steps: mem::replace(&mut reading.steps, Vec::new(alloc)),
+                steps,
             }),
             None => Err(ScriptErr::Memory),
         }

@@ -1,4 +1,7 @@
 // What a task does, statement by statement.
+ghost use Rattle.std.specs.Prelude.{◌≡◌};
+ghost use Rattle.rscript.specs.Sections.{ends_section};
+
 use rclaim::Request;
 use rset::ResourceSet;
 use rvalue::Edit;
@@ -18,4 +21,13 @@ pub enum Statement {
     Rise,
     /// The section ends.
     Finish,
+}
+
+impl Statement {
+    /// Whether a section ends with it.
+    pub fn ends_section(&self) -> bool
+        ensures { result ≡ ends_section self.now }
+    {
+        matches!(self, Statement::Finish)
+    }
 }
