@@ -1,11 +1,10 @@
 -- The seats of tasks that have ended.
-use Rattle.std.proofs.Common.{◌≡◌, ◌<◌, ℕ, Bool, false, List, map, length, Some, Result, Ok, Err, IfOk, sym, ap, subst, ◌∙◌}
+use Rattle.std.proofs.Common.{◌≡◌, ◌<◌, ℕ, false, Option, None, List, map, length, Some, Result, Ok, Err, IfOk, refl, sym, ap, subst, ◌∙◌}
 use Rattle.std.proofs.lemmas.Bool.{true≢false}
 use Rattle.std.proofs.lemmas.List.{length-map}
 use Rattle.std.specs.List.{list_any}
-use Rattle.std.specs.Prelude.{slice_get}
+use Rattle.std.specs.Prelude.{is_some, slice_get}
 use Rattle.rlock.specs.Known.{Site}
-use Rattle.rmodel.proofs.ListFacts.{false_from}
 use Rattle.rvalue.specs.declared.ledger.Edit.{Edit}
 use Rattle.rvalue.specs.declared.ledger.Ledger.{Ledger}
 use Rattle.rstate.proofs.homes.Lists.{same_item, get_map, get_there, any_here}
@@ -39,12 +38,13 @@ module _ {M : Type 0} (site : Site) (p : ScriptFields) (seats : List (SeatOf Led
     each = λ k last there. let e = task_of k last there in subst (IsSeatFor site p k) e.2 (are.seats_are k e.0 e.1);
   }
 
-  pub have_ended : (stopped : List Bool) → stopped ≡ map (λ (e : Ended M). e.stopped) ended → HaveEnded p stopped seats later
-  have_ended stopped flags k statements b seat last steps_is stopped_is seat_is there =
+  pub have_ended : (stopped : List (Option ℕ)) → stopped ≡ map (λ (e : Ended M). e.stopped) ended → HaveEnded p stopped seats later
+  have_ended stopped all k statements o seat last steps_is stopped_is seat_is there =
       let e = task_of k last there in
-      let same : e.0.stopped ≡ b = same_item e.0.stopped b (sym (ap (λ (bs : List Bool). slice_get bs k) flags ∙ get_map (λ (e : Ended M). e.stopped) ended k e.0 e.1) ∙ stopped_is) in
-      subst (λ (b : Bool). HasEnded statements seat b last) same (subst (HasEnded statements seat e.0.stopped) e.2 (are.each k statements seat e.0 steps_is seat_is e.1))
+      let same : e.0.stopped ≡ o = same_item e.0.stopped o (sym (ap (λ (os : List (Option ℕ)). slice_get os k) all ∙ get_map (λ (e : Ended M). e.stopped) ended k e.0 e.1) ∙ stopped_is) in
+      subst (λ (o : Option ℕ). HasEnded statements seat o last) same (subst (HasEnded statements seat e.0.stopped) e.2 (are.each k statements seat e.0 steps_is seat_is e.1))
 
 -- if no task was stopped
-pub not_stopped : (stopped : List Bool) (k : ℕ) (b : Bool) → list_any (λ (b : Bool). b) stopped ≡ false → slice_get stopped k ≡ Some b → b ≡ false
-not_stopped stopped k b none there = false_from b (λ h. true≢false (sym (any_here (λ (b : Bool). b) stopped k b there h) ∙ none))
+pub not_stopped : (stopped : List (Option ℕ)) (k : ℕ) (o : Option ℕ) → list_any is_some stopped ≡ false → slice_get stopped k ≡ Some o → o ≡ None
+not_stopped stopped k None none there = refl
+not_stopped stopped k (Some n) none there = absurd (true≢false (sym (any_here (λ (o : Option ℕ). is_some o) stopped k (Some n) there refl) ∙ none))

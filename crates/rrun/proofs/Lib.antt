@@ -6,6 +6,7 @@ pub mod Telling
 pub mod Standing
 pub mod Doing
 pub mod Stepping
+pub mod Breaking
 pub mod Running
 pub mod Whole
 pub mod Parts

@@ -1,5 +1,5 @@
 -- A run that monitors look at, from its seats to its looks.
-use Rattle.std.proofs.Common.{◌≡◌, ◌<◌, ℕ, Bool, List, map, length, Option, Some, None, Ok, sym, ap, subst, ◌∙◌}
+use Rattle.std.proofs.Common.{arith, ◌≡◌, ◌<◌, ℕ, List, map, length, Option, Some, None, Ok, sym, ap, subst, ◌∙◌}
 use Rattle.std.proofs.lemmas.List.{length-map}
 use Rattle.std.specs.Prelude.{All, Any, IsSome}
 use Rattle.rexpand.specs.Groups.{ReadGroups}
@@ -14,11 +14,13 @@ use Rattle.rvalue.specs.Ledgers.{value_after, is_taken}
 use Rattle.rguard.specs.Closing.{IsClosedBy}
 use Rattle.rlooks.specs.declared.lookout.TheConstants.{ROUNDS}
 use Rattle.rlooks.specs.declared.watch.Watch.{Watch}
+use Rattle.rlooks.specs.Lookouts.{Looking, GoesOn}
 use Rattle.rlooks.specs.Looks.{AreLooksAt}
 use Rattle.rlooks.specs.Watches.{IsNew, Watches, MayWatch, HasWatched, MayEnd}
 use Rattle.rlooks.specs.Workers.{events_in}
 use Rattle.rlooks.proofs.Beginning.{watches_at_first}
 use Rattle.rlooks.proofs.Closed.{may_end}
+use Rattle.rlooks.proofs.Going.{goes_further}
 use Rattle.rtrace_form.specs.Heads.{opening_of as begins_by}
 use Rattle.rtrace_write.specs.Report.{ReportFields, told_by}
 use Rattle.rrun.specs.Scripts.{ScriptFields, IsScript}
@@ -33,6 +35,12 @@ use Rattle.rrun.specs.declared.tasks.Ended.{Ended}
 use Rattle.rrun.proofs.Ending.{are_ready, are_there, are_ended}
 use Rattle.rrun.proofs.Left.{are_left, have_ended}
 use Rattle.rrun.proofs.Reported.{all_of, all_idle, all_there, is_report}
+
+-- looks that were not kept come after the rounds
+pub rounds_and_more : (rounds : ℕ) (a b c : Looking) → GoesOn rounds a b → GoesOn 0 b c → GoesOn rounds a c
+rounds_and_more rounds a b c p q =
+    let all = goes_further rounds 0 a b c p q in
+    record { feed = all.feed; opening = all.opening; seen = all.seen; looks = all.looks; count = omega (arith, p.count, q.count) }
 
 abbrev balance : Ledger → ℕ
 balance ledger = ledger.balance
@@ -64,7 +72,7 @@ module _ (p : ScriptFields) (script : IsScript p) (site : Site) (jobs : List (Jo
     pub all_there_after : All (λ (job : Job (SeatOf Ledger Edit)). IsSome job.seat) after
     all_there_after = are_there site p is.seats is.opened.seats_are jobs is.jobs_are script.paired after count done
 
-    module _ {M : Type 0} (later : List (SeatOf Ledger Edit)) (stopped : List Bool) (left : AreLeftBy M after later stopped) where
+    module _ {M : Type 0} (later : List (SeatOf Ledger Edit)) (stopped : List (Option ℕ)) (left : AreLeftBy M after later stopped) where
       ended_are : AreEnded {M = M} site p is.seats left.ended
       ended_are = are_ended site p is.seats is.opened.seats_are jobs is.jobs_are script.paired after count done {M = M} left.ended left.jobs_are
 
@@ -72,10 +80,10 @@ module _ (p : ScriptFields) (script : IsScript p) (site : Site) (jobs : List (Jo
       seats_left = are_left {M = M} site p is.seats left.ended ended_are later left.seats_are
 
       pub tasks_ended : HaveEnded p stopped is.seats later
-      tasks_ended = have_ended {M = M} site p is.seats left.ended ended_are later left.seats_are stopped left.flags_are
+      tasks_ended = have_ended {M = M} site p is.seats left.ended ended_are later left.seats_are stopped left.stopped_are
 
-      flags_count : length stopped ≡ length p.tasks
-      flags_count = ap length left.flags_are ∙ length-map left.ended (λ (e : Ended M). e.stopped) ∙ ended_are.count
+      stopped_count : length stopped ≡ length p.tasks
+      stopped_count = ap length left.stopped_are ∙ length-map left.ended (λ (e : Ended M). e.stopped) ∙ ended_are.count
 
       pub seats_of_it : All (λ seat. IsOf site seat) later
       seats_of_it = all_of p script None site is.seats is.opened later seats_left
@@ -87,12 +95,12 @@ module _ (p : ScriptFields) (script : IsScript p) (site : Site) (jobs : List (Jo
       every_seat = all_there p script None site is.seats is.opened later seats_left site.seats is.count
 
       pub closed_fed : (entries : List (EntryFields Edit)) (values : List Ledger) → All (λ seat. IsClosedBy value_after is_taken balance entries values seat) later → HasClosedFed p entries values stopped
-      closed_fed entries values closed = record { site = site; seats = is.seats; opened = is.opened; later = later; are = seats_left; flags = flags_count; ended = tasks_ended; closed = closed }
+      closed_fed entries values closed = record { site = site; seats = is.seats; opened = is.opened; later = later; are = seats_left; count = stopped_count; ended = tasks_ended; closed = closed }
 
 -- the report of such a run
-pub report_of_closed : (p : ScriptFields) (script : IsScript p) (entries : List (EntryFields Edit)) (values : List Ledger) (stopped : List Bool) → HasClosedFed p entries values stopped
+pub report_of_closed : (p : ScriptFields) (script : IsScript p) (entries : List (EntryFields Edit)) (values : List Ledger) (stopped : List (Option ℕ)) → HasClosedFed p entries values stopped
     → (r : ReportFields) → TellsHeadOf p r → r.entries ≡ entries → r.ledgers ≡ values → IsReportOfRun p stopped r
-report_of_closed p script entries values stopped is = is_report p script None is.site is.seats is.opened is.later is.are stopped is.flags is.ended entries values is.closed
+report_of_closed p script entries values stopped is = is_report p script None is.site is.seats is.opened is.later is.are stopped is.count is.ended entries values is.closed
 
 -- looks at its history are looks at the report
 pub looks_of_report : (p : ScriptFields) (r : ReportFields) (entries : List (EntryFields Edit)) (looks : List Look) → TellsHeadOf p r → r.entries ≡ entries

@@ -1,11 +1,11 @@
 -- The run of a script, from its seats to its report.
-use Rattle.std.proofs.Common.{◌≡◌, ◌<◌, ℕ, Bool, true, false, List, [], ◌∷◌, ◌++◌, map, length, replicate, Option, Some, sym, ap, subst, ◌∙◌, arith}
+use Rattle.std.proofs.Common.{◌≡◌, ◌<◌, ℕ, false, List, [], ◌∷◌, ◌++◌, map, length, replicate, Option, Some, None, sym, ap, subst, ◌∙◌, arith}
 use Rattle.std.proofs.lemmas.Bool.{true≢false}
 use Rattle.std.proofs.lemmas.List.{length-replicate}
 use Rattle.std.proofs.lemmas.List.FromFn.{fill_by_all}
 use Rattle.std.proofs.lemmas.Option.{get_or_from_slice_get}
 use Rattle.std.specs.List.{range_with_len, list_any}
-use Rattle.std.specs.Prelude.{slice_get, All, Any}
+use Rattle.std.specs.Prelude.{is_some, slice_get, All, Any}
 use Rattle.rclaim.specs.Events.{seat_of}
 use Rattle.rlock.specs.Known.{Site, newcomer, entries_by}
 use Rattle.rexpand.specs.Groups.{ReadGroups}
@@ -79,14 +79,14 @@ has_opened p watched site seats state values contents n state_is values_are n_is
 -- ---- the end
 
 -- a seat has gone on with the entries of its task, or of a part of it
-record HasGone (b : Bool) (statements : List Statement) (seat last : SeatOf Ledger Edit) : Type 0 where
+record HasGone (o : Option ℕ) (statements : List Statement) (seat last : SeatOf Ledger Edit) : Type 0 where
   more : List (EntryFields Edit)
   goes : Goes seat more last
-  told : HasTold b seat.number statements more
+  told : HasTold o seat.number statements more
 
-has_gone : (b : Bool) (statements : List Statement) (seat last : SeatOf Ledger Edit) → HasEnded statements seat b last → HasGone b statements seat last
-has_gone false statements seat last ran = record { more = ran.more; goes = ran.goes; told = ran.run }
-has_gone true statements seat last broken = record { more = broken.more; goes = broken.goes; told = broken.run }
+has_gone : (o : Option ℕ) (statements : List Statement) (seat last : SeatOf Ledger Edit) → HasEnded statements seat o last → HasGone o statements seat last
+has_gone None statements seat last ran = record { more = ran.more; goes = ran.goes; told = ran.run }
+has_gone (Some k) statements seat last broken = record { more = broken.more; goes = broken.goes; told = broken.run }
 
 module _ (p : ScriptFields) (script : IsScript p) (watched : Option (List Seen)) (site : Site) (seats : List (SeatOf Ledger Edit)) (opened : HasOpened p watched site seats) (later : List (SeatOf Ledger Edit)) (are : AreSeatsFor site p later) where
   at : (k : ℕ) → k < length p.tasks → (last : SeatOf Ledger Edit) × (slice_get later k ≡ Some last)
@@ -107,7 +107,7 @@ module _ (p : ScriptFields) (script : IsScript p) (watched : Option (List Seen))
       let last = at n some in
       (n, last.0, subst (λ m. n < m) (sym are.count) some, get_or_from_slice_get later n last.0 last.0 last.1, (are.each n last.0 last.1).number)
 
-  module _ (stopped : List Bool) (flags : length stopped ≡ length p.tasks) (ran : HaveEnded p stopped seats later) (entries : List (EntryFields Edit)) (values : List Ledger)
+  module _ (stopped : List (Option ℕ)) (count : length stopped ≡ length p.tasks) (ran : HaveEnded p stopped seats later) (entries : List (EntryFields Edit)) (values : List Ledger)
       (closed : All (λ seat. IsClosedBy value_after is_taken (λ (ledger : Ledger). ledger.balance) entries values seat) later) where
     closed_at : (k : ℕ) (last : SeatOf Ledger Edit) → slice_get later k ≡ Some last → IsClosedBy value_after is_taken (λ (ledger : Ledger). ledger.balance) entries values last
     closed_at k last there =
@@ -120,20 +120,20 @@ module _ (p : ScriptFields) (script : IsScript p) (watched : Option (List Seen))
     steps_within k statements steps_is = subst (λ n. k < n) script.paired (less_from_slice_get p.steps k statements steps_is)
 
     -- how a task ended
-    went : (k : ℕ) → k < length p.tasks → (statements : List Statement) → slice_get p.steps k ≡ Some statements → (b : Bool) → slice_get stopped k ≡ Some b
-        → (seat last : SeatOf Ledger Edit) → slice_get seats k ≡ Some seat → slice_get later k ≡ Some last → HasGone b statements seat last
-    went k less statements steps_is b stopped_is seat last seat_is last_is = has_gone b statements seat last (ran k statements b seat last steps_is stopped_is seat_is last_is)
+    went : (k : ℕ) → k < length p.tasks → (statements : List Statement) → slice_get p.steps k ≡ Some statements → (o : Option ℕ) → slice_get stopped k ≡ Some o
+        → (seat last : SeatOf Ledger Edit) → slice_get seats k ≡ Some seat → slice_get later k ≡ Some last → HasGone o statements seat last
+    went k less statements steps_is o stopped_is seat last seat_is last_is = has_gone o statements seat last (ran k statements o seat last steps_is stopped_is seat_is last_is)
 
-    pub each_told : (k : ℕ) (statements : List Statement) → slice_get p.steps k ≡ Some statements → (b : Bool) → slice_get stopped k ≡ Some b
-        → HasTold b k statements (entries_by (λ (entry : EntryFields Edit). seat_of entry.event) k entries)
-    each_told k statements steps_is b stopped_is =
+    pub each_told : (k : ℕ) (statements : List Statement) → slice_get p.steps k ≡ Some statements → (o : Option ℕ) → slice_get stopped k ≡ Some o
+        → HasTold o k statements (entries_by (λ (entry : EntryFields Edit). seat_of entry.event) k entries)
+    each_told k statements steps_is o stopped_is =
         let less = steps_within k statements steps_is in
         let seat = seat_at k less in
         let last = at k less in
-        let gone = went k less statements steps_is b stopped_is seat.0 last.0 seat.1 last.1 in
+        let gone = went k less statements steps_is o stopped_is seat.0 last.0 seat.1 last.1 in
         let own : entries_by (λ (entry : EntryFields Edit). seat_of entry.event) k entries ≡ gone.more =
         ap (λ n. entries_by (λ (entry : EntryFields Edit). seat_of entry.event) n entries) (sym (are.each k last.0 last.1).number) ∙ (closed_at k last.0 last.1).own ∙ gone.goes.mine ∙ ap (λ (es : List (EntryFields Edit)). es ++ gone.more) (opened.nothing_made k seat.0 seat.1) in
-        subst (HasTold b k statements) (sym own) (subst (λ n. HasTold b n statements gone.more) (opened.seats_are.each k seat.0 seat.1).number gone.told)
+        subst (HasTold o k statements) (sym own) (subst (λ n. HasTold o n statements gone.more) (opened.seats_are.each k seat.0 seat.1).number gone.told)
 
     some_task : 0 < length p.tasks
     some_task = filled p.tasks script.some_task
@@ -148,8 +148,8 @@ module _ (p : ScriptFields) (script : IsScript p) (watched : Option (List Seen))
         let seat = seat_at 0 some_task in
         let last = at 0 some_task in
         let statements = get_there p.steps 0 (subst (λ n. 0 < n) (sym script.paired) some_task) in
-        let flag = get_there stopped 0 (subst (λ n. 0 < n) (sym flags) some_task) in
-        let gone = went 0 some_task statements.0 statements.1 flag.0 flag.1 seat.0 last.0 seat.1 last.1 in
+        let it = get_there stopped 0 (subst (λ n. 0 < n) (sym count) some_task) in
+        let gone = went 0 some_task statements.0 statements.1 it.0 it.1 seat.0 last.0 seat.1 last.1 in
         gone.goes.same.2 ∙ opened.begins 0 seat.0 seat.1
 
     is_left : IsLeft value_after is_taken (λ (ledger : Ledger). ledger.balance) (beginning_of p watched) entries values
@@ -177,12 +177,12 @@ module _ (p : ScriptFields) (script : IsScript p) (watched : Option (List Seen))
 
     pub is_report : (r : ReportFields) → TellsHeadOf p r → r.entries ≡ entries → r.ledgers ≡ values → IsReportOfRun p stopped r
     is_report r head entries_are ledgers_are = record {
-      count = flags;
+      count = count;
       is = record {
         head = head;
         lawful = subst (λ (es : List (EntryFields Edit)). IsLawful (told_by r).head es) (sym entries_are) (lawful_report (told_by r).head head.resources (ap (λ g. g.groups) head.groups) head.tasks head.cap);
-        each = λ k statements steps_is b stopped_is.
-            subst (λ (es : List (EntryFields Edit)). HasTold b k statements (entries_by (λ (entry : EntryFields Edit). seat_of entry.event) k es)) (sym entries_are) (each_told k statements steps_is b stopped_is);
+        each = λ k statements steps_is o stopped_is.
+            subst (λ (es : List (EntryFields Edit)). HasTold o k statements (entries_by (λ (entry : EntryFields Edit). seat_of entry.event) k es)) (sym entries_are) (each_told k statements steps_is o stopped_is);
         over = ap (λ g. g.q) head.groups ∙ ap length (sym head.resources);
         ledgers = ledgers_are ∙ its_ledgers ∙ (λ i. map (ledger_after (sym entries_are i)) (range_with_len 0 (length (sym head.resources i))));
       };
@@ -200,13 +200,13 @@ module _ (p : ScriptFields) (script : IsScript p) (watched : Option (List Seen))
         watched)
 
 -- the run of a script in which no task was stopped
-pub is_whole : (p : ScriptFields) (script : IsScript p) (stopped : List Bool) (r : ReportFields) → list_any (λ (b : Bool). b) stopped ≡ false → IsReportOfRun p stopped r → IsReportOf p r
+pub is_whole : (p : ScriptFields) (script : IsScript p) (stopped : List (Option ℕ)) (r : ReportFields) → list_any is_some stopped ≡ false → IsReportOfRun p stopped r → IsReportOf p r
 is_whole p script stopped r none run = record {
   head = run.is.head;
   lawful = run.is.lawful;
   each = λ k statements steps_is.
-      let flag = get_there stopped k (subst (λ n. k < n) (script.paired ∙ sym run.count) (less_from_slice_get p.steps k statements steps_is)) in
-      subst (λ (b : Bool). HasTold b k statements (entries_by (λ (entry : EntryFields Edit). seat_of entry.event) k r.entries)) (not_stopped stopped k flag.0 none flag.1) (run.is.each k statements steps_is flag.0 flag.1);
+      let it = get_there stopped k (subst (λ n. k < n) (script.paired ∙ sym run.count) (less_from_slice_get p.steps k statements steps_is)) in
+      subst (λ (o : Option ℕ). HasTold o k statements (entries_by (λ (entry : EntryFields Edit). seat_of entry.event) k r.entries)) (not_stopped stopped k it.0 none it.1) (run.is.each k statements steps_is it.0 it.1);
   over = run.is.over;
   ledgers = run.is.ledgers;
 }

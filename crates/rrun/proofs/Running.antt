@@ -1,7 +1,7 @@
 -- Statements one after another.
-use Rattle.std.proofs.Common.{◌≡◌, ℕ, ◌+◌, ◌<◌, ◌≤◌, Bool, true, false, List, [], ◌∷◌, ◌++◌, fold, take, drop, length, get_or, Option, Some, None, refl, sym, ap, subst, ◌∙◌, append-nil, append_assoc}
+use Rattle.std.proofs.Common.{◌≡◌, ℕ, ◌+◌, ◌-◌, ◌^◌, ◌<◌, ◌≤◌, Bool, true, false, cond, List, [], ◌∷◌, ◌++◌, fold, take, drop, length, get_or, Option, Some, None, refl, sym, ap, subst, ◌∙◌, append-nil, append_assoc, arith}
 use Rattle.std.proofs.lemmas.Bool.{true≢false}
-use Rattle.std.proofs.lemmas.List.{map-append, take_more, drop_more, drop_all}
+use Rattle.std.proofs.lemmas.List.{map-append, length-take, take_more, drop_more, drop_all}
 use Rattle.std.proofs.lemmas.List.Sums.{fold-append}
 use Rattle.rclaim.specs.declared.event.Event.{Event}
 use Rattle.rclaim.specs.declared.event.Event.TheVariants.{Issue, Finish, Rise, Ask}
@@ -19,7 +19,9 @@ use Rattle.rrun.specs.declared.desk.Desk.{Desk}
 use Rattle.rrun.specs.declared.desk.Desk.TheVariants.{Idle, Busy}
 use Rattle.rrun.specs.Desks.{seat_in, section_in, IsAt, IsBehind, HasStepped, HasLeft}
 use Rattle.rrun.specs.Runs.{Told, told_by, deeds_next, entry_now, run_of, broken_off, HasBrokenOff}
+use Rattle.rrun.specs.Sections.{ends_section}
 use Rattle.rrun.specs.Working.{section_told, section_made, FitsIn, AreWhole, AreWholeAt}
+use Rattle.rrun.proofs.Breaking.{IsCut, sections_in, one_more, no_more_than, cut_at, cut_run}
 
 -- ---- an idle seat is in no section
 
@@ -65,6 +67,17 @@ ahead_of xs i x less is = drop_more xs i x less ∙ ap (λ (y : Statement). y �
 behind_of : (xs : List Statement) (i : ℕ) (x : Statement) → i < length xs → x ≡ get_or xs i x → take (i + 1) xs ≡ take i xs ++ x ∷ []
 behind_of xs i x less is = take_more xs i x less ∙ ap (λ (y : Statement). take i xs ++ y ∷ []) (sym is)
 
+-- how many whole sections there are with one more statement
+pub counted : (xs : List Statement) (i : ℕ) (x : Statement) (before now : ℕ) → i < length xs → x ≡ get_or xs i x → before ≡ sections_in (take i xs) → now ≡ before + cond (ends_section x) 1 0 → now ≡ sections_in (take (i + 1) xs)
+counted xs i x before now less is was made = made ∙ ap (λ (k : ℕ). k + cond (ends_section x) 1 0) was ∙ sym (ap sections_in (behind_of xs i x less is) ∙ one_more (take i xs) x)
+
+-- they are fewer than the statements
+pub few : (xs : List Statement) (i before : ℕ) → i < length xs → before ≡ sections_in (take i xs) → length xs < 2 ^ 64 → before < 2 ^ 64 - 1
+few xs i before less was small =
+    let fewer = no_more_than (take i xs) in
+    let taken = length-take i xs in
+    omega (arith, less, was, small, fewer, taken)
+
 -- ---- the loop
 
 module _ {M : Type 0} where
@@ -104,17 +117,20 @@ module _ {M : Type 0} where
   pub at_end : (seat : SeatOf Ledger Edit) (steps : List Statement) (i : ℕ) (desk : Desk M) → length steps ≤ i → IsBehind {M = M} seat (take i steps) (drop i steps) desk → (b : Beginning Ledger) → seat.opening ≡ Some b → section_in desk ≡ None
   at_end seat steps i desk over h b opens = subst (AreWhole b.groups.q b.groups.groups (section_in desk)) (drop_all i steps over) (h.whole b opens)
 
-  pub broken_there : (seat : SeatOf Ledger Edit) (steps ahead : List Statement) (i : ℕ) (desk : Desk M) (later : SeatOf Ledger Edit) → i < length steps → IsBehind {M = M} seat (take i steps) ahead desk → HasLeft (seat_in desk) later
-      → HasBrokenOff steps seat later
-  broken_there seat steps ahead i desk later some h left = record {
+  pub broken_there : (seat : SeatOf Ledger Edit) (steps ahead : List Statement) (i sections : ℕ) (desk : Desk M) (later : SeatOf Ledger Edit) → i < length steps → sections ≡ sections_in (take i steps)
+      → IsBehind {M = M} seat (take i steps) ahead desk → HasLeft (seat_in desk) later → HasBrokenOff sections steps seat later
+  broken_there seat steps ahead i sections desk later some count h left = record {
     more = h.more ++ left.more;
     goes = goes_on seat (seat_in desk) later h.more left.more h.goes left.goes;
     run = record {
-      count = i;
-      some = some;
-      are = map-append told_by h.more left.more ∙ (λ j. h.run j ++ (left.run ∙ (λ k. broken_off (h.goes.same.1 k) (h.section k))) j);
+      count = cut.count;
+      some = cut.some;
+      are = map-append told_by h.more left.more ∙ (λ j. h.run j ++ (left.run ∙ (λ k. broken_off (h.goes.same.1 k) (h.section k))) j) ∙ cut_run seat.number sections (take i steps) steps cut;
     };
   }
+    where
+      cut : IsCut sections (take i steps) steps
+      cut = subst (λ (k : ℕ). IsCut k (take i steps) steps) (sym count) (cut_at i steps some)
 
   pub not_busy : (desk : Desk M) (guard : Guard Ledger M Edit) → desk ≡ Busy guard → IsAt desk → section_in desk ≡ None → ⊥
   not_busy desk guard is at none =

@@ -1,6 +1,6 @@
 -- The report of a run may be written: each act of its history carries out a statement of the script, whose amounts fit
 -- in a field.
-use Rattle.std.proofs.Common.{◌≡◌, ◌<◌, ◌^◌, ◌==◌, ℕ, zero, suc, Bool, true, false, List, [], ◌∷◌, ◌++◌, map, take, length, Option, Some, None, refl, sym, ap, subst, ◌∙◌, arith}
+use Rattle.std.proofs.Common.{◌≡◌, ◌<◌, ◌^◌, ◌==◌, ℕ, zero, suc, ◌-◌, Bool, true, false, cond, List, [], ◌∷◌, ◌++◌, map, take, length, Option, Some, None, refl, sym, ap, subst, ◌∙◌, arith}
 use Rattle.std.proofs.lemmas.Bool.{eq-eqb}
 use Rattle.std.specs.List.{AllByRecursion}
 use Rattle.std.specs.Prelude.{IsTrue}
@@ -35,7 +35,8 @@ use Rattle.rrun.specs.Statement.TheVariants as statement
 use Rattle.rrun.specs.Scripts.{ScriptFields, IsScript}
 use Rattle.rrun.proofs.Tasks.{task_at}
 use Rattle.rrun.specs.Reporting.{HasTold, IsReportOfRun}
-use Rattle.rrun.specs.Runs.{Told, told_by, deed_of, deeds_next, entry_now, run_of, broken_off}
+use Rattle.rrun.specs.Runs.{Told, told_by, deed_of, deeds_next, entry_now, run_of, part_of, broken_off}
+use Rattle.rrun.specs.Sections.{ends_section, first_sections, behind_sections, first_section, section_at}
 
 -- ---- statements
 
@@ -97,6 +98,27 @@ front_has zero ss all = tt
 front_has (suc count) [] all = tt
 front_has (suc count) (s ∷ ss) all = (all.0, front_has count ss all.1)
 
+-- ---- sections
+
+either_has : (b : Bool) (xs ys : List Statement) → AllByRecursion HasAmount xs → AllByRecursion HasAmount ys → AllByRecursion HasAmount (cond b xs ys)
+either_has true xs ys all others = all
+either_has false xs ys all others = others
+
+first_has : (k : ℕ) (ss : List Statement) → AllByRecursion HasAmount ss → AllByRecursion HasAmount (first_sections k ss)
+first_has k [] all = tt
+first_has k (s ∷ ss) all = either_has (k == 0) [] (s ∷ first_sections (cond (ends_section s) (k - 1) k) ss) tt (all.0, first_has (cond (ends_section s) (k - 1) k) ss all.1)
+
+behind_has : (k : ℕ) (ss : List Statement) → AllByRecursion HasAmount ss → AllByRecursion HasAmount (behind_sections k ss)
+behind_has k [] all = tt
+behind_has k (s ∷ ss) all = either_has (k == 0) (s ∷ ss) (behind_sections (cond (ends_section s) (k - 1) k) ss) all (behind_has (cond (ends_section s) (k - 1) k) ss all.1)
+
+one_has : (ss : List Statement) → AllByRecursion HasAmount ss → AllByRecursion HasAmount (first_section ss)
+one_has [] all = tt
+one_has (s ∷ ss) all = (all.0, either_has (ends_section s) [] (first_section ss) tt (one_has ss all.1))
+
+part_has : (n : ℕ) (front : List Statement) → AllByRecursion HasAmount front → AllByRecursion HasAmounts (part_of n front)
+part_has n front all = all_append HasAmounts (run_of n [] front) (broken_off n (section_after front)) (run_has n [] front tt all) (broken_has n (section_after front))
+
 -- ---- entries and their acts
 
 abbrev IsTellableEntry : EntryFields Edit → Type 0
@@ -117,12 +139,13 @@ entries_tellable [] has = tt
 entries_tellable (entry ∷ entries) has = (acts_tellable entry.acts has.0, entries_tellable entries has.1)
 
 -- the acts of a task that has run, or has run in part
-task_tellable : (b : Bool) (n : ℕ) (ss : List Statement) (entries : List (EntryFields Edit)) → AllByRecursion HasAmount ss → HasTold b n ss entries → AllByRecursion IsTellableEntry entries
-task_tellable false n ss entries all ran = entries_tellable entries (subst (AllByRecursion HasAmounts) (sym ran) (run_has n [] ss tt all))
-task_tellable true n ss entries all part =
-    let front = take part.count ss in
+task_tellable : (o : Option ℕ) (n : ℕ) (ss : List Statement) (entries : List (EntryFields Edit)) → AllByRecursion HasAmount ss → HasTold o n ss entries → AllByRecursion IsTellableEntry entries
+task_tellable None n ss entries all ran = entries_tellable entries (subst (AllByRecursion HasAmounts) (sym ran) (run_has n [] ss tt all))
+task_tellable (Some k) n ss entries all part =
+    let whole = first_sections k ss in
+    let front = take part.count (section_at k ss) in
     entries_tellable entries (subst (AllByRecursion HasAmounts) (sym part.are)
-    (all_append HasAmounts (run_of n [] front) (broken_off n (section_after front)) (run_has n [] front tt (front_has part.count ss all)) (broken_has n (section_after front))))
+    (all_append HasAmounts (run_of n [] whole) (part_of n front) (run_has n [] whole tt (first_has k ss all)) (part_has n front (front_has part.count (section_at k ss) (one_has (behind_sections k ss) (behind_has k ss all))))))
 
 -- ---- each entry of a lawful history is of a task
 
@@ -141,14 +164,14 @@ seats_there head earlier (entry ∷ entries) turns = (
 
 -- ---- the report
 
-module _ (p : ScriptFields) (script : IsScript p) (stopped : List Bool) (r : ReportFields) (run : IsReportOfRun p stopped r) where
+module _ (p : ScriptFields) (script : IsScript p) (stopped : List (Option ℕ)) (r : ReportFields) (run : IsReportOfRun p stopped r) where
   -- the entries of a task are the run of its statements, or of a part of them
   by_task : (k : ℕ) → k < length p.tasks → AllByRecursion IsTellableEntry (entries_by (λ (entry : EntryFields Edit). seat_of entry.event) k r.entries)
   by_task k less =
       let statements = get_there p.steps k (subst (λ n. k < n) (sym script.paired) less) in
       let all = of_turns (length p.resources) p.groups [] statements.0 (task_at p k statements.0 script statements.1).turns in
-      let flag = get_there stopped k (subst (λ n. k < n) (sym run.count) less) in
-      task_tellable flag.0 k statements.0 (entries_by (λ (entry : EntryFields Edit). seat_of entry.event) k r.entries) all (run.is.each k statements.0 statements.1 flag.0 flag.1)
+      let it = get_there stopped k (subst (λ n. k < n) (sym run.count) less) in
+      task_tellable it.0 k statements.0 (entries_by (λ (entry : EntryFields Edit). seat_of entry.event) k r.entries) all (run.is.each k statements.0 statements.1 it.0 it.1)
 
   -- and each entry belongs to a task
   amounts : AllByRecursion IsTellableEntry r.entries

@@ -1,5 +1,5 @@
 -- A run that monitors look at.
-use Rattle.std.specs.Prelude.{◌≡◌, ℕ, Bool, All, Option, Some, None, List, length, map}
+use Rattle.std.specs.Prelude.{◌≡◌, ℕ, All, Option, Some, None, List, length, map}
 use Rattle.rclaim.specs.declared.event.Event.{Event}
 use Rattle.rlock.specs.Known.{Site, newcomer}
 use Rattle.rlooks.specs.Looks.{AreLooksAt}
@@ -43,12 +43,12 @@ pub record HasGathered (p : ScriptFields) (site : Site) (jobs : List (Job (SeatO
   pub new : scribe ≡ newcomer site.gate site.seats (beginning_of p None) contents
 
 -- the runtime of a script was closed with these entries and values: each of its tasks has run, or a part of it if it was stopped
-pub record HasClosedFed (p : ScriptFields) (entries : List (EntryFields Edit)) (values : List Ledger) (stopped : List Bool) : Type 0 where
+pub record HasClosedFed (p : ScriptFields) (entries : List (EntryFields Edit)) (values : List Ledger) (stopped : List (Option ℕ)) : Type 0 where
   pub site : Site
   pub seats : List (SeatOf Ledger Edit)
   pub opened : HasOpened p None site seats
   pub later : List (SeatOf Ledger Edit)
   pub are : AreSeatsFor site p later
-  pub flags : length stopped ≡ length p.tasks
+  pub count : length stopped ≡ length p.tasks
   pub ended : HaveEnded p stopped seats later
   pub closed : All (λ seat. IsClosedBy value_after is_taken (λ (ledger : Ledger). ledger.balance) entries values seat) later

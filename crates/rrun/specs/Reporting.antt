@@ -1,5 +1,5 @@
 -- The report of a script's run.
-use Rattle.std.specs.Prelude.{◌≡◌, ℕ, Bool, true, false, Option, Some, List, [], length, replicate, slice_get}
+use Rattle.std.specs.Prelude.{◌≡◌, ℕ, Option, Some, None, List, [], length, replicate, slice_get}
 use Rattle.rclaim.specs.Events.{seat_of}
 use Rattle.rlock.specs.Known.{Site, entries_by}
 use Rattle.rvalue.specs.declared.ledger.Edit.{Edit}
@@ -33,11 +33,12 @@ pub record HasOpened (p : ScriptFields) (watched : Option (List Seen)) (site : S
   pub begins : (k : ℕ) (seat : SeatOf Ledger Edit) → slice_get seats k ≡ Some seat → seat.opening ≡ Some (beginning_of p watched)
   pub nothing_made : (k : ℕ) (seat : SeatOf Ledger Edit) → slice_get seats k ≡ Some seat → seat.mine ≡ []
 
--- each of the seats has run its task, or a part of it if the task was stopped
-abbrev pub HaveEnded : ScriptFields → List Bool → List (SeatOf Ledger Edit) → List (SeatOf Ledger Edit) → Type 0
+-- each of the seats has run its task, or, if the task was stopped, as many whole sections of it as this says, and a part of the
+-- next
+abbrev pub HaveEnded : ScriptFields → List (Option ℕ) → List (SeatOf Ledger Edit) → List (SeatOf Ledger Edit) → Type 0
 HaveEnded p stopped seats later =
-    (k : ℕ) (statements : List Statement) (b : Bool) (seat last : SeatOf Ledger Edit) → slice_get p.steps k ≡ Some statements → slice_get stopped k ≡ Some b
-    → slice_get seats k ≡ Some seat → slice_get later k ≡ Some last → HasEnded statements seat b last
+    (k : ℕ) (statements : List Statement) (o : Option ℕ) (seat last : SeatOf Ledger Edit) → slice_get p.steps k ≡ Some statements → slice_get stopped k ≡ Some o
+    → slice_get seats k ≡ Some seat → slice_get later k ≡ Some last → HasEnded statements seat o last
 
 -- the report says what the script declares, with a cap of one request for each task
 pub record TellsHeadOf (p : ScriptFields) (r : ReportFields) : Type 0 where
@@ -63,13 +64,14 @@ pub record IsReportBy (Ran : Runs) (p : ScriptFields) (r : ReportFields) : Type 
 abbrev pub IsReportOf : ScriptFields → ReportFields → Type 0
 IsReportOf = IsReportBy IsRunOf
 
--- the entries of a task are the run of its statements, or, if it was stopped, a part of that, never the whole, whose
--- last section is broken off without its acts
-abbrev pub HasTold : Bool → Runs
-HasTold false = IsRunOf
-HasTold true = IsPartialRunOf
+-- the entries of a task are the run of its statements, or, if it was stopped after k whole sections, the run of just those and
+-- a part of the next one, which is broken off without its acts
+abbrev pub HasTold : Option ℕ → Runs
+HasTold None = IsRunOf
+HasTold (Some k) = IsPartialRunOf k
 
--- *The run of a script whose tasks may have been stopped*, with a truth value for each task that says whether it was
-pub record IsReportOfRun (p : ScriptFields) (stopped : List Bool) (r : ReportFields) : Type 0 where
+-- *The run of a script whose tasks may have been stopped*: for each task, by number, after how many whole sections it was
+-- stopped, if it was. A task that was stopped after k of them was in the section number k + 1, counted from 1
+pub record IsReportOfRun (p : ScriptFields) (stopped : List (Option ℕ)) (r : ReportFields) : Type 0 where
   pub count : length stopped ≡ length p.tasks
-  pub is : IsReportBy (λ k statements entries. (b : Bool) → slice_get stopped k ≡ Some b → HasTold b k statements entries) p r
+  pub is : IsReportBy (λ k statements entries. (o : Option ℕ) → slice_get stopped k ≡ Some o → HasTold o k statements entries) p r

@@ -12,6 +12,7 @@ use Rattle.rscript.specs.declared.section.OpenSection.{OpenSection}
 use Rattle.rscript.specs.declared.statement.Statement.{Statement}
 use Rattle.rscript.specs.declared.statement.Statement.TheVariants as statement
 use Rattle.rguard.specs.Seats.{SeatOf, Goes}
+use Rattle.rrun.specs.Sections.{first_sections, section_at}
 
 -- the statement that an act carries out, whatever answer it got
 abbrev pub deed_of : Act Edit → Statement
@@ -61,12 +62,17 @@ abbrev pub broken_off : ℕ → Option OpenSection → List Told
 broken_off n None = []
 broken_off n (Some section) = record { event = events.Finish n; deeds = [] } ∷ []
 
--- *A partial run*: the entries are what the first statements make, and the end of the section that is open after them.
--- It is never the whole run: at least one statement was not carried out
-pub record IsPartialRunOf (n : ℕ) (statements : List Statement) (entries : List (EntryFields Edit)) : Type 0 where
+-- the entries of a section in which no more than its first statements were carried out: what these make, and the end of the
+-- section if it was begun
+abbrev pub part_of : ℕ → List Statement → List Told
+part_of n front = run_of n [] front ++ broken_off n (section_after front)
+
+-- *A partial run*, of k whole sections and a part of the next: the entries are what the first k sections make, and then those
+-- of the next one, which is broken off. That one is never whole: at least one statement of it was not carried out
+pub record IsPartialRunOf (k n : ℕ) (statements : List Statement) (entries : List (EntryFields Edit)) : Type 0 where
   pub count : ℕ
-  pub some : count < length statements
-  pub are : map told_by entries ≡ run_of n [] (take count statements) ++ broken_off n (section_after (take count statements))
+  pub some : count < length (section_at k statements)
+  pub are : map told_by entries ≡ run_of n [] (first_sections k statements) ++ part_of n (take count (section_at k statements))
 
 -- ---- what a seat has done
 
@@ -76,8 +82,8 @@ pub record HasRun (statements : List Statement) (seat later : SeatOf Ledger Edit
   pub goes : Goes seat more later
   pub run : IsRunOf seat.number statements more
 
--- the seat has carried out some of them, and has broken off
-pub record HasBrokenOff (statements : List Statement) (seat later : SeatOf Ledger Edit) : Type 0 where
+-- the seat has carried out k whole sections of them, and has broken off in the next
+pub record HasBrokenOff (k : ℕ) (statements : List Statement) (seat later : SeatOf Ledger Edit) : Type 0 where
   pub more : List (EntryFields Edit)
   pub goes : Goes seat more later
-  pub run : IsPartialRunOf seat.number statements more
+  pub run : IsPartialRunOf k seat.number statements more

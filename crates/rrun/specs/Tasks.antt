@@ -1,5 +1,5 @@
 -- Tasks of a script at a runtime: which seats may run them, and what the seats have done then.
-use Rattle.std.specs.Prelude.{◌≡◌, ℕ, Bool, true, false, Some, List, length, slice_get}
+use Rattle.std.specs.Prelude.{◌≡◌, ℕ, Option, Some, None, List, length, slice_get}
 use Rattle.rlock.specs.Known.{Site}
 use Rattle.rvalue.specs.declared.ledger.Edit.{Edit}
 use Rattle.rvalue.specs.declared.ledger.Ledger.{Ledger}
@@ -14,7 +14,8 @@ pub record AreSeatsFor (site : Site) (p : ScriptFields) (seats : List (SeatOf Le
   pub count : length seats ≡ length p.tasks
   pub each : (k : ℕ) (seat : SeatOf Ledger Edit) → slice_get seats k ≡ Some seat → IsSeatFor site p k seat
 
--- a seat has run the statements, or, if it was stopped, a part of them, whose last section is broken off
-abbrev pub HasEnded : List Statement → SeatOf Ledger Edit → Bool → SeatOf Ledger Edit → Type 0
-HasEnded statements seat false later = HasRun statements seat later
-HasEnded statements seat true later = HasBrokenOff statements seat later
+-- a seat has run the statements, or, if it was stopped after k whole sections, just those and a part of the next, which is
+-- broken off
+abbrev pub HasEnded : List Statement → SeatOf Ledger Edit → Option ℕ → SeatOf Ledger Edit → Type 0
+HasEnded statements seat None later = HasRun statements seat later
+HasEnded statements seat (Some k) later = HasBrokenOff k statements seat later

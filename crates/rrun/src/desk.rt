@@ -15,3 +15,13 @@ pub(crate) struct At {
     pub(crate) task: u8,
     pub(crate) section: u64,
 }
+
+impl At {
+    /// The same task after so many sections more.
+    pub(crate) fn after(self, sections: u64) -> At {
+        At {
+            task: self.task,
+            section: self.section.wrapping_add(sections),
+        }
+    }
+}

@@ -14,11 +14,12 @@ use std::sync::Wait;
 use std::thread;
 use std::thread::Threads;
 
-/// A task with its seat, which is away only while its worker has it.
+/// A task with its seat, which is away only while its worker has it; and after how many whole sections it was stopped, if it
+/// was.
 #[derive(Drop)]
 pub(crate) struct Job<P> {
     pub(crate) seat: Option<P>,
-    pub(crate) stopped: bool,
+    pub(crate) stopped: Option<u64>,
 }
 
 /// A job with a seat of a runtime.
@@ -43,11 +44,11 @@ fn work<R: Wait, M: Machine, G: Pace>(
     match run_task(rt, alloc, rnlp, seat, script, task, pace) {
         Ok(seat) => {
             job.seat = Some(seat);
-            job.stopped = false;
+            job.stopped = None;
         }
-        Err((seat, _)) => {
-            job.seat = Some(seat);
-            job.stopped = true;
+        Err(broken) => {
+            job.seat = Some(broken.seat);
+            job.stopped = Some(broken.sections);
         }
     }
 }

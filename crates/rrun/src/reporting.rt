@@ -13,7 +13,7 @@ use rvalue::Ledger;
 use std::alloc::{AllocError, Global};
 use std::sync::Arc;
 
-/// The run that a closed runtime leaves, where these tasks were stopped.
+/// The run that a closed runtime leaves, where the tasks were stopped after so many sections.
 ///
 /// # Errors
 ///
@@ -22,7 +22,7 @@ pub fn run_of(
     alloc: Global,
     script: &Script,
     closed: Closed<Ledger>,
-    stopped: Vec<bool>,
+    stopped: Vec<Option<u64>>,
 ) -> Result<Run, AllocError>
     ensures head { IfOk result (λ run. TellsHeadOf script.now run.report) }
     ensures entries { IfOk result (λ run. run.report.entries ≡ closed.0.entries) }

@@ -1,5 +1,5 @@
 //! The run of a script, from its beginning to its report.
-ghost use Rattle.std.specs.Prelude.{◌≡◌, ◌≤◌, [], false, map, replicate, length, vec_capacity, All, IsSome, IfOk};
+ghost use Rattle.std.specs.Prelude.{◌≡◌, ◌≤◌, [], true, false, is_some, map, replicate, length, vec_capacity, All, IsSome, IfOk, IfErr, OnErr};
 ghost use Rattle.std.specs.List.{list_any};
 ghost use Rattle.rtrace_form.specs.Written.{MayBeWritten};
 ghost use Rattle.rtrace_write.specs.Report.{told_by};
@@ -11,6 +11,7 @@ ghost use Rattle.rrun.specs.Steps.{list_steps, opening_for};
 ghost use Rattle.rwatch.specs.Seen.{watched_after};
 
 use crate::jobs::Task;
+use crate::monitored::run_all_monitored;
 use crate::pace::Pace;
 use crate::reporting::run_of;
 use crate::tasks::{Ended, ended_of, run_tasks};
@@ -27,8 +28,8 @@ use std::thread::Threads;
 /// A runtime with its seats.
 type Opened<M> = (Rnlp<Ledger, M>, Vec<Seat<Ledger, M>>);
 
-/// The seats of a runtime, and which of their tasks were stopped.
-pub(crate) type Left<M> = (Vec<Seat<Ledger, M>>, Vec<bool>);
+/// The seats of a runtime, and after how many whole sections each of their tasks was stopped, if it was.
+pub(crate) type Left<M> = (Vec<Seat<Ledger, M>>, Vec<Option<u64>>);
 
 /// A run of a script.
 #[derive(Drop)]
@@ -37,17 +38,18 @@ pub struct Run {
     pub report: Report,
     /// The receipt of the report's history.
     pub receipt: Receipt<Edit>,
-    /// For each task, by number, whether its worker ran out of memory: then the section it was in is broken off, and
-    /// the later ones were not begun.
-    pub stopped: Vec<bool>,
+    /// For each task, by number: None if it is complete. If its worker ran out of memory, after how many whole sections: then
+    /// the next one is broken off, and the later ones were not begun.
+    pub stopped: Vec<Option<u64>>,
 }
 
 /// Runs a script at a runtime of its own: makes it, runs the tasks, closes it, and gives the report of what happened. A
-/// task whose worker runs out of memory is stopped, and the others go on to their ends.
+/// task whose worker runs out of memory is stopped, and the others go on to their ends. If the pace is seen, monitors look at
+/// the run for it.
 ///
 /// # Errors
 ///
-/// Out of memory for the run itself.
+/// Out of memory for the run itself, or for the monitors.
 pub fn run_all<R: Threads + Wait + Sync, G: Pace>(
     rt: &R,
     alloc: Global,
@@ -58,6 +60,9 @@ pub fn run_all<R: Threads + Wait + Sync, G: Pace>(
     ensures written { IfOk result (λ run. MayBeWritten (told_by run.report)) }
     ensures receipt { IfOk result (λ run. run.receipt ≡ run.report.entries) }
 {
+    if pace.is_seen() {
+        return run_seen(rt, alloc, script, pace);
+    }
     let machine = machine_of(alloc, script)?;
     match run_over(rt, alloc, script, pace, machine) {
         Ok((run, _)) => Ok(run),
@@ -65,8 +70,23 @@ pub fn run_all<R: Threads + Wait + Sync, G: Pace>(
     }
 }
 
-/// The same at a runtime over this machine, which comes back. Its watchers, if it has any, have been given just the steps
-/// of the history.
+// The same with monitors that look at the run for the pace.
+fn run_seen<R: Threads + Wait + Sync, G: Pace>(
+    rt: &R,
+    alloc: Global,
+    script: &Script,
+    pace: &G,
+) -> Result<Run, AllocError>
+    ensures report { IfOk result (λ run. IsReportOfRun script.entry.now run.stopped.items run.report) }
+    ensures written { IfOk result (λ run. MayBeWritten (told_by run.report)) }
+    ensures receipt { IfOk result (λ run. run.receipt ≡ run.report.entries) }
+{
+    let (run, _) = run_all_monitored(rt, alloc, script, pace)?;
+    Ok(run)
+}
+
+/// The same as [`run_all`] at a runtime over this machine, which comes back, and with no monitors. Its watchers, if it has
+/// any, have been given just the steps of the history.
 ///
 /// # Errors
 ///
@@ -96,11 +116,11 @@ pub fn run_over<R: Threads + Wait + Sync, M: Machine, G: Pace>(
     }
 }
 
-/// The same where no task is stopped: the report of the whole run, with the receipt of its history.
+/// The same as [`run_all`] where no task is stopped: the report of the whole run, with the receipt of its history.
 ///
 /// # Errors
 ///
-/// Out of memory, for the run itself or for one of its tasks.
+/// Out of memory, for the run itself, for one of its tasks, or for the monitors.
 pub fn run_script<R: Threads + Wait + Sync, G: Pace>(
     rt: &R,
     alloc: Global,
@@ -112,9 +132,10 @@ pub fn run_script<R: Threads + Wait + Sync, G: Pace>(
     ensures receipt { IfOk result (λ r. r.1 ≡ r.0.entries) }
 {
     let _ = script.tasks();
-    match run_all(rt, alloc, script, pace) {
-        Ok(all) => whole(all),
-        Err(e) => Err(e),
+    let run = run_all(rt, alloc, script, pace)?;
+    match whole_run(run) {
+        Ok(done) => Ok(done),
+        Err(_) => Err(AllocError),
     }
 }
 
@@ -122,28 +143,29 @@ pub fn run_script<R: Threads + Wait + Sync, G: Pace>(
 ///
 /// # Errors
 ///
-/// Out of memory, where one was stopped.
-pub fn whole(run: Run) -> Result<(Report, Receipt<Edit>), AllocError>
-    ensures none { IfOk result (λ _. list_any (λ b. b) run.stopped.items ≡ false) }
+/// The run, if one was stopped.
+pub fn whole_run(run: Run) -> Result<(Report, Receipt<Edit>), Run>
+    ensures none { IfOk result (λ _. list_any is_some run.stopped.items ≡ false) }
     ensures same { IfOk result (λ r. (r.0 ≡ run.report) × (r.1 ≡ run.receipt)) }
+    ensures some { OnErr result (list_any is_some run.stopped.items ≡ true) }
+    ensures back { IfErr result (λ back. back ≡ run) }
 {
+    if is_any(run.stopped.as_slice()) {
+        return Err(run);
+    }
     let Run {
         report,
         receipt,
-        stopped,
+        stopped: _,
     } = run;
-    if is_any(stopped.as_slice()) {
-        Err(AllocError)
-    } else {
-        Ok((report, receipt))
-    }
+    Ok((report, receipt))
 }
 
-// Whether any of them is true.
-fn is_any(all: &[bool]) -> bool
-    ensures { result ≡ list_any (λ b. b) all.now }
+// Whether any task was stopped.
+fn is_any(stopped: &[Option<u64>]) -> bool
+    ensures { result ≡ list_any is_some stopped.now }
 {
-    all.iter().any(|one| *one)
+    stopped.iter().any(|one| one.is_some())
 }
 
 /// A machine over what the script declares, with a seat for each task, where nothing was done yet.
@@ -183,7 +205,7 @@ fn open<M: Machine>(alloc: Global, script: &Script, machine: M) -> Result<Opened
     Ok((rnlp, all))
 }
 
-// Runs all tasks; gives their seats, and which of them were stopped.
+// Runs all tasks; gives their seats, and after how many sections each of them was stopped, if it was.
 fn left_behind<R: Threads + Wait + Sync, M: Machine, G: Pace>(
     rt: &R,
     alloc: Global,
@@ -208,7 +230,7 @@ fn left_behind<R: Threads + Wait + Sync, M: Machine, G: Pace>(
     }
 }
 
-/// The seats of jobs, and which of their tasks were stopped.
+/// The seats of jobs, and after how many sections each of their tasks was stopped, if it was.
 ///
 /// # Errors
 ///
@@ -225,8 +247,8 @@ pub(crate) fn left_of<M: Machine>(alloc: Global, jobs: Vec<Task<M>>) -> Result<L
     Ok((seats_of(ended, room), stopped))
 }
 
-// Which of the tasks were stopped, in a list with enough room.
-fn stopped_of<M: Machine>(all: &[Ended<M>], room: Vec<bool>) -> Vec<bool>
+// After how many sections each of the tasks was stopped, if it was, in a list with enough room.
+fn stopped_of<M: Machine>(all: &[Ended<M>], room: Vec<Option<u64>>) -> Vec<Option<u64>>
     requires empty { room.items ≡ [] }
     requires room { length all.now ≤ vec_capacity room }
     ensures { result.items ≡ map (λ ended. ended.stopped) all.now }

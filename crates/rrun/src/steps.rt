@@ -1,9 +1,10 @@
 //! The statements of a task, one after another.
-ghost use Rattle.std.specs.Prelude.{IfOk, IfErr};
+ghost use Rattle.std.specs.Prelude.{◌≡◌, ◌<◌, ◌+◌, ◌^◌, ◌-◌, length, IfOk, IfErr, if◌then◌else◌};
 ghost use Rattle.rguard.specs.Seats.{IsOf, IsIdle};
 ghost use Rattle.rrun.specs.Working.{FitsAt, AreWholeAt};
 ghost use Rattle.rrun.specs.Desks.{IsAt, seat_in, section_in, HasStepped, HasLeft};
 ghost use Rattle.rrun.specs.Runs.{HasRun, HasBrokenOff};
+ghost use Rattle.rrun.specs.Sections.{ends_section};
 
 use crate::acts::{ask, begin, edit, finish, rise, show};
 use crate::desk::{At, Desk};
@@ -14,6 +15,15 @@ use rscript::Statement;
 use rvalue::Ledger;
 use std::alloc::{AllocError, Global};
 use std::sync::Wait;
+
+/// Statements that were broken off, because memory ran out.
+#[derive(Drop)]
+pub(crate) struct Broken<M: Machine> {
+    /// The seat, which is idle.
+    pub(crate) seat: Seat<Ledger, M>,
+    /// How many whole sections were carried out before that one.
+    pub(crate) sections: u64,
+}
 
 /// Carries out whole sections with an idle seat.
 ///
@@ -28,26 +38,49 @@ pub(crate) fn run_steps<R: Wait, M: Machine, G: Pace>(
     steps: &[Statement],
     first: At,
     pace: &G,
-) -> Result<Seat<Ledger, M>, (Seat<Ledger, M>, AllocError)>
+) -> Result<Seat<Ledger, M>, Broken<M>>
     requires of { IsOf rnlp.now seat }
     requires idle { IsIdle seat }
     requires whole { AreWholeAt seat steps.now }
     ensures ran { IfOk result (HasRun steps.entry.now seat) }
     ensures idle { IfOk result IsIdle }
-    ensures broken { IfErr result (λ e. HasBrokenOff steps.entry.now seat e.0) }
-    ensures left { IfErr result (λ e. IsIdle e.0) }
+    ensures broken { IfErr result (λ e. HasBrokenOff e.sections steps.entry.now seat e.seat) }
+    ensures left { IfErr result (λ e. IsIdle e.seat) }
 {
+    let _ = count_of(steps);
     let mut desk = Desk::Idle(seat);
-    let mut at = first;
+    let mut sections = 0;
     for statement in steps {
-        desk = step(rt, alloc, rnlp, desk, statement, at, pace)?;
-        if let Statement::Finish = statement {
-            at.section = at.section.wrapping_add(1);
-        }
+        let at = first.after(sections);
+        desk = match step(rt, alloc, rnlp, desk, statement, at, pace) {
+            Ok(next) => next,
+            Err((seat, _)) => return Err(Broken { seat, sections }),
+        };
+        sections = with(sections, statement);
     }
     match desk {
         Desk::Idle(seat) => Ok(seat),
         Desk::Busy(_guard) => unreachable!(),
+    }
+}
+
+// How many statements there are.
+fn count_of(steps: &[Statement]) -> usize
+    ensures value { result ≡ length steps.now }
+    ensures small { length steps.now < 2 ^ 64 }
+{
+    steps.len()
+}
+
+// How many whole sections were carried out, with one more statement.
+fn with(sections: u64, statement: &Statement) -> u64
+    requires { sections < 2 ^ 64 - 1 }
+    ensures { result ≡ sections + (if ends_section statement.now then 1 else 0) }
+{
+    if statement.ends_section() {
+        sections + 1
+    } else {
+        sections
     }
 }
 

@@ -6,12 +6,12 @@ ghost use Rattle.rrun.specs.Seats.{IsSeatFor};
 
 use crate::desk::At;
 use crate::pace::Pace;
-use crate::steps::run_steps;
+use crate::steps::{Broken, run_steps};
 use rguard::{Rnlp, Seat};
 use rmodel::Machine;
 use rscript::Script;
 use rvalue::Ledger;
-use std::alloc::{AllocError, Global};
+use std::alloc::Global;
 use std::sync::Wait;
 
 /// Runs all sections of a task, one after another, with the seat of the task.
@@ -27,13 +27,13 @@ pub fn run_task<R: Wait, M: Machine, G: Pace>(
     script: &Script,
     task: u8,
     pace: &G,
-) -> Result<Seat<Ledger, M>, (Seat<Ledger, M>, AllocError)>
+) -> Result<Seat<Ledger, M>, Broken<M>>
     requires task { task < length script.now.tasks }
     requires seat { IsSeatFor rnlp.now script.now task seat }
     ensures ran { IfOk result (λ later. (statements : List Statement) → slice_get script.entry.now.steps task ≡ Some statements → HasRun statements seat later) }
     ensures seat { IfOk result (IsSeatFor rnlp.entry.now script.entry.now task) }
-    ensures broken { IfErr result (λ e. (statements : List Statement) → slice_get script.entry.now.steps task ≡ Some statements → HasBrokenOff statements seat e.0) }
-    ensures left { IfErr result (λ e. IsSeatFor rnlp.entry.now script.entry.now task e.0) }
+    ensures broken { IfErr result (λ e. (statements : List Statement) → slice_get script.entry.now.steps task ≡ Some statements → HasBrokenOff e.sections statements seat e.seat) }
+    ensures left { IfErr result (λ e. IsSeatFor rnlp.entry.now script.entry.now task e.seat) }
 {
     let steps = script.steps(task);
     let first = At { task, section: 0 };

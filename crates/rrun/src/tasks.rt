@@ -18,9 +18,9 @@ use std::thread::Threads;
 pub struct Ended<M: Machine> {
     /// Its seat, which is idle.
     pub seat: Seat<Ledger, M>,
-    /// Whether its worker ran out of memory. Then the section it was in is broken off, and the later ones were not
-    /// begun.
-    pub stopped: bool,
+    /// None if it is complete. If its worker ran out of memory, after how many whole sections: then the next one is broken
+    /// off, and the later ones were not begun.
+    pub stopped: Option<u64>,
 }
 
 /// Runs the tasks of a script at a runtime over what the script declares, each with the seat of its number. It asks for
@@ -78,7 +78,7 @@ fn jobs_of<M: Machine>(seats: Vec<Seat<Ledger, M>>, room: Vec<Task<M>>) -> Vec<T
     for seat in seats {
         jobs.push_reserved(Job {
             seat: Some(seat),
-            stopped: false,
+            stopped: None,
         });
     }
     jobs

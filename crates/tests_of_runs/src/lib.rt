@@ -8,6 +8,12 @@ mod runs;
 #[cfg(test)]
 mod sections;
 #[cfg(test)]
+mod seen;
+#[cfg(test)]
 mod stopping;
 #[cfg(test)]
+mod tallies;
+#[cfg(test)]
 mod tools;
+#[cfg(test)]
+mod waking;

@@ -252,7 +252,7 @@ fn runs_all<R: Threads + Wait + Sync>(
     let Ok(run) = run_all(rt, alloc, &script, &NoPace) else {
         return None;
     };
-    let none = run.stopped.len() == 2 && run.stopped.iter().all(|stopped| !*stopped);
+    let none = run.stopped.len() == 2 && run.stopped.iter().all(|stopped| stopped.is_none());
     let added = has_added(&run.report, entries as usize, edits);
     Some(none && added && audited(alloc, &run.report) == Some(entries))
 }

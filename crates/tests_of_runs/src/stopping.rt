@@ -6,11 +6,12 @@ ghost use Rattle.rrun.specs.Tasks.{AreSeatsFor};
 
 use crate::runs::{has_added, report_of};
 use crate::tools::run_with;
+use rclaim::Event;
 use rguard::{Rnlp, Seat};
 use rmodel::Machine;
 use rnlp_cli::ToolStatus;
 use rplain::Plain;
-use rrun::{Ended, NoPace, run_tasks};
+use rrun::{Ended, NoPace, Run, run_all, run_tasks};
 use rscript::{Script, read_script};
 use rvalue::Ledger;
 use std::alloc::{AllocError, Global};
@@ -42,7 +43,7 @@ pub fn opened_for(
 
 // How many of these tasks were stopped.
 fn count_stopped<M: Machine>(all: &[Ended<M>]) -> usize {
-    all.iter().filter(|ended| ended.stopped).count()
+    all.iter().filter(|ended| ended.stopped.is_some()).count()
 }
 
 // How many tasks of a run at this runtime were stopped; None if there was no memory for the run itself.
@@ -88,6 +89,51 @@ fn no_task_is_stopped_that_finds_memory(rt: HostRuntime) -> Result<(), Fail> {
 fn a_growth_that_is_refused_stops_one_task(rt: HostRuntime) -> Result<(), Fail> {
     let stopped = stopped_of(&rt, rt.alloc(), SCRIPT.as_bytes());
     assert!(rt; stopped.unwrap_or(0) <= 1);
+    Ok(())
+}
+
+// Two tasks of three sections each.
+const SECTIONS: &str = "rnlp,1\nresource,a\n\
+    task,t\nwrite,a,1\nadd,a,1\nfinish\nread,a,1\nshow,a\nfinish\nwrite,a,1\nadd,a,2\nfinish\n\
+    task,u\nread,a,1\nshow,a\nfinish\nwrite,a,1\nadd,a,4\nfinish\nread,a,1\nshow,a\nfinish\nend\n";
+
+// How many sections of a task have ended in a run.
+fn ended_in(run: &Run, task: u8) -> u64 {
+    let mut ended = 0u64;
+    for entry in run.report.history.entries() {
+        if matches!(entry.event, Event::Finish { seat } if seat == task) {
+            ended = ended.wrapping_add(1);
+        }
+    }
+    ended
+}
+
+// Whether a run says of a task of three sections that it is complete, and all have ended; or after how many of them it was
+// stopped, and just these have ended, or one more, which was broken off.
+fn is_section_right(run: &Run, task: u8) -> bool {
+    let ended = ended_in(run, task);
+    match run.stopped.get(usize::from(task)) {
+        Some(None) => ended == 3,
+        Some(Some(whole)) => *whole < 3 && (ended == *whole || ended == *whole + 1),
+        None => false,
+    }
+}
+
+// Whether a run of both tasks says that of each; None if there was no memory for the run itself.
+fn are_sections_right<R: Threads + Wait + Sync>(rt: &R, alloc: Global) -> Option<bool> {
+    let Ok(script) = read_script(alloc, SECTIONS.as_bytes()) else {
+        return None;
+    };
+    match run_all(rt, alloc, &script, &NoPace) {
+        Ok(run) => Some(is_section_right(&run, 0) && is_section_right(&run, 1)),
+        Err(_) => None,
+    }
+}
+
+#[test]
+fn a_run_says_after_which_section_a_task_was_stopped(rt: HostRuntime) -> Result<(), Fail> {
+    let right = are_sections_right(&rt, rt.alloc());
+    assert!(rt; right != Some(false));
     Ok(())
 }
 

@@ -80,7 +80,17 @@ fn run_between<R: Threads + Wait + Sync, G: Pace>(
 ) -> Result<(ToolStatus, usize), AllocError> {
     let words = words_of(alloc, "run")?;
     let mut receipts = Vec::new(alloc);
-    let status = run_tool(rt, alloc, &words, source, sink, pace, &mut receipts);
+    let mut nobody = Watchers::new(Vec::new(alloc));
+    let status = run_tool(
+        rt,
+        alloc,
+        &words,
+        source,
+        sink,
+        pace,
+        &mut receipts,
+        &mut nobody,
+    );
     Ok((status, receipts.len()))
 }
 

@@ -1,4 +1,4 @@
-use Rattle.std.proofs.Common.{Bool, List, map, sym, subst}
+use Rattle.std.proofs.Common.{ℕ, Option, List, map, sym, subst}
 use Rattle.std.specs.Arc.{arc_value}
 use Rattle.rrun.specs.Reporting.{IsReportOfRun}
 use Rattle.rrun.proofs.Reported.{all_of, all_idle, all_there, is_report, told_steps}
@@ -19,7 +19,7 @@ close_whole-closed-requires-clause-all g c κs within =
 
 pub returns-in_ok-run-in-Ok-clause-report : goal.returns-in_ok-run-in-Ok-clause-report
 returns-in_ok-run-in-Ok-clause-report g c =
-    subst (λ (bs : List Bool). IsReportOfRun c.args.script.now bs c.in_ok-run-in-Ok.run'.report) (sym c.in_ok-run-in-Ok.ensures.stopped)
+    subst (λ (os : List (Option ℕ)). IsReportOfRun c.args.script.now os c.in_ok-run-in-Ok.run'.report) (sym c.in_ok-run-in-Ok.ensures.stopped)
     (is_report c.args.script.now c.tasks.ensures.script (g.M.Machine.watched c.args.machine) c.in_ok-rnlp.rnlp c.in_ok-rnlp.seats.items c.in_ok-rnlp.ensures.opened c.in-Ok.seats.items c.in-Ok.ensures.seats c.in-Ok.stopped.items c.in-Ok.ensures.count c.in-Ok.ensures.ended
     c.close_whole-closed.result.0.0.entries (map arc_value c.close_whole-closed.result.0.1.items) c.close_whole-closed.ensures.seats c.in_ok-run-in-Ok.run'.report c.in_ok-run-in-Ok.ensures.head c.in_ok-run-in-Ok.ensures.entries c.in_ok-run-in-Ok.ensures.ledgers)
 

@@ -16,4 +16,4 @@ returns-clause-ran g c =
 
 pub returns-clause-broken : goal.returns-clause-broken
 returns-clause-broken g c =
-    IfErr-weaker c.run_steps.result _ _ (λ e broken statements at. subst (λ (ss : List Statement). HasBrokenOff ss c.args.seat e.0) (same_item c.steps-steps.result.now statements (sym c.steps-steps.ensures.steps ∙ at)) broken) c.run_steps.ensures.broken
+    IfErr-weaker c.run_steps.result _ _ (λ e broken statements at. subst (λ (ss : List Statement). HasBrokenOff e.sections ss c.args.seat e.seat) (same_item c.steps-steps.result.now statements (sym c.steps-steps.ensures.steps ∙ at)) broken) c.run_steps.ensures.broken
