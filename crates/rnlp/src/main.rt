@@ -11,16 +11,16 @@ ghost use Rattle.rnlp.specs.Counters.{counters};
 
 use io_ends::{Sink, Source, StdinSource, StdoutSink};
 use rnlp_cli::ToolStatus;
-use rnlp_edge::{Progress, explain, given_words, words_of};
-use rrun::NoPace;
+use rnlp_edge::{Progress, Screen, explain, given_words, words_of};
 use rwatch::{Counter, WatchKind, Watcher, Watchers};
 use std::alloc::AllocError;
 use std::io::IsTerminal;
 use std::process::ExitCode;
 use std::sync::Wait;
 use std::thread::Threads;
+use std::time::Clock;
 
-// What is counted of the steps of a list or of a drill.
+// What is counted of the steps of a list, of a drill or of a run.
 const KINDS: [WatchKind; 7] = [
     WatchKind::Issues,
     WatchKind::Finishes,
@@ -54,7 +54,7 @@ fn code_of(rt: &impl Eprint, ran: Result<ExitCode, AllocError>) -> ExitCode
 }
 
 // Runs the program with a counter of each kind as watchers. If memory runs out for them, nothing is touched.
-fn run_watched<R: AllocGlobal + Eprint + Threads + Wait + Sync, S: Source, K: Sink>(
+fn run_watched<R: AllocGlobal + Clock + Eprint + Threads + Wait + Sync, S: Source, K: Sink>(
     rt: &R,
     words: &Result<Vec<String>, ToolStatus>,
     source: &mut S,
@@ -77,7 +77,7 @@ fn run_watched<R: AllocGlobal + Eprint + Threads + Wait + Sync, S: Source, K: Si
         words,
         source,
         sink,
-        &NoPace,
+        &Screen::new(rt, on_terminal),
         &mut receipts,
         &mut watchers,
         on_terminal,

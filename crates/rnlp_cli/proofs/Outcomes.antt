@@ -1,5 +1,8 @@
 -- How a command ended, from how its parts ended.
-use Rattle.std.proofs.Common.{◌≡◌, ℕ, Bool, true, false, List, Option, Some, None, refl, sym, subst, ◌∙◌, inl, inr}
+use Rattle.std.proofs.Common.{◌≡◌, ℕ, Bool, true, false, List, ◌++◌, Option, Some, None, refl, sym, subst, ◌∙◌, inl, inr}
+use Rattle.io_ends.specs.Ends.{Appends}
+use Rattle.io_ends.specs.Faults.{Rose}
+use Rattle.rtrace_write.proofs.Writing.{appends_both, prefix_behind}
 use Rattle.csv.specs.Reading.{default_config, strip_bom}
 use Rattle.csv.specs.declared.parser.State.TheVariants as st
 use Rattle.rtrace_form.specs.Records.{Row}
@@ -46,7 +49,7 @@ spells_no_script bytes line code script first spelled =
 -- a text with a fault is no input
 no_input : (asked : Option Command) (bytes line : List ℕ) → IsFaultLine asked bytes line → IsInput asked bytes → ⊥
 no_input None bytes line fault right = fault
-no_input (Some Run) bytes line fault right = spells_no_script bytes fault.0 fault.1 right.0 fault.2 right.1
+no_input (Some (Run form)) bytes line fault right = spells_no_script bytes fault.0 fault.1 right.0 fault.2 right.1
 no_input (Some Replay) bytes line fault right = spells_none false bytes fault.0 right.0 fault.1 right.1
 no_input (Some Audit) bytes line fault right = spells_none true bytes fault.0 right.0 fault.1 right.1
 no_input (Some (Bound cap)) bytes line fault right = spells_no_script bytes fault.0 fault.1 right.0 fault.2 right.1
@@ -82,8 +85,8 @@ surely_written made text before after quiet failed same s is h = surely text bef
 refused : (watchers : List Seen) (asked : Option Command) (bytes line : List ℕ) (before after : Option (List ℕ)) (quiet failed same : Type 0) (under : ToolStatus)
     → refusal_of asked ≡ Some under → IsFaultLine asked bytes line → LineWritten line before after quiet failed → IsAnswer watchers asked bytes before after quiet failed same under
 refused watchers None bytes line before after quiet failed same under is found h = absurd found
-refused watchers (Some Run) bytes line before after quiet failed same under is found h =
-    subst (λ s. IsAnswer watchers (Some Run) bytes before after quiet failed same s) (one_some is) (refl, no_input (Some Run) bytes line found, line, found, h)
+refused watchers (Some (Run form)) bytes line before after quiet failed same under is found h =
+    subst (λ s. IsAnswer watchers (Some (Run form)) bytes before after quiet failed same s) (one_some is) (refl, no_input (Some (Run form)) bytes line found, line, found, h)
 refused watchers (Some Replay) bytes line before after quiet failed same under is found h =
     subst (λ s. IsAnswer watchers (Some Replay) bytes before after quiet failed same s) (one_some is) (refl, no_input (Some Replay) bytes line found, line, found, h)
 refused watchers (Some Audit) bytes line before after quiet failed same under is found h =
@@ -99,3 +102,16 @@ told watchers asked bytes line before after quiet failed same under s is found (
     subst (λ (t : ToolStatus). IsAnswer watchers asked bytes before after quiet failed same t) (sym h.0) (refused watchers asked bytes line before after quiet failed same under is found h.1)
 told watchers asked bytes line before after quiet failed same under s is found (inr h) =
     subst (λ (t : ToolStatus). IsAnswer watchers asked bytes before after quiet failed same t) (sym h.0) h.1
+
+-- a text that was written, and then another
+module _ (first second : List ℕ) (before between after : Option (List ℕ)) (faults then later : ℕ) where
+  pub written_both : (same : Type 0) (s : ToolStatus) → Appends before between first → then ≡ faults → IsWritten second between after (later ≡ then) (Rose then later) ⊥ s
+      → IsWritten (first ++ second) before after (later ≡ faults) (Rose faults later) same s
+  written_both same status.Done whole quiet h = (h.0 ∙ quiet, appends_both first second before between after whole h.1)
+  written_both same status.WriteFault whole quiet h = (subst (λ n. Rose n later) quiet h.0, prefix_behind first second before between after whole h.1)
+  written_both same status.NoMemory whole quiet h = absurd h
+  written_both same status.Script whole quiet h = absurd h
+  written_both same status.Trace whole quiet h = absurd h
+  written_both same status.Words whole quiet h = absurd h
+  written_both same status.ReadFault whole quiet h = absurd h
+  written_both same status.TooLong whole quiet h = absurd h

@@ -11,7 +11,7 @@ use Rattle.rnlp_cli.specs.declared.command.Command.TheVariants.{Run, Replay, Aud
 -- a command whose input is checked while it is read is an audit
 pub streamed_is : (command : Command) → is_streamed command ≡ true → command ≡ Audit
 streamed_is Audit is = refl
-streamed_is Run is = cc
+streamed_is (Run form) is = cc
 streamed_is Replay is = cc
 streamed_is (Bound cap) is = cc
 streamed_is (Drill count) is = cc

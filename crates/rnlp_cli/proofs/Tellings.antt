@@ -11,6 +11,7 @@ use Rattle.rnlp_cli.specs.Told.{IsFaultTold, told_behind, TellsBehind}
 use Rattle.rnlp_cli.specs.Writing.{IsTold, IsWritten}
 use Rattle.rnlp_cli.specs.declared.command.Command.{Command}
 use Rattle.rnlp_cli.specs.declared.command.Command.TheVariants.{Run, Replay, Audit, Bound, Drill}
+use Rattle.rnlp_cli.specs.declared.command.RunForm.{RunForm}
 use Rattle.rnlp_cli.specs.declared.status.ToolStatus.{ToolStatus}
 use Rattle.rnlp_cli.specs.declared.status.ToolStatus.TheVariants as status
 use Rattle.rnlp_cli.specs.declared.explained.Told.{Told}
@@ -29,16 +30,16 @@ written_tells text written written_after quiet failed same behind asked left bef
 written_tells text written written_after quiet failed same behind asked left before after status.Trace is kept h = absurd h
 
 -- a script was run, or memory ran out
-pub run_tells : (script : ScriptFields) (written written_after : Option (List ℕ)) (quiet failed same : Type 0) (receipts later : List (List Entry)) (asked : Option Command) (left : Option (List ℕ)) (before : Option Told) (s : ToolStatus)
-    → IsRun script written written_after quiet failed same receipts later s → TellsBehind before asked left before before s
-run_tells script written written_after quiet failed same receipts later asked left before status.Done h = refl
-run_tells script written written_after quiet failed same receipts later asked left before status.WriteFault h = refl
-run_tells script written written_after quiet failed same receipts later asked left before status.NoMemory h = refl
-run_tells script written written_after quiet failed same receipts later asked left before status.Words h = absurd h
-run_tells script written written_after quiet failed same receipts later asked left before status.ReadFault h = absurd h
-run_tells script written written_after quiet failed same receipts later asked left before status.Script h = absurd h
-run_tells script written written_after quiet failed same receipts later asked left before status.TooLong h = absurd h
-run_tells script written written_after quiet failed same receipts later asked left before status.Trace h = absurd h
+pub run_tells : (form : RunForm) (script : ScriptFields) (written written_after : Option (List ℕ)) (quiet failed same : Type 0) (receipts later : List (List Entry)) (ws heard : List Seen) (asked : Option Command) (left : Option (List ℕ)) (before : Option Told) (s : ToolStatus)
+    → IsRun form script written written_after quiet failed same receipts later ws heard s → TellsBehind before asked left before before s
+run_tells form script written written_after quiet failed same receipts later ws heard asked left before status.Done h = refl
+run_tells form script written written_after quiet failed same receipts later ws heard asked left before status.WriteFault h = refl
+run_tells form script written written_after quiet failed same receipts later ws heard asked left before status.NoMemory h = refl
+run_tells form script written written_after quiet failed same receipts later ws heard asked left before status.Words h = absurd h
+run_tells form script written written_after quiet failed same receipts later ws heard asked left before status.ReadFault h = absurd h
+run_tells form script written written_after quiet failed same receipts later ws heard asked left before status.Script h = absurd h
+run_tells form script written written_after quiet failed same receipts later ws heard asked left before status.TooLong h = absurd h
+run_tells form script written written_after quiet failed same receipts later ws heard asked left before status.Trace h = absurd h
 
 no_script : (s : ToolStatus) → s ≡ status.NoMemory → s ≡ status.Script → ⊥
 no_script s memory script = cc
@@ -81,7 +82,7 @@ of_left (Some all) bytes P whole h = subst P whole h
 
 fault_left : (command : Command) (left : Option (List ℕ)) (bytes : List ℕ) (after : Option Told)
     → IfSome (input_of (Some command) left) (λ all. bytes ≡ all) → IsFaultTold (Some command) bytes after → IfSome left (λ all. IsFaultTold (Some command) all after)
-fault_left Run left bytes after whole h = of_left left bytes (λ all. IsFaultTold (Some Run) all after) whole h
+fault_left (Run form) left bytes after whole h = of_left left bytes (λ all. IsFaultTold (Some (Run form)) all after) whole h
 fault_left Replay left bytes after whole h = of_left left bytes (λ all. IsFaultTold (Some Replay) all after) whole h
 fault_left Audit left bytes after whole h = of_left left bytes (λ all. IsFaultTold (Some Audit) all after) whole h
 fault_left (Bound cap) left bytes after whole h = of_left left bytes (λ all. IsFaultTold (Some (Bound cap)) all after) whole h

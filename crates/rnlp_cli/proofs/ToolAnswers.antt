@@ -42,7 +42,7 @@ past_limit (Some most) limit bytes is more few = let same : most ≡ limit = cc 
 -- where an input was read, the input is what the source has left
 input_left : (asked : Option Command) (limit : ℕ) (told : Option (List ℕ)) (P : List ℕ → Type 0) → limit_of asked ≡ Some limit → IfSome told P → IfSome (input_of asked told) P
 input_left None limit told P is h = cc
-input_left (Some Run) limit told P is h = h
+input_left (Some (Run form)) limit told P is h = h
 input_left (Some Replay) limit told P is h = h
 input_left (Some Audit) limit told P is h = h
 input_left (Some (Bound cap)) limit told P is h = h

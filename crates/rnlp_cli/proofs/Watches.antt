@@ -1,18 +1,19 @@
 -- What watchers saw, from how a replay or a drill ended.
 use Rattle.std.proofs.Common.{◌≡◌, ℕ, Bool, true, false, List, [], ◌∷◌, codes, map, Option, Some, None, refl, sym, subst, inl, inr}
-use Rattle.std.specs.Prelude.{IfSome, if◌then◌else◌}
+use Rattle.std.specs.Prelude.{⊤, IfSome, if◌then◌else◌, option_map}
 use Rattle.std.specs.Str.{bytes_eq}
 use Rattle.io_ends.specs.Ends.{Appends, AppendsPrefix}
-use Rattle.rtrace_form.specs.Reports.{Report}
+use Rattle.rtrace_form.specs.Reports.{Entry, Report}
 use Rattle.rtrace_form.specs.Texts.{IsTextOf, report_text}
 use Rattle.rwatch.specs.Seen.{Seen, told_all}
-use Rattle.rnlp_cli.specs.Words.{run_in}
 use Rattle.rnlp_cli.specs.Outputs.{input_of}
 use Rattle.rnlp_cli.specs.Reading.{NotRead}
-use Rattle.rnlp_cli.specs.Watched.{list_steps, AreToldList, ReplayWatched, Watched}
+use Rattle.rnlp_cli.specs.Watched.{list_steps, AreToldList, ReplayWatched, Watched, Leaves}
+use Rattle.rnlp_cli.specs.Words.{plain_in, bounds_under, cap_in, events_told}
 use Rattle.rnlp_cli.specs.Writing.{IsTold, IsWritten}
 use Rattle.rnlp_cli.specs.declared.command.Command.{Command}
 use Rattle.rnlp_cli.specs.declared.command.Command.TheVariants.{Run, Replay, Audit, Bound, Drill}
+use Rattle.rnlp_cli.proofs.Runs.{leaves_left, same_without}
 use Rattle.rnlp_cli.specs.declared.status.ToolStatus.{ToolStatus}
 use Rattle.rnlp_cli.specs.declared.status.ToolStatus.TheVariants as status
 
@@ -36,7 +37,14 @@ told_watched left before after line quiet failed same ws s (inr h) = subst (λ (
 -- if neither an output nor a front part of one was written, they are as they were
 pub untold : (asked : Option Command) (left before after : Option (List ℕ)) (ws : List Seen) (s : ToolStatus) → (s ≡ status.Done → ⊥) → (s ≡ status.WriteFault → ⊥) → Watched asked left before after ws ws s
 untold None left before after ws s done broken = refl
-untold (Some Run) left before after ws s done broken = refl
+untold (Some (Run form)) left before after ws status.Done done broken = absurd (done refl)
+untold (Some (Run form)) left before after ws status.WriteFault done broken = absurd (broken refl)
+untold (Some (Run form)) left before after ws status.NoMemory done broken = ([], [], (refl, same_without form None None None [] ws))
+untold (Some (Run form)) left before after ws status.Words done broken = ([], [], (refl, refl))
+untold (Some (Run form)) left before after ws status.ReadFault done broken = ([], [], (refl, refl))
+untold (Some (Run form)) left before after ws status.Script done broken = ([], [], (refl, refl))
+untold (Some (Run form)) left before after ws status.TooLong done broken = ([], [], (refl, refl))
+untold (Some (Run form)) left before after ws status.Trace done broken = ([], [], (refl, refl))
 untold (Some Audit) left before after ws s done broken = refl
 untold (Some (Bound cap)) left before after ws s done broken = refl
 untold (Some Replay) left before after ws status.Done done broken = absurd (done refl)
@@ -93,18 +101,58 @@ replay_left left bytes written written_after before after status.Trace whole h =
 -- the watchers after a command whose input was read
 pub watched_left : (command : Command) (left : Option (List ℕ)) (bytes : List ℕ) (written written_after : Option (List ℕ)) (before after : List Seen) (s : ToolStatus)
     → IfSome (input_of (Some command) left) (λ all. bytes ≡ all) → Watched (Some command) (Some bytes) written written_after before after s → Watched (Some command) left written written_after before after s
-watched_left Run left bytes written written_after before after s whole h = h
+watched_left (Run form) left bytes written written_after before after s whole h = (h.0, h.1, leaves_left form left bytes written written_after h.0 h.1 before after s whole h.2)
 watched_left Audit left bytes written written_after before after s whole h = h
 watched_left (Bound cap) left bytes written written_after before after s whole h = h
 watched_left (Drill count) left bytes written written_after before after s whole h = h
 watched_left Replay left bytes written written_after before after s whole h = replay_left left bytes written written_after before after s whole h
 
--- a run shows nothing to watchers
-run_or_nothing : (b : Bool) (left before after : Option (List ℕ)) (ws : List Seen) (s : ToolStatus) → Watched (if b then Some Run else None) left before after ws ws s
-run_or_nothing true left before after ws s = refl
-run_or_nothing false left before after ws s = refl
+-- ---- tools that wait for nobody hand out no receipt
 
-pub run_watched : (words : List (List ℕ)) (left before after : Option (List ℕ)) (ws : List Seen) (s : ToolStatus) → Watched (run_in words) left before after ws ws s
-run_watched [] left before after ws s = refl
-run_watched (word ∷ []) left before after ws s = run_or_nothing (bytes_eq word (codes "run")) left before after ws s
-run_watched (word ∷ next ∷ words) left before after ws s = refl
+-- not a run
+abbrev IsNoRun : Option Command → Type 0
+IsNoRun None = ⊤
+IsNoRun (Some (Run form)) = ⊥
+IsNoRun (Some Replay) = ⊤
+IsNoRun (Some Audit) = ⊤
+IsNoRun (Some (Bound cap)) = ⊤
+IsNoRun (Some (Drill count)) = ⊤
+
+no_run : (asked : Option Command) (left written written_after : Option (List ℕ)) (receipts : List (List Entry)) (ws later : List Seen) (s : ToolStatus)
+    → IsNoRun asked → Watched asked left written written_after ws later s → Leaves asked left written written_after receipts receipts ws later s
+no_run None left written written_after receipts ws later s plain h = (refl, h)
+no_run (Some (Run form)) left written written_after receipts ws later s plain h = absurd plain
+no_run (Some Replay) left written written_after receipts ws later s plain h = (refl, h)
+no_run (Some Audit) left written written_after receipts ws later s plain h = (refl, h)
+no_run (Some (Bound cap)) left written written_after receipts ws later s plain h = (refl, h)
+no_run (Some (Drill count)) left written written_after receipts ws later s plain h = (refl, h)
+
+one_word : (replay audit bound : Bool) → IsNoRun (if replay then Some Replay else if audit then Some Audit else if bound then Some (Bound None) else None)
+one_word true audit bound = tt
+one_word false true bound = tt
+one_word false false true = tt
+one_word false false false = tt
+
+a_drill : (count : Option ℕ) → IsNoRun (option_map Drill count)
+a_drill None = tt
+a_drill (Some count) = tt
+
+a_bound : (cap : Option ℕ) → IsNoRun (option_map bounds_under cap)
+a_bound None = tt
+a_bound (Some cap) = tt
+
+two_words : (drill bound : Bool) (count cap : Option ℕ) → IsNoRun (if drill then option_map Drill count else if bound then option_map bounds_under cap else None)
+two_words true bound count cap = a_drill count
+two_words false true count cap = a_bound cap
+two_words false false count cap = tt
+
+plain_no_run : (words : List (List ℕ)) → IsNoRun (plain_in words)
+plain_no_run [] = tt
+plain_no_run (word ∷ []) = one_word (bytes_eq word (codes "replay")) (bytes_eq word (codes "audit")) (bytes_eq word (codes "bound"))
+plain_no_run (word ∷ number ∷ []) = two_words (bytes_eq word (codes "drill")) (bytes_eq word (codes "bound")) (events_told number) (cap_in number)
+plain_no_run (word ∷ number ∷ next ∷ words) = tt
+
+-- what a tool that waits for nobody leaves
+pub plain_leaves : (words : List (List ℕ)) (left written written_after : Option (List ℕ)) (receipts : List (List Entry)) (ws later : List Seen) (s : ToolStatus)
+    → Watched (plain_in words) left written written_after ws later s → Leaves (plain_in words) left written written_after receipts receipts ws later s
+plain_leaves words left written written_after receipts ws later s h = no_run (plain_in words) left written written_after receipts ws later s (plain_no_run words) h

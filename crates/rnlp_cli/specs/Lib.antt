@@ -1,11 +1,12 @@
 pub mod Words
 pub mod Status
+pub mod Forms
 pub mod Outputs
 pub mod Reading
 pub mod Writing
 pub mod Running
 pub mod Answer
-pub mod Receipts
+pub mod Leaving
 pub mod Promise
 pub mod Watched
 pub mod Due

@@ -1,19 +1,15 @@
--- The headline, as it is promised for a run of the program.
-use Rattle.std.specs.Prelude.{◌≡◌, ℕ, List, [], ◌∷◌, ◌++◌, Option, IfSome}
+-- The headline, as it is promised for a run of the program, in whichever form.
+use Rattle.std.specs.Prelude.{ℕ, List, Option}
 use Rattle.io_ends.specs.Ends.{Appends}
-use Rattle.rtrace_form.specs.Reports.{Entry, Report}
-use Rattle.rtrace_form.specs.Texts.{report_text}
-use Rattle.rscript.specs.Scripts.{ScriptFields, IsScript, IsTextOf}
+use Rattle.rtrace_form.specs.Reports.{Entry}
+use Rattle.rwatch.specs.Seen.{Seen}
 use Rattle.rnlp_cli.specs.Headline.{IsHeadline}
+use Rattle.rnlp_cli.specs.Leaving.{HasWritten}
+use Rattle.rnlp_cli.specs.declared.command.RunForm.{RunForm}
 
 -- *The promise of a run*: whatever script came (where the source says what it had left, that is a text of it), what was
--- written is the text of the one history in the receipt, which only a lock makes, when it is closed; and all that the
--- headline says holds for it
-pub record KeepsItsPromise (left written written_after : Option (List ℕ)) (receipts receipts_after : List (List Entry)) : Type 0 where
-  pub script : ScriptFields
-  pub is_script : IsScript script
-  pub came : IfSome left (λ bytes. IsTextOf bytes script)
-  pub report : Report
-  pub text : Appends written written_after (report_text report)
-  pub one : receipts_after ≡ receipts ++ report.entries ∷ []
-  pub headline : IsHeadline script report
+-- written is the text of the form for the one history in the receipt, which only a lock makes, when it is closed; and all
+-- that the headline says holds for it
+abbrev pub KeepsItsPromise : RunForm → Option (List ℕ) → Option (List ℕ) → Option (List ℕ) → List (List Entry) → List (List Entry) → List Seen → List Seen → Type 0
+KeepsItsPromise form left written written_after receipts receipts_after watchers watchers_after =
+    HasWritten IsHeadline form left (Appends written written_after) receipts receipts_after watchers watchers_after

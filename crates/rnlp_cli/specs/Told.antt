@@ -32,7 +32,7 @@ told_due (Some (what.Script line code)) = None
 -- line that was due there, if there is one
 abbrev pub IsFaultTold : Option Command → List ℕ → Option Told → Type 0
 IsFaultTold None bytes told = ⊥
-IsFaultTold (Some Run) bytes told = (line : ℕ) × (code : script_code.ScriptCode) × scripts_read.IsFirstFault bytes line code × (told ≡ Some (what.Script line code))
+IsFaultTold (Some (Run form)) bytes told = (line : ℕ) × (code : script_code.ScriptCode) × scripts_read.IsFirstFault bytes line code × (told ≡ Some (what.Script line code))
 IsFaultTold (Some Replay) bytes told = (fault : Fault Code) × IsFirstFault false bytes fault × (told ≡ Some (what.List fault None))
 IsFaultTold (Some Audit) bytes told = (fault : Fault Code) × IsFirstFault true bytes fault × (told_fault told ≡ Some fault) × IsDueFor fault.code bytes fault (told_due told)
 IsFaultTold (Some (Bound cap)) bytes told = (line : ℕ) × (code : script_code.ScriptCode) × scripts_read.IsFirstFault bytes line code × (told ≡ Some (what.Script line code))
@@ -42,7 +42,7 @@ IsFaultTold (Some (Drill count)) bytes told = ⊥
 -- watched its replay
 abbrev pub told_behind : Option Command → List Seen → Option Told → Option Told
 told_behind None watchers before = before
-told_behind (Some Run) watchers before = before
+told_behind (Some (Run form)) watchers before = before
 told_behind (Some Replay) [] before = before
 told_behind (Some Replay) (w ∷ ws) before = Some what.Steps
 told_behind (Some Audit) watchers before = before

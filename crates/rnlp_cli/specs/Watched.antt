@@ -1,22 +1,17 @@
--- What the watchers see.
+-- What the watchers see, and with it what else a command leaves.
 use Rattle.std.specs.Prelude.{◌≡◌, ℕ, false, List, map, Option, Some, None, IfSome}
 use Rattle.io_ends.specs.Ends.{Appends, AppendsPrefix}
-use Rattle.rclaim.specs.Changes.{ChangeLists}
-use Rattle.rclaim.specs.declared.event.Event.{Event}
-use Rattle.rtrace_form.specs.Heads.{opening_of}
 use Rattle.rtrace_form.specs.Reports.{Entry, Report}
 use Rattle.rtrace_form.specs.Texts.{IsTextOf, report_text}
 use Rattle.rwatch.specs.Seen.{Seen, told_all}
-use Rattle.rmodel.specs.Watching.{steps_of}
+pub use Rattle.rrun.specs.Steps.{list_steps}
+use Rattle.rnlp_cli.specs.Leaving.{RunLeaves}
 use Rattle.rnlp_cli.specs.Outputs.{told_drill}
 use Rattle.rnlp_cli.specs.declared.command.Command.{Command}
 use Rattle.rnlp_cli.specs.declared.command.Command.TheVariants.{Run, Replay, Audit, Bound, Drill}
+use Rattle.rnlp_cli.specs.declared.command.RunForm.{RunForm}
 use Rattle.rnlp_cli.specs.declared.status.ToolStatus.{ToolStatus}
 use Rattle.rnlp_cli.specs.declared.status.ToolStatus.TheVariants as status
-
--- the steps of a list: each event, and what it changes after those before it
-abbrev pub list_steps : Report → List (Event × ChangeLists)
-list_steps report = steps_of (opening_of report.head) (map (λ (entry : Entry). entry.event) report.entries)
 
 -- they saw just the steps of the list whose report was written (`Writes`); it is the list that the bytes spell, where
 -- they are known
@@ -48,11 +43,26 @@ DrillWatched count before after status.TooLong = after ≡ before
 DrillWatched count before after status.NoMemory = after ≡ before
 DrillWatched count before after status.Trace = after ≡ before
 
--- the watchers after any command
+-- and after a run in this form, with some receipts
+abbrev pub RunWatched : RunForm → Option (List ℕ) → Option (List ℕ) → Option (List ℕ) → List Seen → List Seen → ToolStatus → Type 0
+RunWatched form left written written_after before after answer =
+    (receipts : List (List Entry)) × (receipts_after : List (List Entry)) × RunLeaves form left written written_after receipts receipts_after before after answer
+
+-- *The watchers after any command*
 abbrev pub Watched : Option Command → Option (List ℕ) → Option (List ℕ) → Option (List ℕ) → List Seen → List Seen → ToolStatus → Type 0
 Watched (Some Replay) left written written_after before after answer = ReplayWatched left written written_after before after answer
 Watched (Some (Drill count)) left written written_after before after answer = DrillWatched count before after answer
 Watched None left written written_after before after answer = after ≡ before
-Watched (Some Run) left written written_after before after answer = after ≡ before
+Watched (Some (Run form)) left written written_after before after answer = RunWatched form left written written_after before after answer
 Watched (Some Audit) left written written_after before after answer = after ≡ before
 Watched (Some (Bound cap)) left written written_after before after answer = after ≡ before
+
+-- *The receipts and the watchers after any command*: those of a run are of its one history, and any other command hands
+-- out no receipt
+abbrev pub Leaves : Option Command → Option (List ℕ) → Option (List ℕ) → Option (List ℕ) → List (List Entry) → List (List Entry) → List Seen → List Seen → ToolStatus → Type 0
+Leaves (Some (Run form)) left written written_after receipts receipts_after before after answer = RunLeaves form left written written_after receipts receipts_after before after answer
+Leaves None left written written_after receipts receipts_after before after answer = (receipts_after ≡ receipts) × Watched None left written written_after before after answer
+Leaves (Some Replay) left written written_after receipts receipts_after before after answer = (receipts_after ≡ receipts) × Watched (Some Replay) left written written_after before after answer
+Leaves (Some Audit) left written written_after receipts receipts_after before after answer = (receipts_after ≡ receipts) × Watched (Some Audit) left written written_after before after answer
+Leaves (Some (Bound cap)) left written written_after receipts receipts_after before after answer = (receipts_after ≡ receipts) × Watched (Some (Bound cap)) left written written_after before after answer
+Leaves (Some (Drill count)) left written written_after receipts receipts_after before after answer = (receipts_after ≡ receipts) × Watched (Some (Drill count)) left written written_after before after answer

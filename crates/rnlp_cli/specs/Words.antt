@@ -4,12 +4,28 @@ use Rattle.std.specs.Str.{bytes_eq}
 use Rattle.rtrace_form.specs.Numbers.{cap_told, number_told}
 use Rattle.rnlp_cli.specs.declared.command.Command.{Command}
 use Rattle.rnlp_cli.specs.declared.command.Command.TheVariants.{Run, Replay, Audit, Bound, Drill}
+use Rattle.rnlp_cli.specs.declared.command.RunForm.{RunForm}
+use Rattle.rnlp_cli.specs.declared.command.RunForm.TheVariants as forms
+
+-- the words of a form that runs a script
+abbrev pub words_of : RunForm → List (List ℕ)
+words_of forms.Report = codes "run" ∷ []
+words_of forms.Tally = codes "run" ∷ codes "tally" ∷ []
+words_of forms.Watch = codes "run" ∷ codes "watch" ∷ []
+
+-- the run that a word after `run` asks for
+abbrev pub run_after : List ℕ → Option Command
+run_after word =
+    if bytes_eq word (codes "tally") then Some (Run forms.Tally)
+    else if bytes_eq word (codes "watch") then Some (Run forms.Watch)
+    else None
 
 -- what these words ask of the tool that waits for its workers
 abbrev pub run_in : List (List ℕ) → Option Command
 run_in [] = None
-run_in (word ∷ []) = if bytes_eq word (codes "run") then Some Run else None
-run_in (word ∷ next ∷ words) = None
+run_in (word ∷ []) = if bytes_eq word (codes "run") then Some (Run forms.Report) else None
+run_in (word ∷ next ∷ []) = if bytes_eq word (codes "run") then run_after next else None
+run_in (word ∷ next ∷ third ∷ words) = None
 
 -- the most events of a drill
 abbrev pub most_events : ℕ
@@ -48,7 +64,7 @@ plain_in (word ∷ number ∷ next ∷ words) = None
 -- a command of the tools that wait for nobody; a cap of bounds is at least 1, and a drill has no more events than the
 -- limit
 abbrev pub IsPlain : Command → Type 0
-IsPlain Run = ⊥
+IsPlain (Run form) = ⊥
 IsPlain Replay = ⊤
 IsPlain Audit = ⊤
 IsPlain (Bound cap) = IfSome cap (λ m. 1 ≤ m)

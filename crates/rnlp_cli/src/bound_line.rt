@@ -37,8 +37,8 @@ fn push_field(text: &mut Vec<u8>, field: &[u8]) -> Result<(), AllocError>
     text.extend_from_slice(field)
 }
 
-// Appends a number as one more field.
-fn push_number(text: &mut Vec<u8>, number: u64) -> Result<(), AllocError>
+/// Appends a number as one more field.
+pub(crate) fn push_number(text: &mut Vec<u8>, number: u64) -> Result<(), AllocError>
     ensures { OnOk result (text.new.items ≡ text.old.items ++ behind_comma (decimal number)) }
 {
     let mut digits = Buffer::new();

@@ -6,11 +6,22 @@ ghost use Rattle.rnlp_cli.specs.Outputs.{limit_of, is_streamed};
 use rdrill::MOST_EVENTS;
 use rtrace_form::{cap_of, number_of};
 
+/// A form that runs a script.
+#[derive(Clone, Copy, Debug, PartialEq, Eq)]
+pub enum RunForm {
+    /// `run`: write the report of what happened.
+    Report,
+    /// `run tally`: have watchers under the lock of the run, and write after the report what they counted.
+    Tally,
+    /// `run watch`: have two workers look at the run by monitors, and write after the report what they saw.
+    Watch,
+}
+
 /// What words ask for.
 #[derive(Clone, Copy, Debug, PartialEq, Eq)]
 pub enum Command {
-    /// `run`: run the tasks of a script, and write the report of what happened.
-    Run,
+    /// `run`, `run tally` and `run watch`: run the tasks of a script, and write what the form writes of it.
+    Run(RunForm),
     /// `replay`: apply a list of events, and write its report.
     Replay,
     /// `audit`: check a report, and write how many events and how many waits it has.
@@ -47,7 +58,7 @@ impl Command {
         ensures { result ≡ limit_of (Some self) }
     {
         match self {
-            Command::Run | Command::Bound(_) => Some(SCRIPT_LIMIT),
+            Command::Run(_) | Command::Bound(_) => Some(SCRIPT_LIMIT),
             Command::Replay => Some(LIST_LIMIT),
             Command::Audit => Some(REPORT_LIMIT as usize),
             Command::Drill(_) => None,
@@ -73,13 +84,15 @@ pub fn are_for_run(words: &[String]) -> bool
     }
 }
 
-/// Whether the words ask for a run.
-pub fn ask_for_run(words: &[String]) -> bool
-    ensures { run_in (map string_bytes words.now) ≡ (if result then Some Command.Run else None) }
+/// The form in which the words ask for a run; None if they do not ask for one.
+pub fn form_of(words: &[String]) -> Option<RunForm>
+    ensures { option_map Command.Run result ≡ run_in (map string_bytes words.now) }
 {
     match words {
-        [word] => word.as_str() == "run",
-        _ => false,
+        [word] if word.as_str() == "run" => Some(RunForm::Report),
+        [word, next] if word.as_str() == "run" && next.as_str() == "tally" => Some(RunForm::Tally),
+        [word, next] if word.as_str() == "run" && next.as_str() == "watch" => Some(RunForm::Watch),
+        _ => None,
     }
 }
 

@@ -83,6 +83,6 @@ fn run_command<K: Sink, A: Audience>(
         Command::Replay => replay(alloc, bytes, sink, audience, told),
         Command::Bound(cap) => bound(alloc, cap, bytes, sink, told),
         Command::Drill(count) => drill_tool(alloc, count, sink, audience),
-        Command::Run | Command::Audit => unreachable!(),
+        Command::Run(_) | Command::Audit => unreachable!(),
     }
 }

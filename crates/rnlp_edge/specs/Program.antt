@@ -1,18 +1,18 @@
 -- What the whole program answers.
-use Rattle.std.specs.Prelude.{◌≡◌, ℕ, Bool, true, false, List, [], ◌∷◌, Option, Some, None, Result, IfOk, IfErr, codes}
+use Rattle.std.specs.Prelude.{◌≡◌, ℕ, Bool, true, false, List, [], Option, Some, None, Result, IfOk, IfErr}
 use Rattle.io_ends.specs.Faults.{Rose}
 use Rattle.rtrace_form.specs.Reports.{Entry}
-use Rattle.rnlp_cli.specs.Words.{command_in}
+use Rattle.rnlp_cli.specs.Words.{command_in, words_of}
 use Rattle.rnlp_cli.specs.Writing.{IsWritten}
 use Rattle.rnlp_cli.specs.Answer.{ToolAnswer}
 use Rattle.rnlp_cli.specs.Promise.{KeepsItsPromise}
 use Rattle.rwatch.specs.Seen.{Seen}
-use Rattle.rnlp_cli.specs.Receipts.{Receipts}
 use Rattle.rnlp_cli.specs.Status.{status_number}
 use Rattle.rnlp_cli.specs.Told.{Tells}
-use Rattle.rnlp_cli.specs.Watched.{Watched}
+use Rattle.rnlp_cli.specs.Watched.{Leaves}
 use Rattle.rnlp_cli.specs.declared.command.Command.{Command}
 use Rattle.rnlp_cli.specs.declared.command.Command.TheVariants.{Run, Replay, Audit, Bound, Drill}
+use Rattle.rnlp_cli.specs.declared.command.RunForm.{RunForm}
 use Rattle.rnlp_cli.specs.declared.status.ToolStatus.{ToolStatus}
 use Rattle.rnlp_cli.specs.declared.status.ToolStatus.TheVariants.{Done}
 use Rattle.rnlp_cli.specs.declared.explained.Told.{Told}
@@ -21,7 +21,7 @@ use Rattle.rnlp_edge.specs.Words.{own_text}
 -- the words ask for a replay
 abbrev pub is_replay : Option Command → Bool
 is_replay None = false
-is_replay (Some Run) = false
+is_replay (Some (Run form)) = false
 is_replay (Some Replay) = true
 is_replay (Some Audit) = false
 is_replay (Some (Bound cap)) = false
@@ -71,11 +71,10 @@ module _ {S K : Type 0} (left : S → Option (List ℕ)) (reads : S → ℕ) (wr
       × IsWritten text (written sink) (written sink_after) (writes sink_after ≡ writes sink) (Rose (writes sink) (writes sink_after)) ⊥ answer
   AnswersBy None asked source source_after sink sink_after receipts receipts_after watchers watchers_after answer =
       ToolAnswer left reads written writes watchers asked source source_after sink sink_after answer
-      × Receipts asked (left source) (written sink) (written sink_after) receipts receipts_after answer
-      × Watched asked (left source) (written sink) (written sink_after) watchers watchers_after answer
+      × Leaves asked (left source) (written sink) (written sink_after) receipts receipts_after watchers watchers_after answer
 
-  -- what the program answers to words: its own text; or what a tool answers, with the receipts it hands out and what
-  -- the watchers see
+  -- what the program answers to words: its own text; or what a tool answers, with the receipts and the watchers that it
+  -- leaves
   abbrev pub ProgramAnswer : List (List ℕ) → S → S → K → K → List (List Entry) → List (List Entry) → List Seen → List Seen → ToolStatus → Type 0
   ProgramAnswer words source source_after sink sink_after receipts receipts_after watchers watchers_after answer =
       AnswersBy (own_text words) (command_in words) source source_after sink sink_after receipts receipts_after watchers watchers_after answer
@@ -99,8 +98,8 @@ module _ {S K : Type 0} (left : S → Option (List ℕ)) (reads : S → ℕ) (wr
       IfOk words (λ had. ShownAnswer on_terminal (spelled had) source source_after sink sink_after receipts receipts_after watchers watchers_after answer)
       × IfErr words (λ wanting. (answer ≡ wanting) × IsUntouched source source_after sink sink_after receipts receipts_after watchers watchers_after)
 
--- *The headline of the program*: if it was started with the word `run` alone and its exit status is that of a run that
--- is done, that run has kept its promise
-abbrev pub KeepsTheHeadline : List (List ℕ) → Option (List ℕ) → Option (List ℕ) → Option (List ℕ) → List (List Entry) → List (List Entry) → ℕ → Type 0
-KeepsTheHeadline words left written written_after receipts receipts_after number =
-    words ≡ codes "run" ∷ [] → number ≡ status_number Done → KeepsItsPromise left written written_after receipts receipts_after
+-- *The headline of the program*: if it was started with just the words of a form that runs a script, and its exit status is
+-- that of a run that is done, that run has kept its promise
+abbrev pub KeepsTheHeadline : List (List ℕ) → Option (List ℕ) → Option (List ℕ) → Option (List ℕ) → List (List Entry) → List (List Entry) → List Seen → List Seen → ℕ → Type 0
+KeepsTheHeadline words left written written_after receipts receipts_after watchers watchers_after number =
+    (form : RunForm) → words ≡ words_of form → number ≡ status_number Done → KeepsItsPromise form left written written_after receipts receipts_after watchers watchers_after

@@ -9,6 +9,8 @@ help_text =
     ++ (10 ∷ [])
     ++ (codes "forms" ++ 10 ∷ [])
     ++ (codes "  run          read a script, run its tasks, each on a thread of its own, and write the report of what happened" ++ 10 ∷ [])
+    ++ (codes "  run tally    the same, and write after the report what was counted of its events while it ran" ++ 10 ∷ [])
+    ++ (codes "  run watch    the same, and write after the report what two monitors saw of the lock while it ran, without taking it" ++ 10 ∷ [])
     ++ (codes "  replay       read an event list, and write its report" ++ 10 ∷ [])
     ++ (codes "  audit        read a report, check all of it, and write how many events and waits it has" ++ 10 ∷ [])
     ++ (codes "  bound        read a script, and write how long each wait of its requests can be" ++ 10 ∷ [])

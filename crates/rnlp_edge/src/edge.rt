@@ -45,7 +45,7 @@ pub fn run<
 ) -> ExitCode
     ensures answer { (status : ToolStatus) × (exit_status result ≡ status_number status)
         × RunAnswer S.left S.faults K.written K.faults (λ had. map string_bytes had.items) words.now on_terminal source.old source.new sink.old sink.new receipts.old.items receipts.new.items (A.all audience.old) (A.all audience.new) status }
-    ensures promise { IfOk words.now (λ had. KeepsTheHeadline (map string_bytes had.items) (S.left source.old) (K.written sink.old) (K.written sink.new) receipts.old.items receipts.new.items (exit_status result)) }
+    ensures promise { IfOk words.now (λ had. KeepsTheHeadline (map string_bytes had.items) (S.left source.old) (K.written sink.old) (K.written sink.new) receipts.old.items receipts.new.items (A.all audience.old) (A.all audience.new) (exit_status result)) }
 {
     let (status, lines) = answered_in_lines(
         rt,
@@ -181,7 +181,7 @@ pub fn answer<R: Threads + Wait + Sync, S: Source, K: Sink, G: Pace, A: Audience
     audience: &mut A,
 ) -> ToolStatus
     ensures answer { ProgramAnswer S.left S.faults K.written K.faults (map string_bytes words.now) source.old source.new sink.old sink.new receipts.old.items receipts.new.items (A.all audience.old) (A.all audience.new) result }
-    ensures promise { KeepsTheHeadline (map string_bytes words.now) (S.left source.old) (K.written sink.old) (K.written sink.new) receipts.old.items receipts.new.items (status_number result) }
+    ensures promise { KeepsTheHeadline (map string_bytes words.now) (S.left source.old) (K.written sink.old) (K.written sink.new) receipts.old.items receipts.new.items (A.all audience.old) (A.all audience.new) (status_number result) }
 {
     told_answer(
         rt, alloc, words, source, sink, pace, receipts, audience, &mut None,
@@ -207,7 +207,9 @@ fn told_answer<R: Threads + Wait + Sync, S: Source, K: Sink, G: Pace, A: Audienc
         return write_output(sink, text);
     }
     if are_for_run(words) {
-        told_run(rt, alloc, words, source, sink, pace, receipts, told)
+        told_run(
+            rt, alloc, words, source, sink, pace, receipts, audience, told,
+        )
     } else {
         told_tool(alloc, words, source, sink, audience, told)
     }

@@ -6,6 +6,8 @@ const HELP: &str = "usage: rnlp FORM < INPUT > OUTPUT
 
 forms
   run          read a script, run its tasks, each on a thread of its own, and write the report of what happened
+  run tally    the same, and write after the report what was counted of its events while it ran
+  run watch    the same, and write after the report what two monitors saw of the lock while it ran, without taking it
   replay       read an event list, and write its report
   audit        read a report, check all of it, and write how many events and waits it has
   bound        read a script, and write how long each wait of its requests can be

@@ -8,6 +8,8 @@ mod bounds;
 #[cfg(test)]
 mod devices;
 #[cfg(test)]
+mod endless;
+#[cfg(test)]
 mod expected;
 #[cfg(test)]
 mod limits;

@@ -1,9 +1,7 @@
-use Rattle.std.proofs.Common.{◌≡◌, subst}
-use Rattle.io_ends.specs.Faults.{Rose}
-use Rattle.rnlp_cli.specs.Running.{IsRun}
 use Rattle.rnlp_cli.proofs.running.run_read.Goals as goal
 
-pub returns-in-Ok-run_script : goal.returns-in-Ok-run_script
-returns-in-Ok-run_script g c =
-    subst (λ items. IsRun c.args.script.now (g.K.Sink.written c.args.sink.now) (g.K.Sink.written c.hand_out.new.sink) (g.K.Sink.faults c.hand_out.new.sink ≡ g.K.Sink.faults c.args.sink.now) (Rose (g.K.Sink.faults c.args.sink.now) (g.K.Sink.faults c.hand_out.new.sink)) (c.hand_out.new.sink ≡ c.args.sink.now) items c.hand_out.new.receipts.items c.hand_out.result)
-    c.reserve.ensures.items (c.hand_out.ensures c.args.script.now c.in-Ok-run_script.ensures.report)
+pub returns-in-Report : goal.returns-in-Report
+returns-in-Report g c = rw c.in-Report.is (c.run_reported.ensures (g.A.Audience.all c.args.audience.now))
+
+pub returns-in-Watch : goal.returns-in-Watch
+returns-in-Watch g c = rw c.in-Watch.is (c.run_looked_at.ensures (g.A.Audience.all c.args.audience.now))
