@@ -1,0 +1,9 @@
+pub mod Conserving
+mod Holdings
+mod Keeping
+mod Making
+mod MayAsk
+mod Moving
+mod Refusing
+mod Risen
+mod Standing

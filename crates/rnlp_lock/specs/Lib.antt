@@ -1,0 +1,7 @@
+pub mod Acts
+pub mod Asking
+pub mod Causes
+pub mod Laws
+pub mod Seats
+pub mod Upgrades
+pub mod Works
