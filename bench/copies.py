@@ -1,7 +1,7 @@
 """What before, latencies and waiters share: copies of the repository in a temporary folder, and programs that are built there.
 
-The sources in clocked/ are of programs that read a clock or sleep. They are no crates, since nothing of the repository depends on time:
-each is made one in a copy, and is built without proofs, on the crates as they stand there."""
+The sources in clocked/ are of programs that read a clock or sleep, and of one whose memory is refused. They are no crates, since nothing of the
+repository depends on time or on that: each is made one in a copy, and is built without proofs, on the crates as they stand there."""
 import os
 import re
 import shutil

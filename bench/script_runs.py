@@ -48,13 +48,13 @@ def used(words, limit, source=None, out=None):
         return None if late.is_set() else (status, Used(took, told.read()))
 
 
-def run(program, text, added, limit=60):
-    """Runs a script, whose report must end in ledgers with what is due. What it used, and the size of its report; None if it has not ended
-    in time."""
+def run(program, text, added, limit=60, form=()):
+    """Runs a script, by these further words, whose report must end in ledgers with what is due. What it used, and the size of its report;
+    None if it has not ended in time."""
     with tempfile.TemporaryFile() as source, tempfile.TemporaryFile() as out:
         source.write(text)
         source.seek(0)
-        ended = used([program, "run"], limit, source, out)
+        ended = used([program, "run", *form], limit, source, out)
         if ended is None:
             return None
         out.seek(0)
