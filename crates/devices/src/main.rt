@@ -1,4 +1,4 @@
-//! Eight devices that three threads share: a monitor reads a row of them, an operator writes, and a maintainer rises where it finds a device that is worn.
+//! Eight devices that three threads share: a monitor reads a row of them, an operator runs one, and a maintainer makes one ready again.
 #![tactic(auto)]
 
 ghost use Rattle.std.specs.Prelude.{◌≡◌, ◌≤◌};
@@ -7,7 +7,7 @@ ghost use Rattle.rnlp_lock.specs.Seats.{who};
 mod device;
 
 use device::{Change, Device, Mode};
-use rnlp_lock::{Lock, Reading, ResourceSet, Rises, Rising, Seat, Sits, Stop, leave, together};
+use rnlp_lock::{Lock, Reading, ResourceSet, Seat, Sits, Stop, leave, together};
 use std::alloc::Global;
 use std::io;
 use std::sync::Wait;
@@ -33,16 +33,6 @@ fn runs_of(values: &Reading<'_, Device>) -> u64 {
     runs
 }
 
-// The first device of a section that is worn.
-fn worn(values: &Rising<'_, Device>) -> Option<u8> {
-    for l in 0..8u8 {
-        if values.has(l) && matches!(values.get(l).mode, Mode::Worn) {
-            return Some(l);
-        }
-    }
-    None
-}
-
 // How many runs the devices of a row have together.
 fn monitor<R: Wait>(rt: &R, seat: &mut Seat<'_, Device>, second: bool) -> Result<u64, Stop>
     ensures { who seat.new ≡ who seat.old }
@@ -61,16 +51,14 @@ fn operate<R: Wait>(rt: &R, seat: &mut Seat<'_, Device>, l: u8) -> Result<(), St
     })
 }
 
-// The first device of a row that is worn is made ready.
-fn maintain<R: Wait>(rt: &R, seat: &mut Seat<'_, Device>, second: bool) -> Result<Option<()>, Stop>
+// A device is made ready.
+fn maintain<R: Wait>(rt: &R, seat: &mut Seat<'_, Device>, l: u8) -> Result<(), Stop>
+    requires { l ≤ 7 }
     ensures { who seat.new ≡ who seat.old }
 {
-    seat.upgrade(
-        rt,
-        row(second),
-        |values| worn(values),
-        |values, l: u8| values.make(l, Change::Turn(Mode::Ready)),
-    )
+    seat.write(rt, ResourceSet::one(l), |values| {
+        values.make(l, Change::Turn(Mode::Ready))
+    })
 }
 
 // What the thread of this number does.
@@ -81,7 +69,7 @@ fn work<R: Wait>(rt: &R, seat: &mut Seat<'_, Device>, thread: usize)
         match thread {
             0 => drop(monitor(rt, seat, turn % 2 == 1)),
             1 => drop(operate(rt, seat, turn % 8)),
-            _ => drop(maintain(rt, seat, turn % 2 == 1)),
+            _ => drop(maintain(rt, seat, turn % 8)),
         }
     }
 }

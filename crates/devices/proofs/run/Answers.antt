@@ -14,6 +14,9 @@ at_some (Err e) x P is held = absurd cc
 pub of-requires : goal.of-requires
 of-requires g c = record { law = holds_of_list (λ _. Unit {0}) c.in_ok-devices.devices.items (record { mode = Ready; runs = 0 }) tt }
 
+pub seats-requires : goal.seats-requires
+seats-requires g c = record { each = at_some c.of.result (c.in_ok-lock.lock, c.in_ok-lock.passes) _ (sym c.ok-2.ensures.value ∙ c.in_ok-lock.was) c.of.ensures.each }
+
 pub leave-requires : goal.leave-requires
 leave-requires g c =
     let all : AreAllOf c.in_ok-lock.lock (map (who_of c.in_ok-lock.lock) c.in_ok-lock.passes.items) = search rules in
