@@ -42,6 +42,10 @@ left_without forms.Report script before text histories after run = run.watched
 left_without forms.Watch script before text histories after run = run.watched
 left_without forms.Tally script before text histories after run = inl (ap (map (λ (w : Seen). w.kind)) run.watched ∙ kinds_all (list_steps run.report) before)
 
+-- nor those of a tally, where tasks of the run were stopped
+pub heard_without : (r : ReportFields) (before after : List Seen) → after ≡ told_run (told_by r) before → WithoutMemory forms.Tally before after
+heard_without r before after heard = inl (ap (map (λ (w : Seen). w.kind)) heard ∙ kinds_all (list_steps (told_by r)) before)
+
 -- ---- what a run writes
 
 -- a run whose report was written, and one whose tally was written after it
@@ -53,15 +57,16 @@ pub tallied_run : (script : ScriptFields) (r : ReportFields) (lines : List ℕ) 
 tallied_run script r lines ws heard is lines_are told = record { report = told_by r; is = (r, is, refl); said = ap (λ (xs : List ℕ). report_text (told_by r) ++ xs) lines_are; kept = refl; watched = told }
 
 -- a run at which monitors looked, of which the report and the looks were written
-pub looked_run : (script : ScriptFields) (r : ReportFields) (lines : List ℕ) (first second : List Look) (ws : List Seen) → IsReportOf script r → AreLooksOf (told_by r) first → AreLooksOf (told_by r) second → lines ≡ looks_text first second
-    → HasRun IsReported forms.Watch script ws (report_text (told_by r) ++ lines) (r.entries ∷ []) ws
-looked_run script r lines first second ws is first_looks second_looks lines_are = record {
-  report = told_by r;
-  is = (r, is, refl);
-  said = record { first = first; second = second; first_looks = first_looks; second_looks = second_looks; said = ap (λ (xs : List ℕ). report_text (told_by r) ++ xs) lines_are };
-  kept = refl;
-  watched = refl;
-}
+pub looked_run : (script : ScriptFields) (r whole : ReportFields) (lines : List ℕ) (first second : List Look) (ws : List Seen) → whole ≡ r → IsReportOf script whole → AreLooksOf (told_by r) first → AreLooksOf (told_by r) second
+    → lines ≡ looks_text first second → HasRun IsReported forms.Watch script ws (report_text (told_by whole) ++ lines) (whole.entries ∷ []) ws
+looked_run script r whole lines first second ws same is first_looks second_looks lines_are =
+    let looks : (l : List Look) → AreLooksOf (told_by r) l → AreLooksOf (told_by whole) l = λ l h. subst (λ (x : ReportFields). AreLooksOf (told_by x) l) (sym same) h in record {
+      report = told_by whole;
+      is = (whole, is, refl);
+      said = record { first = first; second = second; first_looks = looks first first_looks; second_looks = looks second second_looks; said = ap (λ (xs : List ℕ). report_text (told_by whole) ++ xs) lines_are };
+      kept = refl;
+      watched = refl;
+    }
 
 -- a run that was written in a form, or for whose text memory ran out
 pub run_written : (form : RunForm) (script : ScriptFields) (text : List ℕ) (history : List Entry) (before after : Option (List ℕ)) (quiet failed same : Type 0) (receipts later : List (List Entry)) (ws heard : List Seen) (s : ToolStatus)

@@ -10,6 +10,7 @@ pub mod Leaving
 pub mod Promise
 pub mod Watched
 pub mod Due
+pub mod Stopping
 pub mod Told
 pub mod DueLines
 pub mod BoundText

@@ -23,6 +23,7 @@ mod running;
 mod script_fault;
 mod script_line;
 mod status;
+mod stopping;
 mod tallying;
 mod tool;
 

@@ -4,16 +4,18 @@ ghost use Rattle.io_ends.specs.Faults.{Rose};
 ghost use Rattle.rwatch.specs.Seen.{Seen};
 ghost use Rattle.rnlp_cli.specs.Forms.{look_line, looks_text};
 ghost use Rattle.rnlp_cli.specs.Running.{IsRun};
+ghost use Rattle.rnlp_cli.specs.Stopping.{MayBeAside};
 
 use crate::bound_line::push_number;
 use crate::command::RunForm;
 use crate::running::hand_out;
 use crate::status::ToolStatus;
+use crate::stopping::whole_or_aside;
 use io_ends::Sink;
 use rguard::Receipt;
 use rlooks::LOOKS;
 use rmon::Look;
-use rrun::{Pace, run_monitored};
+use rrun::{Pace, Run, run_all_monitored};
 use rscript::Script;
 use rvalue::Edit;
 use std::alloc::{AllocError, Global};
@@ -27,7 +29,8 @@ const LOOK_ROOM: usize = 36;
 const LOOKS_ROOM: usize = 2 * LOOKS * LOOK_ROOM + 4;
 
 /// Runs a script while two workers look at it by monitors, writes the report and what these saw, and hands out the receipt.
-/// The room for the lines and for the receipt is made before the run.
+/// The room for the lines and for the receipt is made before the run. A run in which tasks were stopped is put aside, and nothing
+/// is written.
 pub fn run_looked_at<R: Threads + Wait + Sync, K: Sink, G: Pace>(
     rt: &R,
     alloc: Global,
@@ -35,8 +38,10 @@ pub fn run_looked_at<R: Threads + Wait + Sync, K: Sink, G: Pace>(
     sink: &mut K,
     pace: &G,
     receipts: &mut Vec<Receipt<Edit>>,
+    aside: &mut Option<Run>,
 ) -> ToolStatus
-    ensures { (watchers : List Seen) → IsRun RunForm.Watch script.now (K.written sink.old) (K.written sink.new) (K.faults sink.new ≡ K.faults sink.old) (Rose (K.faults sink.old) (K.faults sink.new)) (sink.new ≡ sink.old) receipts.old.items receipts.new.items watchers watchers result }
+    ensures run { (watchers : List Seen) → IsRun RunForm.Watch script.now (K.written sink.old) (K.written sink.new) (K.faults sink.new ≡ K.faults sink.old) (Rose (K.faults sink.old) (K.faults sink.new)) (sink.new ≡ sink.old) receipts.old.items receipts.new.items watchers watchers result }
+    ensures aside { MayBeAside script.now aside.old aside.new result }
 {
     let Ok(()) = receipts.reserve(1) else {
         return ToolStatus::NoMemory;
@@ -44,12 +49,15 @@ pub fn run_looked_at<R: Threads + Wait + Sync, K: Sink, G: Pace>(
     let Ok(mut lines) = Vec::with_capacity(alloc, LOOKS_ROOM) else {
         return ToolStatus::NoMemory;
     };
-    match run_monitored(rt, alloc, script, pace) {
-        Ok((report, receipt, (first, second))) => match push_all(&mut lines, &first, &second) {
+    let Ok((run, (first, second))) = run_all_monitored(rt, alloc, script, pace) else {
+        return ToolStatus::NoMemory;
+    };
+    match whole_or_aside(script, run, aside) {
+        Some((report, receipt)) => match push_all(&mut lines, &first, &second) {
             Ok(()) => hand_out(alloc, &report, &lines, receipt, sink, receipts),
             Err(_) => ToolStatus::NoMemory,
         },
-        Err(_) => ToolStatus::NoMemory,
+        None => ToolStatus::NoMemory,
     }
 }
 

@@ -12,6 +12,7 @@ ghost use Rattle.rnlp_cli.specs.Forms.{HasRun, IsReported};
 ghost use Rattle.rnlp_cli.specs.Leaving.{RunLeaves};
 ghost use Rattle.rnlp_cli.specs.Promise.{KeepsItsPromise};
 ghost use Rattle.rnlp_cli.specs.Running.{IsRun};
+ghost use Rattle.rnlp_cli.specs.Stopping.{MayBeAside};
 ghost use Rattle.rnlp_cli.specs.Told.{Tells};
 ghost use Rattle.rnlp_cli.specs.Watched.{Leaves};
 ghost use Rattle.rnlp_cli.specs.Writing.{IsAnswer, IsWritten};
@@ -23,10 +24,11 @@ use crate::looking::run_looked_at;
 use crate::output::write_output;
 use crate::script_fault::refuse_script;
 use crate::status::ToolStatus;
+use crate::stopping::{tell_aside, whole_or_aside};
 use crate::tallying::run_tallied;
 use io_ends::{Sink, Source};
 use rguard::Receipt;
-use rrun::{Pace, Report, WriteErr, run_script, write_report};
+use rrun::{Pace, Report, Run, WriteErr, run_all, write_report};
 use rscript::{Script, ScriptErr, read_script};
 use rvalue::Edit;
 use rwatch::Audience;
@@ -70,7 +72,8 @@ pub fn run_tool<R: Threads + Wait + Sync, S: Source, K: Sink, G: Pace, A: Audien
     )
 }
 
-/// The same; and if the input is not a script, its first fault is put into `told` too, for the user.
+/// The same; and if the input is not a script, its first fault is put into `told` too, for the user; if tasks of the run were
+/// stopped because memory ran out, which of them were.
 pub fn told_run<R: Threads + Wait + Sync, S: Source, K: Sink, G: Pace, A: Audience>(
     rt: &R,
     alloc: Global,
@@ -116,7 +119,14 @@ fn run_text<R: Threads + Wait + Sync, K: Sink, G: Pace, A: Audience>(
     ensures told { (watchers : List Seen) → Tells watchers (Some (Command.Run form)) (Some bytes.now) told.old told.new result }
 {
     match read_script(alloc, bytes) {
-        Ok(script) => run_read(rt, alloc, form, &script, sink, pace, receipts, audience),
+        Ok(script) => {
+            let mut aside = None;
+            let status = run_read(
+                rt, alloc, form, &script, sink, pace, receipts, audience, &mut aside,
+            );
+            tell_aside(script, aside, told);
+            status
+        }
         Err(ScriptErr::Bad { line, code }) => refuse_script(alloc, line, code, sink, told),
         Err(ScriptErr::Memory) => ToolStatus::NoMemory,
     }
@@ -132,17 +142,20 @@ fn run_read<R: Threads + Wait + Sync, K: Sink, G: Pace, A: Audience>(
     pace: &G,
     receipts: &mut Vec<Receipt<Edit>>,
     audience: &mut A,
+    aside: &mut Option<Run>,
 ) -> ToolStatus
-    ensures { IsRun form script.now (K.written sink.old) (K.written sink.new) (K.faults sink.new ≡ K.faults sink.old) (Rose (K.faults sink.old) (K.faults sink.new)) (sink.new ≡ sink.old) receipts.old.items receipts.new.items (A.all audience.old) (A.all audience.new) result }
+    ensures run { IsRun form script.now (K.written sink.old) (K.written sink.new) (K.faults sink.new ≡ K.faults sink.old) (Rose (K.faults sink.old) (K.faults sink.new)) (sink.new ≡ sink.old) receipts.old.items receipts.new.items (A.all audience.old) (A.all audience.new) result }
+    ensures aside { MayBeAside script.now aside.old aside.new result }
 {
     match form {
-        RunForm::Report => run_reported(rt, alloc, script, sink, pace, receipts),
-        RunForm::Tally => run_tallied(rt, alloc, script, sink, pace, receipts, audience),
-        RunForm::Watch => run_looked_at(rt, alloc, script, sink, pace, receipts),
+        RunForm::Report => run_reported(rt, alloc, script, sink, pace, receipts, aside),
+        RunForm::Tally => { run_tallied(rt, alloc, script, sink, pace, receipts, audience, aside) }
+        RunForm::Watch => run_looked_at(rt, alloc, script, sink, pace, receipts, aside),
     }
 }
 
-// Runs a script, writes the report, and hands out its receipt. The room for the receipt is made before the run.
+// Runs a script, writes the report, and hands out its receipt. The room for the receipt is made before the run. A run in which
+// tasks were stopped is put aside, and nothing is written.
 fn run_reported<R: Threads + Wait + Sync, K: Sink, G: Pace>(
     rt: &R,
     alloc: Global,
@@ -150,15 +163,20 @@ fn run_reported<R: Threads + Wait + Sync, K: Sink, G: Pace>(
     sink: &mut K,
     pace: &G,
     receipts: &mut Vec<Receipt<Edit>>,
+    aside: &mut Option<Run>,
 ) -> ToolStatus
-    ensures { (watchers : List Seen) → IsRun RunForm.Report script.now (K.written sink.old) (K.written sink.new) (K.faults sink.new ≡ K.faults sink.old) (Rose (K.faults sink.old) (K.faults sink.new)) (sink.new ≡ sink.old) receipts.old.items receipts.new.items watchers watchers result }
+    ensures run { (watchers : List Seen) → IsRun RunForm.Report script.now (K.written sink.old) (K.written sink.new) (K.faults sink.new ≡ K.faults sink.old) (Rose (K.faults sink.old) (K.faults sink.new)) (sink.new ≡ sink.old) receipts.old.items receipts.new.items watchers watchers result }
+    ensures aside { MayBeAside script.now aside.old aside.new result }
 {
     let Ok(()) = receipts.reserve(1) else {
         return ToolStatus::NoMemory;
     };
-    match run_script(rt, alloc, script, pace) {
-        Ok((report, receipt)) => hand_out(alloc, &report, b"", receipt, sink, receipts),
-        Err(_) => ToolStatus::NoMemory,
+    let Ok(run) = run_all(rt, alloc, script, pace) else {
+        return ToolStatus::NoMemory;
+    };
+    match whole_or_aside(script, run, aside) {
+        Some((report, receipt)) => hand_out(alloc, &report, b"", receipt, sink, receipts),
+        None => ToolStatus::NoMemory,
     }
 }
 

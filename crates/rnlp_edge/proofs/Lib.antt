@@ -1,3 +1,5 @@
 pub mod Edges
+pub mod PlainNames
 pub mod Promised
+pub mod TaskLines
 mod WatcherLines

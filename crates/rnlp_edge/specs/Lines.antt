@@ -1,7 +1,9 @@
 -- The lines that are reported to the user on standard error.
-use Rattle.std.specs.Prelude.{ℕ, Bool, true, false, List, [], ◌∷◌, ◌++◌, Option, Some, None, option_map, codes, decimal, flat_map, string_bytes}
+use Rattle.std.specs.Prelude.{ℕ, ◌+◌, Bool, true, false, List, [], ◌∷◌, ◌++◌, length, slice_get, Option, Some, None, option_map, codes, decimal, flat_map, string_bytes}
+use Rattle.std.specs.List.{range_with_len}
 use Rattle.rtrace_form.specs.declared.fault.Code.{Code}
 use Rattle.rtrace_form.specs.declared.fault.Code.TheVariants as list
+use Rattle.rtrace_form.specs.SetFields.{name_at}
 use Rattle.rnlp_cli.specs.declared.status.ToolStatus.{ToolStatus}
 use Rattle.rnlp_cli.specs.declared.explained.Told.{Told}
 use Rattle.rnlp_cli.specs.declared.explained.Told.TheVariants as what
@@ -53,10 +55,22 @@ abbrev pub expected_line : Option (List ℕ) → List ℕ
 expected_line None = []
 expected_line (Some line) = codes "rnlp: expected: " ++ (line ++ 10 ∷ [])
 
--- the lines to report: what the status means, with what was counted of steps that were shown; or in place of the status
--- what is wrong with the input, and which line was due there
+-- the line of a task that was stopped after so many whole sections: it was in the one after them; no line for a task that is
+-- complete
+abbrev pub stopped_line : List ℕ → Option (Option ℕ) → List ℕ
+stopped_line name None = []
+stopped_line name (Some None) = []
+stopped_line name (Some (Some sections)) = codes "rnlp: task " ++ (name ++ (codes " was stopped in section " ++ (decimal (sections + 1) ++ codes ": out of memory\n")))
+
+-- the lines of those of the tasks with these names that were stopped, in order
+abbrev pub stopped_lines : List (List ℕ) → List (Option ℕ) → List ℕ
+stopped_lines names sections = flat_map (λ task. stopped_line (name_at names task) (slice_get sections task)) (range_with_len 0 (length names))
+
+-- the lines to report: what the status means, with what was counted of steps that were shown, or which tasks were stopped in
+-- which sections; or in place of the status what is wrong with the input, and which line was due there
 abbrev pub told_lines : List Seen → Bool → ToolStatus → Option Told → List ℕ
 told_lines watchers terminal status None = meaning_line (status_meaning status)
 told_lines watchers terminal status (Some what.Steps) = meaning_line (status_meaning status) ++ counts_shown terminal watchers
 told_lines watchers terminal status (Some (what.List fault expected)) = record_line fault.line (fault_text fault.code) ++ expected_line (option_map string_bytes expected)
 told_lines watchers terminal status (Some (what.Script line code)) = record_line line (script_text code)
+told_lines watchers terminal status (Some (what.Stopped script sections receipt)) = meaning_line (status_meaning status) ++ stopped_lines script.tasks sections.items

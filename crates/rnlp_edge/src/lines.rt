@@ -1,6 +1,7 @@
 // The lines that are reported to the user.
-ghost use Rattle.std.specs.Prelude.{◌≡◌, ◌++◌, ◌∷◌, [], IfOk, OnOk, codes, decimal, flat_map, option_map, string_bytes};
-ghost use Rattle.rnlp_edge.specs.Lines.{told_lines, record_line, meaning_line, watcher_line, counts_shown, cause_text, fault_text, expected_line, script_text};
+ghost use Rattle.std.specs.Prelude.{◌≡◌, ◌<◌, ◌+◌, ◌++◌, ◌∷◌, [], IfOk, OnOk, codes, decimal, flat_map, length, option_map, slice_get, string_bytes};
+ghost use Rattle.rtrace_form.specs.SetFields.{name_at};
+ghost use Rattle.rnlp_edge.specs.Lines.{told_lines, record_line, meaning_line, watcher_line, counts_shown, cause_text, fault_text, expected_line, script_text, stopped_line, stopped_lines};
 ghost use Rattle.rnlp_edge.specs.Meanings.{status_meaning, kind_word, refusal_meaning};
 
 use crate::meanings::{
@@ -8,12 +9,14 @@ use crate::meanings::{
 };
 use rnlp_cli::{Told, ToolStatus};
 use rscript::ScriptCode;
+use rset::NameTable;
 use rtrace_form::{Code, Fault, Refusal};
 use rwatch::{Audience, WatchKind};
 use std::alloc::{AllocError, Global};
 
 /// The lines to report, one after another: what a status means, and on a terminal what was counted of the steps that
-/// were shown; or for a refused input what is wrong with which record, and which line was due there.
+/// were shown, or which tasks of a run were stopped in which sections; or for a refused input what is wrong with which record,
+/// and which line was due there.
 ///
 /// # Errors
 ///
@@ -47,7 +50,95 @@ fn push_told<A: Audience>(
         Some(Told::Steps) => push_steps(lines, alloc, status, audience, on_terminal),
         Some(Told::List { fault, expected }) => push_refused(lines, alloc, *fault, expected),
         Some(Told::Script { line, code }) => push_script(lines, alloc, *line, *code),
+        Some(
+            Told::Stopped {
+                script,
+                sections,
+                receipt: _,
+            },
+        ) => push_stopped(lines, alloc, status, script.tasks(), sections),
     }
+}
+
+// Appends what a status means, and the line of each task that was stopped.
+fn push_stopped(
+    lines: &mut String,
+    alloc: Global,
+    status: ToolStatus,
+    names: &NameTable,
+    sections: &[Option<u64>],
+) -> Result<(), AllocError>
+    ensures { OnOk result (string_bytes lines.new ≡ string_bytes lines.old ++ (meaning_line (status_meaning status) ++ stopped_lines names.now sections.now)) }
+{
+    push_status(lines, status)?;
+    push_tasks(lines, alloc, names, sections)?;
+    Ok(())
+}
+
+// Appends the line of each task that was stopped.
+fn push_tasks(
+    lines: &mut String,
+    alloc: Global,
+    names: &NameTable,
+    sections: &[Option<u64>],
+) -> Result<(), AllocError>
+    ensures { OnOk result (string_bytes lines.new ≡ string_bytes lines.old ++ stopped_lines names.now sections.now) }
+{
+    for task in 0..names.len() {
+        let name = name_in(names, task);
+        push_task(lines, alloc, name, stopped_at(sections, task))?;
+    }
+    Ok(())
+}
+
+// After how many whole sections a task was stopped, if it was.
+fn stopped_at(sections: &[Option<u64>], task: u8) -> Option<Option<u64>>
+    ensures { result ≡ slice_get sections.now task }
+{
+    sections.get(usize::from(task)).copied()
+}
+
+// The name of a task.
+fn name_in(names: &NameTable, task: u8) -> &str
+    requires { task < length names.now }
+    ensures { result.now ≡ name_at names.now task }
+{
+    let name = names.name_of(task);
+    // For the proof: what is in a table are names.
+    let _ = names.number_of(name);
+    match str::from_utf8(name) {
+        Ok(name) => name,
+        Err(_) => unreachable!(),
+    }
+}
+
+// Appends the line of a task, if it was stopped.
+fn push_task(
+    lines: &mut String,
+    alloc: Global,
+    name: &str,
+    sections: Option<Option<u64>>,
+) -> Result<(), AllocError>
+    ensures { OnOk result (string_bytes lines.new ≡ string_bytes lines.old ++ stopped_line name.now sections) }
+{
+    match sections {
+        Some(Some(sections)) => push_stop(lines, alloc, name, sections),
+        Some(None) | None => Ok(()),
+    }
+}
+
+// Appends the line of a task that was stopped after so many whole sections.
+fn push_stop(lines: &mut String, alloc: Global, name: &str, sections: u64) -> Result<(), AllocError>
+    ensures { OnOk result (string_bytes lines.new ≡ string_bytes lines.old ++ (codes "rnlp: task " ++ (name.now ++ (codes " was stopped in section " ++ (decimal (sections + 1) ++ codes ": out of memory\n"))))) }
+{
+    let section = u128::from(sections) + 1;
+    let digits = section.to_string(alloc)?;
+    lines.push_str("rnlp: task ")?;
+    lines.push_str(name)?;
+    lines.push_str(" was stopped in section ")?;
+    lines.push_str(digits.as_str())?;
+    lines.push_str(": out of memory\n")?;
+    Ok(())
 }
 
 // Appends the line of what a status means, if it has a meaning.

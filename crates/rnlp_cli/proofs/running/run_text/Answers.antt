@@ -1,19 +1,23 @@
-use Rattle.std.proofs.Common.{Some, None, Err, refl, ap}
+use Rattle.std.proofs.Common.{Option, Some, None, Err, refl, sym, ap, subst}
 use Rattle.rnlp_cli.proofs.Outcomes.{told}
 use Rattle.rnlp_cli.proofs.Runs.{run_answer, run_leaves, refused_leaves, same_without}
 use Rattle.rnlp_cli.proofs.Tellings.{run_tells, script_tells}
+use Rattle.rnlp_cli.specs.Told.{TellsBehind}
 use Rattle.rnlp_cli.specs.declared.command.Command.TheVariants.{Run}
+use Rattle.rnlp_cli.specs.declared.explained.Told.{Told}
 use Rattle.rnlp_cli.specs.declared.status.ToolStatus.TheVariants.{Script}
 use Rattle.rnlp_cli.proofs.running.run_text.Goals as goal
 
 pub returns-in-Ok-clause-answer : goal.returns-in-Ok-clause-answer
-returns-in-Ok-clause-answer g c = run_answer c.args.form c.args.bytes.now c.in-Ok.script c.in-Ok.ensures.script _ _ _ _ _ _ _ _ _ c.run_read.result c.run_read.ensures
+returns-in-Ok-clause-answer g c = run_answer c.args.form c.args.bytes.now c.in-Ok.script c.in-Ok.ensures.script _ _ _ _ _ _ _ _ _ c.run_read-status.result c.run_read-status.ensures.run
 
 pub returns-in-Ok-clause-leaves : goal.returns-in-Ok-clause-leaves
-returns-in-Ok-clause-leaves g c = run_leaves c.args.form c.args.bytes.now c.in-Ok.script c.in-Ok.ensures.script _ _ _ _ _ _ _ _ _ c.run_read.result c.run_read.ensures
+returns-in-Ok-clause-leaves g c = run_leaves c.args.form c.args.bytes.now c.in-Ok.script c.in-Ok.ensures.script _ _ _ _ _ _ _ _ _ c.run_read-status.result c.run_read-status.ensures.run
 
 pub returns-in-Ok-clause-told : goal.returns-in-Ok-clause-told
-returns-in-Ok-clause-told g c = λ watchers. run_tells _ _ _ _ _ _ _ _ _ _ _ (Some (Run c.args.form)) (Some c.args.bytes.now) c.args.told.now c.run_read.result c.run_read.ensures
+returns-in-Ok-clause-told g c = λ watchers.
+    subst (λ (t : Option Told). TellsBehind c.args.told.now (Some (Run c.args.form)) (Some c.args.bytes.now) c.args.told.now t c.run_read-status.result) (sym c.tell_aside.ensures)
+    (run_tells c.args.form c.args.bytes.now c.in-Ok.script c.in-Ok.ensures.script _ _ _ _ _ _ _ _ _ c.args.told.now c.run_read-status.new.aside c.run_read-status.result c.run_read-status.ensures.run c.run_read-status.ensures.aside)
 
 pub returns-in-Err-Bad-clause-answer : goal.returns-in-Err-Bad-clause-answer
 returns-in-Err-Bad-clause-answer g c =
