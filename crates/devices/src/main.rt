@@ -1,4 +1,5 @@
-//! Eight devices that three threads share: a monitor reads a row of them, an operator runs one, and a maintainer makes one ready again.
+//! Eight devices that four threads share: a monitor reads a row of them, an operator writes, a maintainer rises where it finds a device that is worn, and an
+//! inspector begins with one device and asks for its neighbour if that one is worn.
 #![tactic(auto)]
 
 ghost use Rattle.std.specs.Prelude.{◌≡◌, ◌≤◌};
@@ -7,7 +8,9 @@ ghost use Rattle.rnlp_lock.specs.Seats.{who};
 mod device;
 
 use device::{Change, Device, Mode};
-use rnlp_lock::{Lock, Reading, ResourceSet, Seat, Sits, Stop, leave, together};
+use rnlp_lock::{
+    Lock, Nesting, Nests, Reading, ResourceSet, Rises, Rising, Seat, Sits, Stop, leave, together,
+};
 use std::alloc::Global;
 use std::io;
 use std::sync::Wait;
@@ -33,6 +36,16 @@ fn runs_of(values: &Reading<'_, Device>) -> u64 {
     runs
 }
 
+// The first device of a section that is worn.
+fn worn(values: &Rising<'_, Device>) -> Option<u8> {
+    for l in 0..8u8 {
+        if values.has(l) && matches!(values.get(l).mode, Mode::Worn) {
+            return Some(l);
+        }
+    }
+    None
+}
+
 // How many runs the devices of a row have together.
 fn monitor<R: Wait>(rt: &R, seat: &mut Seat<'_, Device>, second: bool) -> Result<u64, Stop>
     ensures { who seat.new ≡ who seat.old }
@@ -51,14 +64,52 @@ fn operate<R: Wait>(rt: &R, seat: &mut Seat<'_, Device>, l: u8) -> Result<(), St
     })
 }
 
-// A device is made ready.
-fn maintain<R: Wait>(rt: &R, seat: &mut Seat<'_, Device>, l: u8) -> Result<(), Stop>
-    requires { l ≤ 7 }
+// The first device of a row that is worn is made ready.
+fn maintain<R: Wait>(rt: &R, seat: &mut Seat<'_, Device>, second: bool) -> Result<Option<()>, Stop>
     ensures { who seat.new ≡ who seat.old }
 {
-    seat.write(rt, ResourceSet::one(l), |values| {
-        values.make(l, Change::Turn(Mode::Ready))
-    })
+    seat.upgrade(
+        rt,
+        row(second),
+        |values| worn(values),
+        |values, l: u8| values.make(l, Change::Turn(Mode::Ready)),
+    )
+}
+
+// Turns off the first device that a section holds if it is worn, and its neighbour with it, which is asked for then alone.
+fn turn_off<R: Wait>(
+    rt: &R,
+    values: &mut Nesting<'_, Device>,
+    first: u8,
+    next: u8,
+) -> Result<(), Stop>
+    requires { next ≤ 7 }
+    ensures { values.new.place ≡ values.old.place }
+{
+    if !values.has(first) {
+        return Err(Stop::NotHeld);
+    }
+    if !matches!(values.get(first).mode, Mode::Worn) {
+        return Ok(());
+    }
+    values.ask(rt, ResourceSet::one(next))?;
+    values.make(first, Change::Turn(Mode::Off))?;
+    values.make(next, Change::Turn(Mode::Off))
+}
+
+// A device and its neighbour are turned off if the device is worn.
+fn inspect<R: Wait>(rt: &R, seat: &mut Seat<'_, Device>, l: u8) -> Result<(), Stop>
+    requires { l ≤ 6 }
+    ensures { who seat.new ≡ who seat.old }
+{
+    let first = ResourceSet::one(l);
+    seat.nested(
+        rt,
+        ResourceSet::empty(),
+        first.with(l + 1),
+        first,
+        |values| turn_off(rt, values, l, l + 1),
+    )
 }
 
 // What the thread of this number does.
@@ -69,19 +120,20 @@ fn work<R: Wait>(rt: &R, seat: &mut Seat<'_, Device>, thread: usize)
         match thread {
             0 => drop(monitor(rt, seat, turn % 2 == 1)),
             1 => drop(operate(rt, seat, turn % 8)),
-            _ => drop(maintain(rt, seat, turn % 8)),
+            2 => drop(maintain(rt, seat, turn % 2 == 1)),
+            _ => drop(inspect(rt, seat, turn % 7)),
         }
     }
 }
 
-/// Whether the history has an entry for each run of a device, once the three threads are done: None if memory ran out.
+/// Whether the history has an entry for each run of a device, once the four threads are done: None if memory ran out.
 pub fn run<R: Threads + Wait + Sync>(rt: &R, alloc: Global) -> Option<bool> {
     let device = Device {
         mode: Mode::Ready,
         runs: 0,
     };
     let devices = vec![in alloc; device; 8].ok()?;
-    let (lock, passes) = Lock::of(alloc, devices, &[row(false), row(true)], 3).ok()?;
+    let (lock, passes) = Lock::of(alloc, devices, &[row(false), row(true)], 4).ok()?;
     let mut seats = lock.seats(alloc, passes).ok()?;
     together(
         rt,
@@ -99,7 +151,7 @@ pub fn run<R: Threads + Wait + Sync>(rt: &R, alloc: Global) -> Option<bool> {
 
 fn main(rt: HostRuntime) -> io::Result<()> {
     match run(&rt, rt.alloc()) {
-        Some(line) => println!(rt; "eight devices, three threads: {line}"),
+        Some(line) => println!(rt; "eight devices, four threads: {line}"),
         None => println!(rt; "no memory"),
     }
 }

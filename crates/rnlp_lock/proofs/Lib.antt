@@ -1,4 +1,5 @@
 pub mod Conserving
+mod Asks
 mod Holdings
 mod Keeping
 mod Making

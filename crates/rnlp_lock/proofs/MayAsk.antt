@@ -1,13 +1,13 @@
 -- Requests that a lock may be asked for.
-use Rattle.std.proofs.Common.{◌≡◌, true, inl, inr, refl, sym, subst}
-use Rattle.std.specs.FinSet.{is_subset}
+use Rattle.std.proofs.Common.{◌≡◌, ◌≢◌, true, inl, inr, refl, sym, subst}
+use Rattle.std.specs.FinSet.{empty, is_subset, union}
 use Rattle.rset.specs.Sets.{Set, all_below}
 use Rattle.rset.proofs.SetsBelow.{all_below_within, all_below_empty, all_below_difference}
 use Rattle.rexpand.specs.Groups.{ReadGroups, is_declared}
-use Rattle.rclaim.specs.Requests.{RequestFields}
+use Rattle.rclaim.specs.Requests.{RequestFields, is_part}
 use Rattle.rclaim.specs.declared.request.Kind.{Kind}
 use Rattle.rguard.specs.Sections.{read_of}
-use Rattle.rnlp_lock.specs.Asking.{MayAsk, MayWriteBy, asked}
+use Rattle.rnlp_lock.specs.Asking.{MayAsk, MayNest, MayWriteBy, asked}
 use Rattle.rnlp_lock.specs.Upgrades.{upgrade_of}
 
 module _ (groups : ReadGroups) (all : Set) (below : all_below groups.q all ≡ true) where
@@ -24,3 +24,10 @@ module _ (groups : ReadGroups) (all : Set) (below : all_below groups.q all ≡ t
 
   pub may_rise : (set : Set) (r : RequestFields) → r ≡ upgrade_of set → is_subset set all ≡ true → is_declared groups.groups set ≡ true → MayAsk groups r
   may_rise set r is inside declared = subst (MayAsk groups) (sym is) (record { reads = all_below_within groups.q set all inside below; writes = all_below_empty groups.q; admitted = declared })
+
+  pub may_nest : (reads writes first : Set) → writes ≢ empty → is_part first (union reads writes) ≡ true → is_subset reads all ≡ true → is_subset writes all ≡ true → MayNest groups reads writes first
+  may_nest reads writes first some fits inside within = (
+    some,
+    fits,
+    record { reads = all_below_difference groups.q reads writes (all_below_within groups.q reads all inside below); writes = all_below_within groups.q writes all within below; admitted = refl },
+  )

@@ -1,10 +1,10 @@
 -- Upgrades: what their sections hold before and after a rise, and that they were made.
-use Rattle.std.proofs.Common.{◌≡◌, ℕ, Bool, true, List, [], ◌∷◌, ◌++◌, Option, Some, None, Result, Ok, Err, refl, sym, ap, subst, ◌∙◌, inl, inr}
+use Rattle.std.proofs.Common.{◌≡◌, ℕ, Bool, true, List, [], ◌∷◌, ◌++◌, Option, Some, None, Result, Ok, Err, refl, sym, ap, subst, ◌∙◌, inl}
 use Rattle.std.proofs.lemmas.Bool.{or_left}
 use Rattle.std.proofs.lemmas.List.Sums.{fold-append}
 use Rattle.std.specs.FinSet.{empty, contains}
 use Rattle.std.specs.Option.{MatchOption}
-use Rattle.std.specs.Prelude.{IfOk, OnErr}
+use Rattle.std.specs.Prelude.{IfOk, IfErr, OnErr}
 use Rattle.rset.specs.Sets.{Set}
 use Rattle.rclaim.specs.Requests.{RequestFields}
 use Rattle.rclaim.specs.declared.event.Event.TheVariants.{Issue, Rise, Finish}
@@ -16,9 +16,12 @@ use Rattle.rguard.specs.Guards.{GuardFields, HasSeenLawful, HasSeenOwn, IsReady}
 use Rattle.rguard.specs.Looks.{HasAcquired, fields_of}
 use Rattle.rguard.specs.Seats.{SeatOf, Goes, bare}
 use Rattle.rguard.proofs.Going.{goes_on}
+use Rattle.rnlp_lock.specs.Asking.{MayAsk}
+use Rattle.rnlp_lock.specs.Causes.{CameToNothing}
 use Rattle.rnlp_lock.specs.Seats.{LockFields, SeatFields, IsPassOf}
-use Rattle.rnlp_lock.specs.Upgrades.{Rose, MadeRisen, MadeUpgrade, as_risen, upgrade_of}
-use Rattle.rnlp_lock.specs.Works.{Place, WorkFields, IsWork, Began, Ended}
+use Rattle.rnlp_lock.specs.Upgrades.{Rose, MadeRisen, MadeUpgrade, UpgradeEnds, as_risen, upgrade_of}
+use Rattle.rnlp_lock.specs.Works.{Place, WorkFields, IsWork, Began, Ended, Made}
+use Rattle.rnlp_lock.specs.declared.stop.Stop.{Stop}
 use Rattle.rnlp_lock.proofs.Holdings.{may_do}
 use Rattle.rnlp_lock.proofs.Keeping.{keeps_on, at_on}
 use Rattle.rnlp_lock.proofs.Standing.{OpenSection, begun, having_risen, section_told, section_made}
@@ -128,3 +131,18 @@ module _ {V E : Type 0} where
   pub rises_bare : (set : Set) (own : SeatFields V E) (work : WorkFields V E) (later : SeatOf V E) → Began (upgrade_of set) own work → Goes work.place.pass (record { event = Rise work.place.pass.number; acts = work.acts } ∷ []) later
       → Goes work.place.pass (bare (Rise work.place.pass.number) ∷ []) later
   rises_bare set own work later began goes = subst (λ (acts : List (Act E)). Goes work.place.pass (record { event = Rise work.place.pass.number; acts = acts } ∷ []) later) began.fresh goes
+
+-- ---- what an upgrade came to
+
+module _ {V E W N A B : Type 0} (rising : W → WorkFields V E) (writing : N → WorkFields V E) (Looks : W → Option B → Type 0) (Thens : N → B → Result A Stop → N → Type 0) (Refuses : Stop → Type 0) (request : RequestFields) (seat later : SeatFields V E) where
+  -- by how it ended where it was made, and where it was not
+  pub ends_by : (result : Result (Option A) Stop) → MayAsk seat.lock.groups request
+      → IfOk result (λ outcome. MatchOption outcome
+      (Made request (λ first last. (work : W) × (first ≡ rising work) × Looks work None) seat later)
+      (λ answer. MadeUpgrade request (λ first risen last. (work : W) × (seen : B) × (begun : N) × (ended : N) × (first ≡ rising work) × (risen ≡ writing begun) × (last ≡ writing ended) × Looks work (Some seen) × Thens begun seen (Ok answer) ended) seat later))
+      → IfErr result (CameToNothing Refuses (λ (s : Stop). (work : W) × (seen : B) × (begun : N) × (ended : N) × Began request seat (rising work) × Looks work (Some seen) × Thens begun seen (Err s) ended)
+      (Goes seat.pass [] later.pass) (MadeRisen request [] seat.pass later.pass))
+      → UpgradeEnds rising writing Looks Thens Refuses request seat later result
+  ends_by (Ok None) may made nothing = (may, made)
+  ends_by (Ok (Some answer)) may made nothing = (may, made)
+  ends_by (Err stop) may made nothing = nothing

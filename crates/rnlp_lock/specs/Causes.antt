@@ -1,13 +1,12 @@
 -- Why a section came to nothing, said exactly: each cause is answered only where it is so.
 use Rattle.std.specs.Prelude.{◌≡◌, ◌≢◌, ◌⊎◌, ◌<◌, ◌≤◌, ⊤, ℕ, List, length, true, false}
-use Rattle.std.specs.FinSet.{empty, contains}
+use Rattle.std.specs.FinSet.{empty, contains, union}
 use Rattle.rset.specs.Sets.{Set, all_below}
 use Rattle.rset.specs.declared.TheConstants.{RESOURCES, SEATS}
 use Rattle.rexpand.specs.Groups.{ReadGroups, is_declared, are_groups}
 use Rattle.rexpand.specs.declared.TheConstants.{GROUPS}
-use Rattle.rclaim.specs.Requests.{RequestFields}
-use Rattle.rnlp_lock.specs.Asking.{MayAsk}
-use Rattle.rnlp_lock.specs.Works.{WorkFields}
+use Rattle.rclaim.specs.Requests.{RequestFields, is_part}
+use Rattle.rnlp_lock.specs.Asking.{MayAsk, MayNest}
 use Rattle.rnlp_lock.specs.declared.lock.LockErr.{LockErr}
 use Rattle.rnlp_lock.specs.declared.lock.LockErr.TheVariants as lock
 use Rattle.rnlp_lock.specs.declared.stop.Stop.{Stop}
@@ -37,6 +36,25 @@ StopsWrite groups reads writes request Untaken = ⊥
 StopsWrite groups reads writes request NotHeld = ⊥
 StopsWrite groups reads writes request Own = ⊥
 
+-- why a nested request was not made: there is nothing to write, a set has a member that the lock has not, or the first part is
+-- empty or no part of what is read and written; or memory ran out for a request that the lock may be asked for
+abbrev pub StopsNested : ReadGroups → (reads writes first : Set) → Stop → Type 0
+StopsNested groups reads writes first NotThere = (writes ≡ empty) ⊎ (all_below groups.q reads ≡ false) ⊎ (all_below groups.q writes ≡ false) ⊎ (is_part first (union reads writes) ≡ false)
+StopsNested groups reads writes first NoMemory = MayNest groups reads writes first
+StopsNested groups reads writes first Undeclared = ⊥
+StopsNested groups reads writes first Untaken = ⊥
+StopsNested groups reads writes first NotHeld = ⊥
+StopsNested groups reads writes first Own = ⊥
+
+-- why a further part was not asked for: it is empty or no part of what the request is about; or memory ran out for such a part
+abbrev pub StopsAsk : RequestFields → Set → Stop → Type 0
+StopsAsk request part NotThere = is_part part (union request.reads request.writes) ≡ false
+StopsAsk request part NoMemory = is_part part (union request.reads request.writes) ≡ true
+StopsAsk request part Undeclared = ⊥
+StopsAsk request part Untaken = ⊥
+StopsAsk request part NotHeld = ⊥
+StopsAsk request part Own = ⊥
+
 -- Why a section with closures came to nothing: its request was not made for this cause, and the seat did nothing; or the section
 -- ended without acts, because its closure answered so, or because there was no memory for its acts
 abbrev pub CameToNothing : (Refuses Answers : Stop → Type 0) → (Stays EndsWithout : Type 0) → Stop → Type 0
@@ -44,7 +62,7 @@ CameToNothing Refuses Answers Stays EndsWithout stop = (Stays × Refuses stop) �
 
 -- why an edit that had to be taken was not made: the section does not write the resource; the value did not take it, and the
 -- section has the act; or memory ran out
-abbrev pub StopsEdit : {V E : Type 0} → (Writes Refuses : Type 0) → (work later : WorkFields V E) → (untaken : WorkFields V E) → Stop → Type 0
+abbrev pub StopsEdit : {W : Type 0} → (Writes Refuses : Type 0) → (work later untaken : W) → Stop → Type 0
 StopsEdit Writes Refuses work later untaken NotHeld = (Writes → ⊥) × (later ≡ work)
 StopsEdit Writes Refuses work later untaken Untaken = Writes × Refuses × (later ≡ untaken)
 StopsEdit Writes Refuses work later untaken NoMemory = Writes × (later ≡ work)

@@ -1,5 +1,5 @@
 -- What contracts see of a section that reads first, and may rise to write what it has read.
-use Rattle.std.specs.Prelude.{◌≡◌, ◌⊎◌, Result, Ok, Err, Option, Some, List, [], ◌∷◌}
+use Rattle.std.specs.Prelude.{◌≡◌, Result, Ok, Err, Option, Some, None, List, [], ◌∷◌}
 use Rattle.std.specs.FinSet.{empty}
 use Rattle.std.specs.Fn.{Once}
 use denote.Ref.{MutBor}
@@ -9,8 +9,11 @@ use Rattle.rclaim.specs.declared.request.Kind.TheVariants.{Upgrade}
 use Rattle.rclaim.specs.declared.event.Event.TheVariants.{Issue, Rise, Finish}
 use Rattle.rvalue.specs.declared.act.Act.{Act}
 use Rattle.rguard.specs.Seats.{SeatOf, Goes, bare}
-use Rattle.rnlp_lock.specs.Seats.{SeatFields, who_of}
-use Rattle.rnlp_lock.specs.Works.{WorkFields, Began}
+use Rattle.rnlp_lock.specs.Seats.{SeatFields, Stayed, who_of}
+use Rattle.rnlp_lock.specs.Asking.{MayAsk}
+use Rattle.rnlp_lock.specs.Causes.{CameToNothing, StopsRead}
+use Rattle.rnlp_lock.specs.Works.{WorkFields, Began, Made}
+use Rattle.rnlp_lock.specs.declared.stop.Stop.{Stop}
 
 -- ---- closures of two arguments
 
@@ -60,3 +63,21 @@ module _ {V E : Type 0} where
     pub stays : last.place ≡ risen.place
     pub did : Did first risen last
     pub made : MadeRisen request last.acts seat.pass later.pass
+
+  -- what came of asking for an upgrade: a section has begun, or the seat came back for this cause
+  abbrev pub UpgradeBegins : {W S : Type 0} (rising : W → WorkFields V E) (own : S → SeatFields V E) (set : Set) (seat : SeatFields V E) → Result W (S × Stop) → Type 0
+  UpgradeBegins rising own set seat (Ok work) = Began (upgrade_of set) seat (rising work) × MayAsk seat.lock.groups (upgrade_of set)
+  UpgradeBegins rising own set seat (Err e) = Stayed seat (own e.0) × StopsRead seat.lock.groups set (upgrade_of set) e.1
+
+  -- What an upgrade came to, of which the first closure Looks and the second one Thens. Where the first answered None the seat made a section
+  -- that read; where it answered something, a section that rose and has the acts of the second. Otherwise it came to nothing for this cause
+  abbrev pub UpgradeEnds : {W N A B : Type 0} (rising : W → WorkFields V E) (writing : N → WorkFields V E) (Looks : W → Option B → Type 0) (Thens : N → B → Result A Stop → N → Type 0) (Refuses : Stop → Type 0)
+      (request : RequestFields) (seat later : SeatFields V E) → Result (Option A) Stop → Type 0
+  UpgradeEnds {W} {N} {A} {B} rising writing Looks Thens Refuses request seat later (Ok None) =
+      MayAsk seat.lock.groups request × Made request (λ first last. (work : W) × (first ≡ rising work) × Looks work None) seat later
+  UpgradeEnds {W} {N} {A} {B} rising writing Looks Thens Refuses request seat later (Ok (Some answer)) =
+      MayAsk seat.lock.groups request
+      × MadeUpgrade request (λ first risen last. (work : W) × (seen : B) × (begun : N) × (ended : N) × (first ≡ rising work) × (risen ≡ writing begun) × (last ≡ writing ended) × Looks work (Some seen) × Thens begun seen (Ok answer) ended) seat later
+  UpgradeEnds {W} {N} {A} {B} rising writing Looks Thens Refuses request seat later (Err stop) =
+      CameToNothing Refuses (λ (s : Stop). (work : W) × (seen : B) × (begun : N) × (ended : N) × Began request seat (rising work) × Looks work (Some seen) × Thens begun seen (Err s) ended)
+      (Goes seat.pass [] later.pass) (MadeRisen request [] seat.pass later.pass) stop

@@ -7,6 +7,7 @@
 mod asking;
 mod law;
 mod lock;
+mod nests;
 mod rises;
 mod seat;
 mod sits;
@@ -15,6 +16,7 @@ mod work;
 
 pub use law::Law;
 pub use lock::{Left, Lock, LockErr, LockOver, Opened, Pass};
+pub use nests::{Nesting, Nests};
 pub use rclaim::Event;
 pub use rises::Rises;
 pub use rset::{RESOURCES, ResourceSet, SEATS};

@@ -1,14 +1,12 @@
 //! Sections that read first and may rise to write.
-ghost use Rattle.std.specs.Prelude.{◌≡◌, ◌⊎◌, [], IfOk, IfErr, OnErr, Ok, Err, Result, Some, None};
-ghost use Rattle.std.specs.Option.{MatchOption};
+ghost use Rattle.std.specs.Prelude.{◌≡◌, ◌⊎◌, [], IfOk, IfErr, OnErr, Ok, Err, Result, Some, List};
 ghost use Rattle.std.specs.Fn.{FnOnceTakesAt, FnOnceReturnsAt};
 ghost use Rattle.rset.specs.Sets.{Set};
-ghost use Rattle.rguard.specs.Seats.{Goes};
-ghost use Rattle.rnlp_lock.specs.Asking.{MayAsk};
-ghost use Rattle.rnlp_lock.specs.Causes.{CameToNothing, StopsRead};
-ghost use Rattle.rnlp_lock.specs.Seats.{SeatFields, Stayed, who, who_of};
-ghost use Rattle.rnlp_lock.specs.Upgrades.{FnOnceTakesWith, FnOnceReturnsWith, Rose, MadeUpgrade, MadeRisen, as_risen, upgrade_of};
-ghost use Rattle.rnlp_lock.specs.Works.{WorkFields, Began, Ended, Made};
+ghost use Rattle.rvalue.specs.declared.act.Act.{Act};
+ghost use Rattle.rnlp_lock.specs.Causes.{StopsRead};
+ghost use Rattle.rnlp_lock.specs.Seats.{SeatFields, who, who_of};
+ghost use Rattle.rnlp_lock.specs.Upgrades.{FnOnceTakesWith, FnOnceReturnsWith, Rose, UpgradeBegins, UpgradeEnds, as_risen, upgrade_of};
+ghost use Rattle.rnlp_lock.specs.Works.{WorkFields, Began, Ended};
 ghost use Rattle.rnlp_lock.specs.declared.stop.Stop.{Stop};
 
 use crate::asking::to_upgrade;
@@ -25,12 +23,32 @@ use rstate::State;
 use std::sync::Wait;
 
 /// A seat that also makes sections which read first, and rise to write if what they have read asks for it.
-pub trait Rises: Sits {
+///
+/// It has no supertrait [`Sits`](crate::Sits): a call at a program's own value type would then reach a limit of the prover.
+pub trait Rises: Sized {
+    /// The value of a resource.
+    type Value;
+
+    /// A change of it.
+    type Edit;
+
     /// A section under way that reads and may rise.
     type Rising;
 
+    /// One that has risen, and writes.
+    type Writing;
+
+    /// The seat, as contracts see it.
+    ghost seat: { Self → SeatFields Self.Value Self.Edit };
+
+    /// What the law allows a section to do.
+    ghost allows: { List (Act Self.Edit) → Type 0 };
+
     /// Such a section, as contracts see it.
     ghost rising: { Self.Rising → WorkFields Self.Value Self.Edit };
+
+    /// One that has risen, as contracts see it.
+    ghost writing: { Self.Writing → WorkFields Self.Value Self.Edit };
 
     /// Asks to read these and perhaps to write them later, and waits until it may read.
     ///
@@ -38,10 +56,7 @@ pub trait Rises: Sits {
     ///
     /// The set is empty or has members that the lock has not; it is not declared; or out of memory. The seat comes back then.
     fn begin_upgrade<R: Wait>(self, rt: &R, set: ResourceSet) -> Result<Self::Rising, (Self, Stop)>
-        ensures ok { IfOk result (λ work. Began (upgrade_of set) (Self.seat self) (Self.rising work)) }
-        ensures may { IfOk result (λ work. MayAsk (Self.seat self).lock.groups (upgrade_of set)) }
-        ensures err { IfErr result (λ e. Stayed (Self.seat self) (Self.seat e.0)) }
-        ensures cause { IfErr result (λ e. StopsRead (Self.seat self).lock.groups set (upgrade_of set) e.1) };
+        ensures { UpgradeBegins Self.rising Self.seat set (Self.seat self) result };
 
     /// Ends a section that has done nothing but read, and has not risen.
     fn end_upgrade<R: Wait>(rt: &R, work: Self::Rising) -> Self
@@ -52,6 +67,20 @@ pub trait Rises: Sits {
     fn rise<R: Wait>(rt: &R, work: Self::Rising) -> Self::Writing
         requires { (set : Set) × (own : SeatFields Self.Value Self.Edit) × Began (upgrade_of set) own (Self.rising work) }
         ensures { Rose (Self.rising work) (Self.writing result) };
+
+    /// Ends a section that has risen: its acts are recorded.
+    ///
+    /// # Errors
+    ///
+    /// Out of memory. The section is then as it was.
+    fn end_risen<R: Wait>(rt: &R, work: Self::Writing) -> Result<Self, Self::Writing>
+        requires { Self.allows (Self.writing work).acts }
+        ensures ok { IfOk result (λ later. Ended (Self.writing work).acts (Self.writing work) (Self.seat later)) }
+        ensures err { IfErr result (λ same. Self.writing same ≡ Self.writing work) };
+
+    /// Ends a section that has risen without its acts: each value is as it was.
+    fn discard_risen<R: Wait>(rt: &R, work: Self::Writing) -> Self
+        ensures { Ended [] (Self.writing work) (Self.seat result) };
 
     /// Ends a section that has risen, by what its closure answered: with its acts, or without.
     final fn conclude_risen<R: Wait, A: Drop>(
@@ -65,9 +94,12 @@ pub trait Rises: Sits {
         ensures err { OnErr result.1 (Ended [] (Self.writing work) (Self.seat result.0)) }
         ensures cause { IfErr result.1 (λ stop. (stop ≡ Stop.NoMemory) ⊎ (outcome ≡ Err stop)) }
     {
-        match Self::conclude(rt, work, outcome) {
-            (seat, Ok(answer)) => (seat, Ok(Some(answer))),
-            (seat, Err(stop)) => (seat, Err(stop)),
+        match outcome {
+            Ok(answer) => match Self::end_risen(rt, work) {
+                Ok(seat) => (seat, Ok(Some(answer))),
+                Err(work) => (Self::discard_risen(rt, work), Err(Stop::NoMemory)),
+            },
+            Err(stop) => (Self::discard_risen(rt, work), Err(stop)),
         }
     }
 
@@ -84,11 +116,7 @@ pub trait Rises: Sits {
         requires stays { (risen : Self.Writing) (seen : B) (answer : Result A Stop) (later : Self.Writing) → FnOnceReturnsWith F.FnOnce then risen seen answer later → (Self.writing later).place ≡ (Self.writing risen).place }
         requires allowed { (work : Self.Rising) (seen : B) (risen : Self.Writing) (answer : A) (later : Self.Writing) → Began (upgrade_of set) (Self.seat self) (Self.rising work) → FnOnceReturnsAt L.FnOnce look work (Some seen) → Rose (Self.rising work) (Self.writing risen) → FnOnceReturnsWith F.FnOnce then risen seen (Ok answer) later → Self.allows (Self.writing later).acts }
         ensures who { who (Self.seat result.0) ≡ who (Self.seat self) }
-        ensures ok { IfOk result.1 (λ outcome. MatchOption outcome
-            (Made (upgrade_of set) (λ first last. (work : Self.Rising) × (first ≡ Self.rising work) × FnOnceReturnsAt L.FnOnce look work None) (Self.seat self) (Self.seat result.0))
-            (λ answer. MadeUpgrade (upgrade_of set) (λ first risen last. (work : Self.Rising) × (seen : B) × (began : Self.Writing) × (later : Self.Writing) × (first ≡ Self.rising work) × (risen ≡ Self.writing began) × (last ≡ Self.writing later) × FnOnceReturnsAt L.FnOnce look work (Some seen) × FnOnceReturnsWith F.FnOnce then began seen (Ok answer) later) (Self.seat self) (Self.seat result.0))) }
-        ensures may { IfOk result.1 (λ outcome. MayAsk (Self.seat self).lock.groups (upgrade_of set)) }
-        ensures err { IfErr result.1 (CameToNothing (StopsRead (Self.seat self).lock.groups set (upgrade_of set)) (λ stop. (work : Self.Rising) × (seen : B) × (began : Self.Writing) × (later : Self.Writing) × Began (upgrade_of set) (Self.seat self) (Self.rising work) × FnOnceReturnsAt L.FnOnce look work (Some seen) × FnOnceReturnsWith F.FnOnce then began seen (Err stop) later) (Goes (Self.seat self).pass [] (Self.seat result.0).pass) (MadeRisen (upgrade_of set) [] (Self.seat self).pass (Self.seat result.0).pass)) }
+        ensures ends { UpgradeEnds Self.rising Self.writing (λ work seen. FnOnceReturnsAt L.FnOnce look work seen) (λ begun seen answer later. FnOnceReturnsWith F.FnOnce then begun seen answer later) (StopsRead (Self.seat self).lock.groups set (upgrade_of set)) (upgrade_of set) (Self.seat self) (Self.seat result.0) result.1 }
     {
         match self.begin_upgrade(rt, set) {
             Ok(work) => match look(&work) {
@@ -121,11 +149,7 @@ pub trait Rises: Sits {
         requires stays { (risen : Self.Writing) (seen : B) (answer : Result A Stop) (later : Self.Writing) → FnOnceReturnsWith F.FnOnce then risen seen answer later → (Self.writing later).place ≡ (Self.writing risen).place }
         requires allowed { (work : Self.Rising) (seen : B) (risen : Self.Writing) (answer : A) (later : Self.Writing) → Began (upgrade_of set) (Self.seat self.old) (Self.rising work) → FnOnceReturnsAt L.FnOnce look work (Some seen) → Rose (Self.rising work) (Self.writing risen) → FnOnceReturnsWith F.FnOnce then risen seen (Ok answer) later → Self.allows (Self.writing later).acts }
         ensures who { who (Self.seat self.new) ≡ who (Self.seat self.old) }
-        ensures ok { IfOk result (λ outcome. MatchOption outcome
-            (Made (upgrade_of set) (λ first last. (work : Self.Rising) × (first ≡ Self.rising work) × FnOnceReturnsAt L.FnOnce look work None) (Self.seat self.old) (Self.seat self.new))
-            (λ answer. MadeUpgrade (upgrade_of set) (λ first risen last. (work : Self.Rising) × (seen : B) × (began : Self.Writing) × (later : Self.Writing) × (first ≡ Self.rising work) × (risen ≡ Self.writing began) × (last ≡ Self.writing later) × FnOnceReturnsAt L.FnOnce look work (Some seen) × FnOnceReturnsWith F.FnOnce then began seen (Ok answer) later) (Self.seat self.old) (Self.seat self.new))) }
-        ensures may { IfOk result (λ outcome. MayAsk (Self.seat self.old).lock.groups (upgrade_of set)) }
-        ensures err { IfErr result (CameToNothing (StopsRead (Self.seat self.old).lock.groups set (upgrade_of set)) (λ stop. (work : Self.Rising) × (seen : B) × (began : Self.Writing) × (later : Self.Writing) × Began (upgrade_of set) (Self.seat self.old) (Self.rising work) × FnOnceReturnsAt L.FnOnce look work (Some seen) × FnOnceReturnsWith F.FnOnce then began seen (Err stop) later) (Goes (Self.seat self.old).pass [] (Self.seat self.new).pass) (MadeRisen (upgrade_of set) [] (Self.seat self.old).pass (Self.seat self.new).pass)) }
+        ensures ends { UpgradeEnds Self.rising Self.writing (λ work seen. FnOnceReturnsAt L.FnOnce look work seen) (λ begun seen answer later. FnOnceReturnsWith F.FnOnce then begun seen answer later) (StopsRead (Self.seat self.old).lock.groups set (upgrade_of set)) (upgrade_of set) (Self.seat self.old) (Self.seat self.new) result }
     {
         mem::replace_with(
             self,
@@ -136,11 +160,7 @@ pub trait Rises: Sits {
                     × ((risen : Self.Writing) (seen : B) (answer : Result A Stop) (later : Self.Writing) → FnOnceReturnsWith F.FnOnce halves.1 risen seen answer later → (Self.writing later).place ≡ (Self.writing risen).place)
                     × ((work : Self.Rising) (seen : B) (risen : Self.Writing) (answer : A) (later : Self.Writing) → Began (upgrade_of set) (Self.seat own) (Self.rising work) → FnOnceReturnsAt L.FnOnce halves.0 work (Some seen) → Rose (Self.rising work) (Self.writing risen) → FnOnceReturnsWith F.FnOnce halves.1 risen seen (Ok answer) later → Self.allows (Self.writing later).acts) }
                 ensures who { who (Self.seat result.0) ≡ who (Self.seat own) }
-                ensures ok { IfOk result.1 (λ outcome. MatchOption outcome
-                    (Made (upgrade_of set) (λ first last. (work : Self.Rising) × (first ≡ Self.rising work) × FnOnceReturnsAt L.FnOnce halves.0 work None) (Self.seat own) (Self.seat result.0))
-                    (λ answer. MadeUpgrade (upgrade_of set) (λ first risen last. (work : Self.Rising) × (seen : B) × (began : Self.Writing) × (later : Self.Writing) × (first ≡ Self.rising work) × (risen ≡ Self.writing began) × (last ≡ Self.writing later) × FnOnceReturnsAt L.FnOnce halves.0 work (Some seen) × FnOnceReturnsWith F.FnOnce halves.1 began seen (Ok answer) later) (Self.seat own) (Self.seat result.0))) }
-                ensures may { IfOk result.1 (λ outcome. MayAsk (Self.seat own).lock.groups (upgrade_of set)) }
-                ensures err { IfErr result.1 (CameToNothing (StopsRead (Self.seat own).lock.groups set (upgrade_of set)) (λ stop. (work : Self.Rising) × (seen : B) × (began : Self.Writing) × (later : Self.Writing) × Began (upgrade_of set) (Self.seat own) (Self.rising work) × FnOnceReturnsAt L.FnOnce halves.0 work (Some seen) × FnOnceReturnsWith F.FnOnce halves.1 began seen (Err stop) later) (Goes (Self.seat own).pass [] (Self.seat result.0).pass) (MadeRisen (upgrade_of set) [] (Self.seat own).pass (Self.seat result.0).pass)) }
+                ensures ends { UpgradeEnds Self.rising Self.writing (λ work seen. FnOnceReturnsAt L.FnOnce halves.0 work seen) (λ begun seen answer later. FnOnceReturnsWith F.FnOnce halves.1 begun seen answer later) (StopsRead (Self.seat own).lock.groups set (upgrade_of set)) (upgrade_of set) (Self.seat own) (Self.seat result.0) result.1 }
             {
                 let (look, then) = halves;
                 own.through_upgrade(rt, set, look, then)
@@ -152,9 +172,21 @@ pub trait Rises: Sits {
 impl<'l, T: Law> Rises for SeatOver<'l, State<T, Plain>, T> {
     ghost use Rattle.rnlp_lock.specs.Works.{WorkFields};
 
+    type Value = T;
+
+    type Edit = T::Edit;
+
     type Rising = Rising<'l, T>;
 
+    type Writing = Writing<'l, T>;
+
+    ghost seat = { λ seat. seat };
+
+    ghost allows = { T.allows };
+
     ghost rising = { λ work. work };
+
+    ghost writing = { λ work. work };
 
     fn begin_upgrade<R: Wait>(
         self,
@@ -210,5 +242,13 @@ impl<'l, T: Law> Rises for SeatOver<'l, State<T, Plain>, T> {
             writes: reads,
             alloc,
         }
+    }
+
+    fn end_risen<R: Wait>(rt: &R, work: Writing<'l, T>) -> Result<Self, Writing<'l, T>> {
+        <Self as Sits>::end_write(rt, work)
+    }
+
+    fn discard_risen<R: Wait>(rt: &R, work: Writing<'l, T>) -> Self {
+        <Self as Sits>::discard_write(rt, work)
     }
 }
